@@ -1,0 +1,29 @@
+-- Tests: what a true conjunction or disjunction tells, and a choice by a test. Assumes nothing.
+use mathlib.Core.Bool.{Bool, true, false, cond, _&&_, _||_, false≢true}
+use mathlib.Core.Path.{_≡_, refl, sym}
+use mathlib.Core.Logic.{_⊎_, inl, inr}
+use Prim.Native.Nat.{ℕ}
+
+pub both-true : (p q : Bool) → (p && q) ≡ true → (p ≡ true) × (q ≡ true)
+both-true true q e = (refl, e)
+both-true false q e = absurd (false≢true e)
+
+pub true-both : {p q : Bool} → p ≡ true → q ≡ true → (p && q) ≡ true
+true-both e d = rw (e, d)
+
+pub not-both : (p q : Bool) → q ≡ false → (p && q) ≡ false
+not-both true q e = e
+not-both false q e = refl
+
+pub one-true : (p q : Bool) → (p || q) ≡ true → (p ≡ true) ⊎ (q ≡ true)
+one-true true q e = inl refl
+one-true false q e = inr e
+
+pub same-test : (p q : Bool) → (p ≡ true → q ≡ true) → (q ≡ true → p ≡ true) → p ≡ q
+same-test true q f g = sym (f refl)
+same-test false true f g = g refl
+same-test false false f g = refl
+
+pub cond-by : (b : Bool) {x y z : ℕ} → (b ≡ true → z ≡ x) → (b ≡ false → z ≡ y) → z ≡ cond b x y
+cond-by true yes′ no′ = yes′ refl
+cond-by false yes′ no′ = no′ refl

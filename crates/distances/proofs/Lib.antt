@@ -1,0 +1,10 @@
+pub mod Booleans
+pub mod Count
+pub mod Relaxed
+pub mod Joined
+pub mod Paths
+pub mod Laws
+pub mod Known
+pub mod Tables
+pub mod Steps
+pub mod Ranges

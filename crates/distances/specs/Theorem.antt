@@ -1,0 +1,21 @@
+-- What is proved of the computation of distances: it gives document 01's distance, and no other number is one. Assumes nothing.
+use Prim.Native.Nat.{ℕ, _<_}
+use mathlib.Core.Path.{_≡_}
+use Rattle.distances.specs.View.{Graph, Costs, InRange, CostsInRange}
+use Rattle.distances.specs.Meaning.{IsDistance}
+use Rattle.distances.specs.Distance.{dist}
+
+-- of any two bridges, `dist` is the distance
+abbrev pub DistIsDistance : Type 0
+DistIsDistance =
+    (g : Graph) (c : Costs) →
+    InRange g →
+    CostsInRange g c →
+    (i j : ℕ) →
+    i < g .bridges →
+    j < g .bridges →
+    IsDistance g c i j (dist g c i j)
+
+-- two distances of one bridge to another are equal
+abbrev pub NothingElseIs : Type 0
+NothingElseIs = (g : Graph) (c : Costs) (i j x y : ℕ) → IsDistance g c i j x → IsDistance g c i j y → x ≡ y

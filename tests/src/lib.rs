@@ -1,0 +1,6 @@
+//! Tests of the compiled bench from Rust. Nothing here is proved, and nothing here is used by the proved crates.
+
+pub mod call;
+pub mod dijkstra;
+pub mod random;
+pub mod view;

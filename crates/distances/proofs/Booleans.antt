@@ -1,8 +1,10 @@
--- Tests: what a true conjunction or disjunction tells, and a choice by a test. Assumes nothing.
-use mathlib.Core.Bool.{Bool, true, false, cond, _&&_, _||_, false≢true}
+-- Tests: what a conjunction, a disjunction or a negated test tells, and a choice by a test. Assumes nothing.
+use mathlib.Core.Bool.{Bool, true, false, cond, _&&_, _||_, not, false≢true}
 use mathlib.Core.Path.{_≡_, refl, sym}
 use mathlib.Core.Logic.{_⊎_, inl, inr}
-use Prim.Native.Nat.{ℕ}
+use Prim.Native.Nat.{ℕ, _<_}
+use lib.Dec.{eqb, ltb}
+use borrow.Author.Tests.{eqb-false, ltb-true, not-true, not-false}
 
 pub both-true : (p q : Bool) → (p && q) ≡ true → (p ≡ true) × (q ≡ true)
 both-true true q e = (refl, e)
@@ -18,6 +20,29 @@ not-both false q e = refl
 pub one-true : (p q : Bool) → (p || q) ≡ true → (p ≡ true) ⊎ (q ≡ true)
 one-true true q e = inl refl
 one-true false q e = inr e
+
+-- the second where the first fails
+pub otherwise : (p q : Bool) → (p || q) ≡ true → p ≡ false → q ≡ true
+otherwise true q e f = absurd (false≢true (sym f))
+otherwise false q e f = e
+
+-- the first fails where the second holds and not both do
+pub other-false : (p q : Bool) → not (p && q) ≡ true → q ≡ true → p ≡ false
+other-false true q e f = absurd (false≢true (rw f at e))
+other-false false q e f = refl
+
+-- a test that is due only where two others hold
+pub due : (p q t : Bool) → (p ≡ true → q ≡ true → t ≡ true) → (not (p && q) || t) ≡ true
+due true true t f = f refl refl
+due true false t f = refl
+due false q t f = refl
+
+-- negated tests on numbers
+pub unequal : (a b : ℕ) → not (eqb a b) ≡ true → a ≡ b → ⊥
+unequal a b e = eqb-false a b (not-true (eqb a b) e)
+
+pub below : (i n : ℕ) → not (ltb i n) ≡ false → i < n
+below i n e = ltb-true i n (not-false (ltb i n) e)
 
 pub same-test : (p q : Bool) → (p ≡ true → q ≡ true) → (q ≡ true → p ≡ true) → p ≡ q
 same-test true q f g = sym (f refl)

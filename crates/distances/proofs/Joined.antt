@@ -7,11 +7,20 @@ use native.Mathlib.Nat.{le-refl, le-of-suc-le-suc, not-suc-le-zero, eq-or-lt-of-
 use native.Mathlib.Decide.{decLe}
 use native.Mathlib.Omega.{arith}
 use lib.Dec.{eqb}
-use borrow.Author.Tests.{eqb-true, eqb-false, eq-eqb, ne-eqb, not-true}
+use borrow.Author.Tests.{eqb-true, eqb-false, eq-eqb, ne-eqb}
 use Rattle.distances.specs.View.{Graph, Costs, NONE}
 use Rattle.distances.specs.Meaning.{Joins}
 use Rattle.distances.specs.Distance.{present, joins, crossing, unjoined, joinedBelow}
-use Rattle.distances.proofs.Booleans.{both-true, one-true}
+use Rattle.distances.proofs.Booleans.{both-true, one-true, unequal}
+
+-- a link is present where its cost is not 0, and only there
+pub present-cost : (c : Costs) (l : ℕ) → present c l ≡ true → c l ≡ 0 → ⊥
+unfolding present
+present-cost c l = unequal (c l) 0
+
+pub cost-present : (c : Costs) (l : ℕ) → (c l ≡ 0 → ⊥) → present c l ≡ true
+unfolding present
+cost-present c l h = rw (ne-eqb (c l) 0 h)
 
 -- by no link
 pub unjoined-self : (i : ℕ) → unjoined i i ≡ 0
@@ -65,19 +74,19 @@ module _ (g : Graph) (c : Costs) where
       go (inr t) = let t = both-true _ _ t in inr (eqb-true a j (t .0), eqb-true b i (t .1))
 
   pub crossing-le : {l i j : ℕ} → Joins g c l i j → crossing g c l i j ≤ c l
-  unfolding crossing present joins
+  unfolding crossing joins
   crossing-le {l} {i} {j} h = go (h .joined)
     where
       go : AreEnds g l i j → crossing g c l i j ≤ c l
-      go (inl e) = rw (ne-eqb (c l) 0 (h .present), eq-eqb _ _ (e .0), eq-eqb _ _ (e .1)) (le-refl _)
-      go (inr e) = rw (ne-eqb (c l) 0 (h .present), eq-eqb _ _ (e .0), eq-eqb _ _ (e .1), or-true) (le-refl _)
+      go (inl e) = rw (cost-present c l (h .present), eq-eqb _ _ (e .0), eq-eqb _ _ (e .1)) (le-refl _)
+      go (inr e) = rw (cost-present c l (h .present), eq-eqb _ _ (e .0), eq-eqb _ _ (e .1), or-true) (le-refl _)
 
   pub crossing-told : (l i j : ℕ) → l < g .links → (crossing g c l i j ≡ NONE → ⊥) → Joins g c l i j × (crossing g c l i j ≡ c l)
-  unfolding crossing present
+  unfolding crossing
   crossing-told l i j listed n = go (present c l && joins g l i j) refl n
     where
       found : (present c l ≡ true) × (joins g l i j ≡ true) → Joins g c l i j
-      found t = record { listed = listed; present = eqb-false (c l) 0 (not-true _ (t .0)); joined = joins-told l i j (t .1) }
+      found t = record { listed = listed; present = present-cost c l (t .0); joined = joins-told l i j (t .1) }
 
       go : (b : Bool) → (present c l && joins g l i j) ≡ b → (cond b (c l) NONE ≡ NONE → ⊥) → Joins g c l i j × (cond b (c l) NONE ≡ c l)
       go true e n = (found (both-true _ _ e), refl)

@@ -42,7 +42,7 @@ use Rattle.distances.proofs.Tables.{
 abbrev pub pairsBelow : ℕ → ℕ → ℕ → Bool
 pairsBelow n p q = isPair n q && ltb q p
 
-ltb-more : (p q : ℕ) → (q ≡ p → ⊥) → ltb q p ≡ ltb q (p + 1)
+pub ltb-more : (p q : ℕ) → (q ≡ p → ⊥) → ltb q p ≡ ltb q (p + 1)
 ltb-more p q h =
     same-test (ltb q p) (ltb q (p + 1)) (λ e. lt-ltb q (p + 1) (omega (arith, ltb-true q p e))) (λ e. lt-ltb q p (omega (arith, ltb-true q (p + 1) e)))
 

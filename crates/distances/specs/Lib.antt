@@ -2,6 +2,7 @@ pub mod View
 pub mod Meaning
 pub mod Distance
 pub mod Table
+pub mod Refusal
 pub mod Call
 pub mod Theorem
 pub mod Examples

@@ -1,0 +1,82 @@
+-- Laws of the least number below n that passes a test. Assumes nothing.
+use Prim.Native.Nat.{ℕ, zero, suc, _≤_, _<_}
+use native.Mathlib.Omega.{arith}
+use mathlib.Core.Bool.{Bool, true, false, cond}
+use mathlib.Core.Path.{_≡_, refl}
+use borrow.Author.Tests.{ltb-true, ltb-false, lt-ltb, le-ltb, eqb-true, eqb-false}
+use lib.Dec.{eqb, ltb}
+use Rattle.agreement.specs.Tests.{firstBelow}
+
+module _ (test : ℕ → Bool) where
+  pub first-le : (n : ℕ) → firstBelow n test ≤ n
+  unfolding firstBelow
+  first-le zero = omega arith
+  first-le (suc n) = go (ltb (firstBelow n test) n) (test n) (first-le n)
+    where
+      go : (b t : Bool) → firstBelow n test ≤ n → cond b (firstBelow n test) (cond t n (suc n)) ≤ suc n
+      go true t h = omega arith
+      go false true h = omega arith
+      go false false h = omega arith
+
+  -- nothing passes
+  pub first-none : (n : ℕ) → ((k : ℕ) → k < n → test k ≡ false) → firstBelow n test ≡ n
+  unfolding firstBelow
+  first-none zero h = refl
+  first-none (suc n) h = rw (first-none n (λ k b. h k (omega arith)), le-ltb n n (omega arith), h n (omega arith))
+
+  -- k passes and nothing below k does
+  pub first-is : (n k : ℕ) → k < n → test k ≡ true → ((j : ℕ) → j < k → test j ≡ false) → firstBelow n test ≡ k
+  unfolding firstBelow
+  first-is zero k h t none = absurd (omega arith)
+  first-is (suc n) k h t none = go (eqb k n) refl (first-is n k)
+    where
+      go : (b : Bool) → eqb k n ≡ b → (k < n → test k ≡ true → ((j : ℕ) → j < k → test j ≡ false) → firstBelow n test ≡ k) →
+          cond (ltb (firstBelow n test) n) (firstBelow n test) (cond (test n) n (suc n)) ≡ k
+      go true e below =
+          let d : n ≡ k = omega (arith, eqb-true k n e) in
+          rw (d, first-none k none, le-ltb k k (omega arith), t)
+      go false e below =
+          let b : k < n = omega (arith, eqb-false k n e) in
+          rw (below b t none, lt-ltb k n b)
+
+  -- what is found passes
+  pub first-passes : (n : ℕ) → firstBelow n test < n → test (firstBelow n test) ≡ true
+  unfolding firstBelow
+  first-passes zero h = absurd (omega arith)
+  first-passes (suc n) h = go (ltb (firstBelow n test) n) (test n) refl refl (first-passes n) h
+    where
+      go : (b t : Bool) → ltb (firstBelow n test) n ≡ b → test n ≡ t → (firstBelow n test < n → test (firstBelow n test) ≡ true) →
+          cond b (firstBelow n test) (cond t n (suc n)) < suc n → test (cond b (firstBelow n test) (cond t n (suc n))) ≡ true
+      go true t e d below h = below (ltb-true (firstBelow n test) n e)
+      go false true e d below h = d
+      go false false e d below h = absurd (omega arith)
+
+  -- where k passes, something is found, at most k
+  pub first-at-most : (n k : ℕ) → k < n → test k ≡ true → firstBelow n test ≤ k
+  unfolding firstBelow
+  first-at-most zero k h t = absurd (omega arith)
+  first-at-most (suc n) k h t = go (ltb (firstBelow n test) n) (eqb k n) refl refl (first-at-most n k)
+    where
+      go : (b d : Bool) → ltb (firstBelow n test) n ≡ b → eqb k n ≡ d → (k < n → test k ≡ true → firstBelow n test ≤ k) →
+          cond b (firstBelow n test) (cond (test n) n (suc n)) ≤ k
+      go true true e d below = omega (arith, ltb-true (firstBelow n test) n e, eqb-true k n d)
+      go true false e d below = below (omega (arith, eqb-false k n d)) t
+      go false true e d below =
+          let z : n ≡ k = omega (arith, eqb-true k n d) in
+          rw (z, t) (omega arith)
+      go false false e d below =
+          let b : k < n = omega (arith, eqb-false k n d) in
+          absurd (omega (arith, ltb-false (firstBelow n test) n e, below b t))
+
+  -- nothing below it passes
+  pub first-lowest : (n j : ℕ) → j < firstBelow n test → test j ≡ false
+  first-lowest n j h = go (test j) refl
+    where
+      go : (b : Bool) → test j ≡ b → b ≡ false
+      go true e = absurd (omega (arith, first-le n, first-at-most n j (omega (arith, first-le n)) e))
+      go false e = refl
+
+pub first-cong : (n : ℕ) (test other : ℕ → Bool) → ((k : ℕ) → k < n → test k ≡ other k) → firstBelow n test ≡ firstBelow n other
+unfolding firstBelow
+first-cong zero test other h = refl
+first-cong (suc n) test other h = rw (first-cong n test other (λ k b. h k (omega arith)), h n (omega arith))

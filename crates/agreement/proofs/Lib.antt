@@ -1,0 +1,12 @@
+pub mod Basics
+pub mod Firsts
+pub mod Ends
+pub mod Entry
+pub mod Limits
+pub mod Offers
+pub mod PortSteps
+pub mod Forwards
+pub mod PortCong
+pub mod Direction
+pub mod Directions
+pub mod Told

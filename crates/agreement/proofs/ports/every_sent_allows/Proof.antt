@@ -1,0 +1,82 @@
+-- `ports::every_sent_allows` meets its contract. The loop's invariant: `ok` says whether every end below `e` passes. Assumes nothing.
+use Prim.Native.Nat.{_≤_, _-_, _*_}
+use native.Mathlib.Omega.{arith}
+use mathlib.Core.Path.{_≡_, refl}
+use borrow.Author.Needs.{needs}
+use Rattle.distances.specs.Table.{cell}
+use Rattle.distances.specs.Call.{allBelow}
+use Rattle.agreement.specs.Steps.{sentAllowsAt}
+use Rattle.agreement.proofs.Basics.{all-more}
+use Rattle.agreement.proofs.ports.every_sent_allows.Statement.{statement}
+use Rattle.agreement.proofs.ports.every_sent_allows.Tie as tie
+
+abbrev Inv-loop : tie.InvT-loop
+Inv-loop links ends sent bridge dest own cut ok₀ e₀ ok e = (e ≤ 2 * links) × (ok ≡ allBelow e (sentAllowsAt ends cut sent bridge dest own))
+
+abbrev μ-loop : tie.MeasureT-loop
+μ-loop links ends sent bridge dest own cut ok₀ e₀ ok e = 2 * links - e
+
+loop-holds : tie.Need-loop-holds Inv-loop μ-loop
+unfolding allBelow
+loop-holds c = (omega arith, refl)
+
+mul-loop : tie.Need-mul-loop Inv-loop μ-loop
+mul-loop c = omega arith
+
+shared-slice-read-allows-by : tie.Need-shared-slice-read-allows-by Inv-loop μ-loop
+shared-slice-read-allows-by c = omega arith
+
+array-read-allows-by : tie.Need-array-read-allows-by Inv-loop μ-loop
+array-read-allows-by c = omega arith
+
+mul-allows-by : tie.Need-mul-allows-by Inv-loop μ-loop
+mul-allows-by c = omega arith
+
+add-allows-by : tie.Need-add-allows-by Inv-loop μ-loop
+add-allows-by c = omega arith
+
+mul-allows-by-2 : tie.Need-mul-allows-by-2 Inv-loop μ-loop
+mul-allows-by-2 c = omega arith
+
+shared-slice-read-allows-by-2 : tie.Need-shared-slice-read-allows-by-2 Inv-loop μ-loop
+shared-slice-read-allows-by-2 c = omega arith
+
+allows-by-requires : tie.Need-allows-by-requires Inv-loop μ-loop
+allows-by-requires c κs = search needs
+
+both-requires : tie.Need-both-requires Inv-loop μ-loop
+both-requires c κs = search needs
+
+add-e : tie.Need-add-e Inv-loop μ-loop
+add-e c = omega arith
+
+loop-less : tie.Need-loop-less Inv-loop μ-loop
+loop-less c = omega arith
+
+loop-again : tie.Need-loop-again Inv-loop μ-loop
+unfolding sentAllowsAt cell
+loop-again c = (omega arith, all-more _ _ (c .both .ensures) (c .before .before .before .before .before .loop .inv .1) (c .before .allows-by .ensures))
+
+returns : tie.Need-returns Inv-loop μ-loop
+returns c = let e : c .before .loop .e ≡ 2 * c .before .before .before .before .args .links = omega arith in rw e at (c .before .loop .inv .1)
+
+pub every-sent-allows-spec : {M : Type 1} → statement M
+every-sent-allows-spec =
+    tie.close
+    (tie.spec
+    Inv-loop
+    μ-loop
+    loop-holds
+    mul-loop
+    shared-slice-read-allows-by
+    array-read-allows-by
+    mul-allows-by
+    add-allows-by
+    mul-allows-by-2
+    shared-slice-read-allows-by-2
+    allows-by-requires
+    both-requires
+    add-e
+    loop-less
+    loop-again
+    returns)

@@ -1,0 +1,142 @@
+-- What each public call does, for every input: its reply, the record, the lent tables. Assumes nothing.
+use Prim.Native.Nat.{ℕ, _*_, min}
+use mathlib.Core.Bool.{Bool, false, cond, _&&_}
+use mathlib.Core.List.{List, [], _∷_}
+use lib.ListN.{length, getD}
+use lib.Dec.{ltb}
+use Rattle.distances.specs.View.{Graph, NONE, graphOf, costsOf}
+use Rattle.distances.specs.Table.{cell}
+use Rattle.agreement.specs.Offer.{opposite, offer}
+use Rattle.agreement.specs.Record.{freshRecord, updated, sentUpdated, heldUpdated, carried, answer, recorded, sentDelivered, heldDelivered}
+use Rattle.agreement.specs.Limits.{withLimits}
+use Rattle.agreement.specs.Forwarding.{Records, port}
+use Rattle.agreement.specs.Ranges.{viewInRange, isView, recordInRange, endInRange, deliveryInRange, portInRange}
+use Rattle.agreement.specs.declared.EndRecord.{EndRecord}
+use Rattle.agreement.specs.declared.Agreement.{Agreement}
+use Rattle.agreement.specs.declared.Answer.{Answer}
+use Rattle.agreement.specs.declared.Port.{Port}
+use Rattle.agreement.specs.declared.Reply.{Reply}
+use Rattle.agreement.specs.declared.Offered.{Offered}
+use Rattle.agreement.specs.declared.Carrying.{Carrying}
+use Rattle.agreement.specs.declared.Reaction.{Reaction}
+use Rattle.agreement.specs.declared.Forwarding.{Forwarding}
+
+-- what a reply says: document 01's number, 17 where the call is refused at entry and 0 where it is not, and the value that it brings
+pub record Said (A : Type 0) : Type 0 where
+  pub number : ℕ
+  pub value : List A
+
+abbrev pub refused : {A : Type 0} → Said A
+refused = record { number = 17; value = [] }
+
+abbrev pub says : {A : Type 0} → A → Said A
+says x = record { number = 0; value = x ∷ [] }
+
+-- each enum's cases
+abbrev pub number : Reply → ℕ
+number Reply.Refused = 17
+number Reply.Done = 0
+
+abbrev pub offeredSays : Offered → Said ℕ
+offeredSays Offered.Refused = refused
+offeredSays (Offered.Offers x) = says x
+
+abbrev pub carryingSays : Carrying → Said Agreement
+carryingSays Carrying.Refused = refused
+carryingSays (Carrying.Carries m) = says m
+
+abbrev pub reactionSays : Reaction → Said Answer
+reactionSays Reaction.Refused = refused
+reactionSays (Reaction.Answered a) = says a
+
+abbrev pub forwardingSays : Forwarding → Said Port
+forwardingSays Forwarding.Refused = refused
+forwardingSays (Forwarding.Found p) = says p
+
+-- A view as it is lent: the graph, its costs, and a table that holds its distances
+pub record Lent : Type 0 where
+  pub bridges : ℕ
+  pub links : ℕ
+  pub ends : List ℕ
+  pub costs : List ℕ
+  pub table : List ℕ
+
+abbrev pub lent : ℕ → ℕ → List ℕ → List ℕ → List ℕ → Lent
+lent bridges links ends costs table = record { bridges = bridges; links = links; ends = ends; costs = costs; table = table }
+
+abbrev pub lentGraph : Lent → Graph
+lentGraph v = graphOf (v .bridges) (v .links) (v .ends)
+
+abbrev pub lentInRange : Lent → Bool
+lentInRange v = viewInRange (v .bridges) (v .links) (v .ends) (v .costs) (v .table)
+
+-- the offer of the bridge at end e, as a limit
+unfoldable pub lentOffer : Lent → ℕ → ℕ → ℕ
+lentOffer v e d = min NONE (offer (lentGraph v) (costsOf (v .costs)) (cell (v .table)) e d)
+
+-- The offer over the link of end e for destination d
+unfoldable pub offerOutcome : Lent → ℕ → ℕ → Said ℕ
+offerOutcome v e d =
+    cond (lentInRange v && (ltb e (2 * v .links) && ltb d (v .bridges))) (says (lentOffer v e d)) refused
+
+-- the record of an end and the two limit tables, after a call
+pub record Outcome (A : Type 0) : Type 0 where
+  pub reply : A
+  pub end : EndRecord
+  pub sent : List ℕ
+  pub held : List ℕ
+
+abbrev pub outcome : {A : Type 0} → A → EndRecord → List ℕ → List ℕ → Outcome A
+outcome reply end sent held = record { reply = reply; end = end; sent = sent; held = held }
+
+-- what every call on an end is handed, in range
+abbrev pub lentEndInRange : Lent → List ℕ → List ℕ → ℕ → Bool
+lentEndInRange v sent held e = endInRange (v .bridges) (v .links) (v .ends) (v .costs) (v .table) (length sent) (length held) e
+
+-- A fresh end: sent limits from the view's offers, held limits all NONE
+unfoldable pub freshOutcome : Lent → ℕ → List ℕ → List ℕ → Outcome ℕ
+freshOutcome v e sent held =
+    cond (lentEndInRange v sent held e)
+    (outcome
+    0
+    freshRecord
+    (withLimits (v .bridges) e (lentOffer v e) sent)
+    (withLimits (v .bridges) e (λ d. NONE) held))
+    (outcome 17 freshRecord sent held)
+
+-- Update of an end to view t, which the lent view is and which differs from the bridge's
+unfoldable pub updateOutcome : Lent → ℕ → ℕ → ℕ → EndRecord → List ℕ → List ℕ → Outcome ℕ
+updateOutcome v views t e r sent held =
+    cond (lentEndInRange v sent held e && (isView views t && recordInRange views r))
+    (outcome
+    0
+    (updated t r)
+    (withLimits (v .bridges) e (sentUpdated (lentOffer v e) (cell sent e)) sent)
+    (withLimits (v .bridges) e (heldUpdated t r (lentOffer v (opposite e)) (cell held e)) held))
+    (outcome 17 r sent held)
+
+-- What a send of a bridge on view t with number n carries from an end
+unfoldable pub carryOutcome : ℕ → ℕ → ℕ → EndRecord → Said Agreement
+carryOutcome views t n r = cond (isView views t && recordInRange views r) (says (carried t n r)) refused
+
+-- A delivery of m at an end of a bridge on view t, which the lent view is, with number n
+unfoldable pub deliverOutcome : Lent → ℕ → ℕ → ℕ → ℕ → EndRecord → Agreement → List ℕ → List ℕ → Outcome (Said Answer)
+deliverOutcome v views t n e r m sent held =
+    cond (lentEndInRange v sent held e && deliveryInRange views t r (m .view))
+    (outcome
+    (says (answer t r m))
+    (recorded r (answer t r m))
+    (withLimits (v .bridges) e (sentDelivered n r m (lentOffer v e) (cell sent e)) sent)
+    (withLimits (v .bridges) e (heldDelivered t r m (lentOffer v (opposite e)) (cell held e)) held))
+    (outcome refused r sent held)
+
+-- The forwarding port of bridge y for destination d, y being on the lent view
+abbrev pub lentRecords : List Bool → List EndRecord → List ℕ → List ℕ → Records
+lentRecords cut records sent held =
+    record { cut = λ l. getD cut l false; ends = λ e. getD records e freshRecord; sent = cell sent; held = cell held }
+
+unfoldable pub portOutcome : Lent → ℕ → List Bool → List EndRecord → List ℕ → List ℕ → ℕ → ℕ → Said Port
+portOutcome v views cut records sent held y d =
+    cond (portInRange (v .bridges) (v .links) (v .ends) (v .costs) (v .table) views records (length sent) (length held) y d)
+    (says (port (lentGraph v) (costsOf (v .costs)) (cell (v .table)) (lentRecords cut records sent held) y d))
+    refused

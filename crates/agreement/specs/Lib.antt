@@ -1,0 +1,9 @@
+pub mod Tests
+pub mod Offer
+pub mod Record
+pub mod Limits
+pub mod Forwarding
+pub mod Rule
+pub mod Ranges
+pub mod Steps
+pub mod Call

@@ -1,0 +1,309 @@
+// The public calls. Every input gets a reply: 17 for what is out of range or too short, and then nothing is changed.
+use crate::Agreement;
+use crate::Carrying;
+use crate::Changed;
+use crate::EndRecord;
+use crate::Forwarding;
+use crate::Offered;
+use crate::Reaction;
+use crate::Received;
+use crate::Reply;
+use crate::Rewrite;
+use crate::ports;
+use crate::ready;
+use crate::records;
+use crate::rows;
+use distances::ready::both;
+ghost use mathlib.Core.Path.{_≡_};
+ghost use Rattle.agreement.specs.Ranges.{endInRange};
+ghost use Rattle.agreement.specs.Record.{freshRecord};
+ghost use Rattle.agreement.specs.Call.{lent, outcome, number, offeredSays, carryingSays, reactionSays, forwardingSays, offerOutcome, freshOutcome, updateOutcome, carryOutcome, deliverOutcome, portOutcome};
+
+// The record of a fresh end.
+pub fn fresh_record() -> EndRecord
+    ensures { λ r. ⌜ r ≡ freshRecord ⌝ }
+{
+    EndRecord {
+        received: 0,
+        view: 255,
+        discarded: 0,
+        holding: false,
+    }
+}
+
+// What a send carries from an end of a bridge on this view with this agreement number.
+pub fn carry(views: usize, view: u8, number: u16, old: EndRecord) -> Carrying
+    ensures { λ r. ⌜ carryingSays r ≡ carryOutcome views view number old ⌝ }
+{
+    if both(
+        ready::is_view(views, view),
+        ready::record_in_range(views, old),
+    ) {
+        Carrying::Carries(Agreement {
+            view,
+            number,
+            discarded: old.discarded,
+        })
+    } else {
+        Carrying::Refused
+    }
+}
+
+fn end_in_range(
+    bridges: usize,
+    links: usize,
+    ends: &[u8],
+    costs: &[u32],
+    table: &[u32],
+    sent: usize,
+    held: usize,
+    end: usize,
+) -> bool
+    ensures { λ r. ⌜ r ≡ endInRange bridges links (now (ends .entry)) (now (costs .entry)) (now (table .entry)) sent held end ⌝ }
+{
+    let size = table.len();
+    if distances::ready::in_range(bridges, links, ends, costs, size) {
+        both(1024 <= sent, both(1024 <= held, end < 2 * links))
+    } else {
+        false
+    }
+}
+
+// The offer over the link of this end for a destination, as a limit.
+pub fn offer_over(
+    bridges: usize,
+    links: usize,
+    ends: &[u8],
+    costs: &[u32],
+    table: &[u32],
+    end: usize,
+    dest: usize,
+) -> Offered
+    ensures { λ r. ⌜ offeredSays r ≡ offerOutcome (lent bridges links (now (ends .entry)) (now (costs .entry)) (now (table .entry))) end dest ⌝ }
+{
+    if end_in_range(bridges, links, ends, costs, table, 1024, 1024, end) {
+        if dest < bridges {
+            return Offered::Offers(rows::offer_at(bridges, links, ends, costs, table, end, dest));
+        }
+    }
+    Offered::Refused
+}
+
+// A fresh end's rows: sent limits from this view's offers, held limits all NONE.
+pub fn start_end(
+    bridges: usize,
+    links: usize,
+    ends: &[u8],
+    costs: &[u32],
+    table: &[u32],
+    end: usize,
+    sent: &mut [u32],
+    held: &mut [u32],
+) -> Changed
+    ensures { λ r. ⌜ outcome (number (r .reply)) (r .end) (now (sent .exit)) (now (held .exit)) ≡ freshOutcome (lent bridges links (now (ends .entry)) (now (costs .entry)) (now (table .entry))) end (now (sent .entry)) (now (held .entry)) ⌝ }
+{
+    let fresh = fresh_record();
+    let sent_size = sent.len();
+    let held_size = held.len();
+    if end_in_range(
+        bridges,
+        links,
+        ends,
+        costs,
+        table,
+        sent_size,
+        held_size,
+        end,
+    ) {
+        rows::rewrite_end(
+            Rewrite::Renew,
+            Rewrite::Empty,
+            bridges,
+            links,
+            ends,
+            costs,
+            table,
+            end,
+            sent,
+            held,
+        );
+        Changed {
+            reply: Reply::Done,
+            end: fresh,
+        }
+    } else {
+        Changed {
+            reply: Reply::Refused,
+            end: fresh,
+        }
+    }
+}
+
+// An end whose bridge goes to this view, which is the lent one and differs from its present view.
+pub fn update_end(
+    bridges: usize,
+    links: usize,
+    ends: &[u8],
+    costs: &[u32],
+    table: &[u32],
+    views: usize,
+    view: u8,
+    end: usize,
+    old: EndRecord,
+    sent: &mut [u32],
+    held: &mut [u32],
+) -> Changed
+    ensures { λ r. ⌜ outcome (number (r .reply)) (r .end) (now (sent .exit)) (now (held .exit)) ≡ updateOutcome (lent bridges links (now (ends .entry)) (now (costs .entry)) (now (table .entry))) views view end old (now (sent .entry)) (now (held .entry)) ⌝ }
+{
+    let sent_size = sent.len();
+    let held_size = held.len();
+    let known = both(
+        ready::is_view(views, view),
+        ready::record_in_range(views, old),
+    );
+    if both(
+        end_in_range(
+            bridges,
+            links,
+            ends,
+            costs,
+            table,
+            sent_size,
+            held_size,
+            end,
+        ),
+        known,
+    ) {
+        let how = records::renew_if(old.view == view);
+        rows::rewrite_end(
+            Rewrite::Lower,
+            how,
+            bridges,
+            links,
+            ends,
+            costs,
+            table,
+            end,
+            sent,
+            held,
+        );
+        Changed {
+            reply: Reply::Done,
+            end: records::updated_record(view, old),
+        }
+    } else {
+        Changed {
+            reply: Reply::Refused,
+            end: old,
+        }
+    }
+}
+
+// A message at an end of a bridge on this view, which is the lent one, with this agreement number.
+pub fn deliver_end(
+    bridges: usize,
+    links: usize,
+    ends: &[u8],
+    costs: &[u32],
+    table: &[u32],
+    views: usize,
+    view: u8,
+    number: u16,
+    end: usize,
+    old: EndRecord,
+    message: Agreement,
+    sent: &mut [u32],
+    held: &mut [u32],
+) -> Received
+    ensures { λ r. ⌜ outcome (reactionSays (r .reply)) (r .end) (now (sent .exit)) (now (held .exit)) ≡ deliverOutcome (lent bridges links (now (ends .entry)) (now (costs .entry)) (now (table .entry))) views view number end old message (now (sent .entry)) (now (held .entry)) ⌝ }
+{
+    let sent_size = sent.len();
+    let held_size = held.len();
+    let known = ready::delivery_in_range(views, view, old, message);
+    if both(
+        end_in_range(
+            bridges,
+            links,
+            ends,
+            costs,
+            table,
+            sent_size,
+            held_size,
+            end,
+        ),
+        known,
+    ) {
+        let sent_how = records::renew_if(records::is_clearing(number, old, message));
+        let held_how = records::renew_if(records::is_adopting(view, old, message));
+        rows::rewrite_end(
+            sent_how,
+            held_how,
+            bridges,
+            links,
+            ends,
+            costs,
+            table,
+            end,
+            sent,
+            held,
+        );
+        let answer = records::answer_of(view, old, message);
+        Received {
+            reply: Reaction::Answered(answer),
+            end: records::recorded_by(old, answer),
+        }
+    } else {
+        Received {
+            reply: Reaction::Refused,
+            end: old,
+        }
+    }
+}
+
+// The forwarding port of a bridge on the lent view for a destination. `cut` are the bridge's own flags of its links.
+pub fn port(
+    bridges: usize,
+    links: usize,
+    ends: &[u8],
+    costs: &[u32],
+    table: &[u32],
+    views: usize,
+    cut: [bool; 32],
+    records: [EndRecord; 64],
+    sent: &[u32],
+    held: &[u32],
+    bridge: usize,
+    dest: usize,
+) -> Forwarding
+    ensures { λ r. ⌜ forwardingSays r ≡ portOutcome (lent bridges links (now (ends .entry)) (now (costs .entry)) (now (table .entry))) views cut records (now (sent .entry)) (now (held .entry)) bridge dest ⌝ }
+{
+    if ready::port_in_range(
+        bridges,
+        links,
+        ends,
+        costs,
+        table,
+        views,
+        records,
+        sent.len(),
+        held.len(),
+        bridge,
+        dest,
+    ) {
+        Forwarding::Found(ports::port_of(
+            bridges,
+            links,
+            ends,
+            costs,
+            table,
+            cut,
+            records,
+            sent,
+            held,
+            bridge,
+            dest,
+        ))
+    } else {
+        Forwarding::Refused
+    }
+}

@@ -1,0 +1,81 @@
+// Layer 2: one bridge's agreement records and its forwarding choice. Each call is handed a view as `distances` has it: the graph,
+// the view's costs, and the lent table that holds its distances; and the lent limit tables, a row of 16 limits for each end.
+pub mod calls;
+mod ports;
+pub mod ready;
+mod records;
+mod rows;
+
+// The record of a link end. `received` is the highest received number, `view` the view received with it (255: none),
+// `discarded` the discarded number; `holding` says whether a view is held from the neighbour.
+pub struct EndRecord {
+    pub received: u16,
+    pub view: u8,
+    pub discarded: u16,
+    pub holding: bool,
+}
+
+// What a send carries: the sender's view and number, and the sending end's discarded number.
+pub struct Agreement {
+    pub view: u8,
+    pub number: u16,
+    pub discarded: u16,
+}
+
+// What a delivery answers, with the number and view that it took.
+pub enum Answer {
+    Stale,
+    Agreed(u16, u8),
+    Noted(u16, u8),
+}
+
+// The forwarding port of a bridge for a destination.
+pub enum Port {
+    Closed,
+    Open(u8),
+}
+
+// What becomes of a row of limits: it stays, each limit is lowered to the offer, becomes the offer, or becomes NONE.
+pub enum Rewrite {
+    Keep,
+    Lower,
+    Renew,
+    Empty,
+}
+
+// Refused: 17 of document 01. See `number` and the definitions beside it.
+pub enum Reply {
+    Refused,
+    Done,
+}
+
+pub enum Offered {
+    Refused,
+    Offers(u32),
+}
+
+pub enum Carrying {
+    Refused,
+    Carries(Agreement),
+}
+
+pub enum Reaction {
+    Refused,
+    Answered(Answer),
+}
+
+pub enum Forwarding {
+    Refused,
+    Found(Port),
+}
+
+// An end's record after a call, beside the reply.
+pub struct Changed {
+    pub reply: Reply,
+    pub end: EndRecord,
+}
+
+pub struct Received {
+    pub reply: Reaction,
+    pub end: EndRecord,
+}

@@ -1,0 +1,27 @@
+-- Demand 3 holds: of every plan in the ranges and every list of calls. Assumes nothing.
+use Prim.Native.Nat.{_-_, _≤_}
+use mathlib.Core.Path.{_≡_, subst}
+use Rattle.bench.specs.Net.{Plan, fresh}
+use Rattle.bench.specs.Calls.{run}
+use Rattle.bench.specs.Paths.{path, hops}
+use Rattle.bench.specs.Demand3.{Demand3}
+use Rattle.bench.proofs.Invariant.{Invariant}
+use Rattle.bench.proofs.Runs.{plan-run}
+use Rattle.bench.proofs.Steps.{invariant-run}
+use Rattle.bench.proofs.NoRing.{no-ring}
+use Rattle.bench.proofs.PathEnds.{path-ends, path-short}
+use Rattle.bench.proofs.Settles.{settles}
+
+pub demand3 : Demand3
+unfolding fresh
+demand3 p inRange cs =
+    let inv : Invariant (run (fresh p) cs) = invariant-run p inRange cs in
+    let same : run (fresh p) cs .plan ≡ p = plan-run (fresh p) cs in
+    record {
+      noRing = no-ring (run (fresh p) cs) inv;
+      pathEnds = λ s d low listed. path-ends (run (fresh p) cs) inv s d (rw same low);
+      pathShort =
+          λ s d low listed. subst (λ (q : Plan). hops (path (run (fresh p) cs) s d) ≤ q .graph .bridges - 1) same
+          (path-short (run (fresh p) cs) s d);
+      settles = λ ks xs ys t split s y d low listed. settles p inRange cs ks xs ys t split s y d low;
+    }

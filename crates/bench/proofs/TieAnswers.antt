@@ -1,0 +1,158 @@
+-- What port and path reply in a state is what there is to say of the network that stands in it. Assumes nothing.
+use Prim.Native.Nat.{ℕ, zero, suc, _*_, _-_, _≤_, _<_}
+use native.Mathlib.Omega.{arith}
+use mathlib.Core.Path.{_≡_, refl, sym, _∙_, ap}
+use mathlib.Core.Bool.{Bool, true, false, cond}
+use mathlib.Core.List.{List, _∷_}
+use lib.ListN.{length, getD}
+use lib.Dec.{eqb}
+use borrow.Author.Tests.{eqb-true, lt-ltb, le-leb}
+use Rattle.distances.specs.View.{InRange, costsOf}
+use Rattle.distances.specs.Table.{cell}
+use Rattle.distances.proofs.Booleans.{true-both, below}
+use Rattle.distances.proofs.Ranges.{true-allBelow}
+use Rattle.agreement.specs.Ranges.{portInRange, recordsInRange}
+use Rattle.agreement.specs.Forwarding.{port}
+use Rattle.agreement.specs.Call.{Lent, lentGraph, portOutcome, says}
+use Rattle.agreement.proofs.PortCong.{port-cong}
+use Rattle.bench.specs.Net.{Network, Plan}
+use Rattle.bench.specs.Calls as calls
+use Rattle.bench.specs.Calls.{Call, Check, refusal, refuse, checks, noSuchBridge}
+use Rattle.bench.specs.Ports.{Hop, stays, crosses, hop}
+use Rattle.bench.specs.Ports as ports
+use Rattle.bench.specs.Paths.{delivered, follow, onward, path}
+use Rattle.bench.specs.State.{State, network, lentView}
+use Rattle.bench.specs.Changes.{refusalOf, settled, stateInRange}
+use Rattle.bench.specs.Deliveries.{refusedBy}
+use Rattle.bench.specs.Answers.{found, portIn, portOf, hopIn, pathOf}
+use Rattle.bench.specs.Whole.{Represents}
+use Rattle.bench.proofs.Accepted.{passed}
+use Rattle.bench.proofs.Links.{across-below}
+use Rattle.bench.proofs.Hops.{port-forwards, hop-crosses}
+use Rattle.bench.proofs.TieRanges.{StateReady, told, network-ready, few, lent-in-range, plan-in-range, part-at}
+use Rattle.bench.proofs.TieChecks.{refusal-same}
+
+-- ---- hops that agree at the bridges that there are, and lead from one of them to another, make the same way
+
+module _
+    (next other : ℕ → Hop)
+    (d bridges : ℕ)
+    (same : (y : ℕ) → y < bridges → next y ≡ other y)
+    (leads : (y l z : ℕ) → y < bridges → other y ≡ crosses l z → z < bridges) where
+  onward-same : (left h y : ℕ) → y < bridges → onward next d left h y ≡ onward other d left h y
+  unfolding onward follow
+  onward-same zero h y low = refl
+  onward-same (suc left) h y low = rw (same y low) (ap (cond (eqb y d) (delivered h)) (go (other y) refl (onward-same left (suc h))))
+    where
+      go :
+          (x : Hop) →
+          other y ≡ x →
+          ((z : ℕ) → z < bridges → onward next d left (suc h) z ≡ onward other d left (suc h) z) →
+          follow y h (onward next d left (suc h)) x ≡ follow y h (onward other d left (suc h)) x
+      go stays e on = refl
+      go (crosses l z) e on = on z (leads y l z low e)
+
+-- an answer matters only where the call is accepted
+settled-same : {A : Type 0} (k : ℕ) (refused : ℕ → A) (a b : A) → (k ≡ 0 → a ≡ b) → settled k refused a ≡ settled k refused b
+settled-same k refused a b same = go (eqb k 0) refl
+  where
+    go : (t : Bool) → eqb k 0 ≡ t → cond t a (refused k) ≡ cond t b (refused k)
+    go true e = same (eqb-true k 0 e)
+    go false e = refl
+
+module _ (s : State) (n : Network) (r : Represents s n) where
+  inside : StateReady s
+  inside = told s (r .inRange)
+
+  small : (s .bench .bridges ≤ 16) × (s .bench .links ≤ 32) × (2 * s .bench .links ≤ length (s .bench .ends))
+  small = few (s .bench) (s .costs) (s .tables) (inside .lasting)
+
+  graph-inside : InRange (network s .plan .graph)
+  graph-inside = plan-in-range (s .bench) (s .costs) (s .tables) (inside .lasting) .graph
+
+  -- ---- port
+
+  module _ (y d : ℕ) (hy : y < s .bench .bridges) (hd : d < s .bench .bridges) where
+    abbrev viewOf : ℕ
+    viewOf = getD (s .bench .view) y 0
+
+    is-view : viewOf < s .bench .views
+    is-view = inside .view y hy
+
+    abbrev lentOf : Lent
+    lentOf = lentView (s .bench) (s .costs) (s .tables) viewOf
+
+    port-inside :
+        portInRange (s .bench .bridges) (s .bench .links) (s .bench .ends) (lentOf .costs) (lentOf .table) (s .bench .views)
+        (s .bench .records) (length (s .sent)) (length (s .held)) y d ≡ true
+    unfolding portInRange recordsInRange
+    port-inside =
+        true-both (lent-in-range (s .bench) (s .costs) (s .tables) (inside .lasting) viewOf is-view)
+        (true-both (true-both (le-leb _ _ (inside .sentLong)) (le-leb _ _ (inside .heldLong)))
+        (true-both (true-both (le-leb _ _ (inside .lasting .viewsLeast)) (le-leb _ _ (inside .lasting .viewsMost)))
+        (true-both (true-both (le-leb _ _ (small .1)) (true-allBelow _ _ (inside .records)))
+        (true-both (lt-ltb _ _ hy) (lt-ltb _ _ hd)))))
+
+    port-in : portIn s y d ≡ port (lentGraph lentOf) (costsOf (lentOf .costs)) (cell (lentOf .table)) (network s .records) y d
+    unfolding portIn found portOutcome
+    port-in = rw port-inside
+
+    pub port-same : portIn s y d ≡ ports.portOf n y d
+    unfolding ports.portOf
+    port-same =
+        port-in
+        ∙ rw (r .plan, r .view y hy)
+        (port-cong (network s .plan .graph) _ _ _ _ _ _ graph-inside y d hy
+        (record {
+          distances = λ i hi. rw (r .plan) at (r .distances viewOf i d is-view hi hd);
+          costs = λ l hl. part-at 32 viewOf (s .costs) l (omega (arith, small));
+          cut = λ l hl. sym (r .cut l hl);
+          ends = λ e he. sym (r .ends e he);
+          sent = λ e he. sym (r .sent e d he hd);
+          held = λ e he. sym (r .held e d he hd);
+        }))
+
+  -- ---- the calls
+
+  -- a bridge that a check lets pass
+  pub listed : (y : ℕ) (cs : List Check) → refusal (noSuchBridge n y ∷ cs) ≡ 0 → (y < s .bench .bridges) × (refusal cs ≡ 0)
+  unfolding noSuchBridge
+  listed y cs e =
+      let one = passed (noSuchBridge n y) cs (omega arith) e in
+      (rw (r .plan) at (below y (n .plan .graph .bridges) (one .0)), one .1)
+
+  asked : (c : Call) → refusalOf (stateInRange s) (network s) c ≡ refuse n c
+  asked c = refusal-same s n r (stateInRange s) c (network-ready s inside)
+
+  pub port-answered : (y d : ℕ) → portOf s y d ≡ settled (refuse n (calls.port y d)) refusedBy (says (ports.portOf n y d))
+  unfolding portOf refuse checks
+  port-answered y d =
+      rw (asked (calls.port y d))
+      (settled-same (refuse n (calls.port y d)) refusedBy _ _ (λ e.
+      let one = listed y _ e in
+      ap says (port-same y d (one .0) (listed d _ (one .1) .0))))
+
+  hop-same : (d : ℕ) → d < s .bench .bridges → (y : ℕ) → y < s .bench .bridges → hopIn s d y ≡ hop n d y
+  unfolding hopIn hop
+  hop-same d hd y hy = rw (port-same y d hy hd, r .plan)
+
+  hop-below : (d y l z : ℕ) → y < s .bench .bridges → hop n d y ≡ crosses l z → z < s .bench .bridges
+  hop-below d y l z hy e =
+      let crossed = hop-crosses n d y l z e in
+      let by = port-forwards n y d l (crossed .0) in
+      let low : l < n .plan .graph .links = omega (arith, by .1 .listed, by .1 .link) in
+      rw (crossed .1, r .plan) at (across-below (n .plan .graph) (rw (r .plan) graph-inside) l y low)
+
+  path-same : (y d : ℕ) → y < s .bench .bridges → d < s .bench .bridges → onward (hopIn s d) d (s .bench .bridges - 1) 0 y ≡ path n y d
+  unfolding path
+  path-same y d hy hd =
+      onward-same (hopIn s d) (hop n d) d (s .bench .bridges) (hop-same d hd) (hop-below d) (s .bench .bridges - 1) 0 y hy
+      ∙ ap (λ (p : Plan). onward (hop n d) d (p .graph .bridges - 1) 0 y) (sym (r .plan))
+
+  pub path-answered : (y d : ℕ) → pathOf s y d ≡ settled (refuse n (calls.path y d)) refusedBy (says (path n y d))
+  unfolding pathOf refuse checks
+  path-answered y d =
+      rw (asked (calls.path y d))
+      (settled-same (refuse n (calls.path y d)) refusedBy _ _ (λ e.
+      let one = listed y _ e in
+      ap says (path-same y d (one .0) (listed d _ (one .1) .0))))

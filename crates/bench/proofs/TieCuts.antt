@@ -1,0 +1,69 @@
+-- Cut and restore, on the lists and in the network. Assumes nothing.
+use Prim.Native.Nat.{ℕ, _<_}
+use native.Mathlib.Omega.{arith}
+use mathlib.Core.Path.{_≡_, sym}
+use mathlib.Core.Bool.{Bool, true, false}
+use mathlib.Core.List.{List, _∷_}
+use lib.ListN.{length-set}
+use Rattle.distances.proofs.Booleans.{below}
+use Rattle.bench.specs.Net.{Network}
+use Rattle.bench.specs.Calls.{Check, change, cut, restore, refusal, noSuchLink, already, changeChecks, checks, withCut, changed, act, step}
+use Rattle.bench.specs.State.{State, state}
+use Rattle.bench.specs.Ranges.{graphInRange, benchInRange, costsInRange, messagesInRange, networkInRange}
+use Rattle.bench.specs.Changes.{Changed, changed as leaving, refusalOf, benchWithCut, cutOf, restoreOf}
+use Rattle.bench.specs.Whole.{Represents, stepBy}
+use Rattle.bench.proofs.Accepted.{passed, accepted-checks}
+use Rattle.bench.proofs.TieRanges.{getD-stored, told, bench-ready, few}
+use Rattle.bench.proofs.TieRefusals.{settled-step}
+use Rattle.bench.proofs.TieChecks.{refusal-same}
+
+module _ (s : State) (n : Network) (r : Represents s n) where
+  kept-cut : (l : ℕ) (so : Bool) → l < s .bench .links → Represents (state (benchWithCut (s .bench) l so) (s .costs) (s .tables) (s .sent) (s .held) (s .messages)) (withCut n l so)
+  unfolding withCut networkInRange benchInRange graphInRange costsInRange messagesInRange
+  kept-cut l so low =
+      record {
+        inRange = r .inRange;
+        typed =
+            record {
+              views = r .typed .views;
+              numbers = r .typed .numbers;
+              records = r .typed .records;
+              cuts = simp length-set (r .typed .cuts);
+              number = r .typed .number;
+              received = r .typed .received;
+              discarded = r .typed .discarded;
+            };
+        plan = r .plan;
+        distances = r .distances;
+        view = r .view;
+        number = r .number;
+        cut = λ k h. rw (r .cut k h) (sym (getD-stored (s .bench .cut) l so k false (omega (arith, few (s .bench) _ _ (told s (r .inRange) .lasting), r .typed .cuts))));
+        ends = r .ends;
+        sent = r .sent;
+        held = r .held;
+        messages = r .messages;
+      }
+
+  is-listed : (l : ℕ) (cs : List Check) → refusal (noSuchLink n l ∷ cs) ≡ 0 → l < s .bench .links
+  unfolding noSuchLink
+  is-listed l cs e = rw (r .plan) at (below l (n .plan .graph .links) (passed (noSuchLink n l) cs (omega arith) e .0))
+
+  -- the state with the bench that a cut or a restore leaves
+  abbrev withBench : Changed → State
+  withBench o = state (o .bench) (s .costs) (s .tables) (s .sent) (s .held) (s .messages)
+
+  pub cut-represents : (l : ℕ) → Represents (stepBy s (change (cut l))) (step n (change (cut l)))
+  unfolding stepBy cutOf act changed refusalOf checks changeChecks noSuchLink already
+  cut-represents l =
+      settled-step withBench n (change (cut l)) _ (λ k. leaving k (s .bench)) (leaving 0 (benchWithCut (s .bench) l true))
+      (refusal-same s n r (benchInRange (s .bench)) (change (cut l)) (bench-ready s (told s (r .inRange))))
+      (λ m. r)
+      (λ a. kept-cut l true (is-listed l _ (accepted-checks n (change (cut l)) a)))
+
+  pub restore-represents : (l : ℕ) → Represents (stepBy s (change (restore l))) (step n (change (restore l)))
+  unfolding stepBy restoreOf act changed refusalOf checks changeChecks noSuchLink already
+  restore-represents l =
+      settled-step withBench n (change (restore l)) _ (λ k. leaving k (s .bench)) (leaving 0 (benchWithCut (s .bench) l false))
+      (refusal-same s n r (benchInRange (s .bench)) (change (restore l)) (bench-ready s (told s (r .inRange))))
+      (λ m. r)
+      (λ a. kept-cut l false (is-listed l _ (accepted-checks n (change (restore l)) a)))

@@ -1,0 +1,220 @@
+-- Update, on the lists and in the network. Assumes nothing.
+use Prim.Native.Nat.{ℕ, suc, _+_, _*_, _≤_, _<_}
+use native.Mathlib.Omega.{arith}
+use mathlib.Core.Path.{_≡_, refl, sym, _∙_, ap}
+use mathlib.Core.Bool.{Bool, true, false, cond, _&&_, not}
+use borrow.Author.Tests.{lt-ltb, le-leb, eqb-true, eqb-false}
+use lib.ListN.{length, getD, set, length-set}
+use lib.Dec.{eqb}
+use Rattle.distances.specs.Table.{cell}
+use Rattle.distances.proofs.Booleans.{below, true-both, other-false}
+use Rattle.agreement.specs.Offer.{opposite}
+use Rattle.agreement.specs.Record.{freshRecord, updated, sentUpdated, heldUpdated}
+use Rattle.agreement.specs.Ranges.{isView, recordInRange}
+use Rattle.agreement.specs.Call.{Lent, lentOffer}
+use Rattle.agreement.specs.declared.EndRecord.{EndRecord}
+use Rattle.bench.specs.Net.{Network, offerIn}
+use Rattle.bench.specs.Calls.{change, update, moved, updatedTo, changed, act, step}
+use Rattle.bench.specs.State.{State, state, lentView}
+use Rattle.bench.specs.Changes.{Ends, ends, movedEnds, movedBench, Rewritten, rewritten, updateOf}
+use Rattle.bench.specs.Whole.{Represents, Typed, stepBy}
+use Rattle.bench.proofs.Accepted.{UpdateListed, update-listed}
+use Rattle.bench.proofs.TieRanges.{StateReady, getD-stored, told, ready, network-ready, few, lent-in-range, offer-stands}
+use Rattle.bench.proofs.TieRefusals.{settled-step}
+use Rattle.bench.proofs.TieChecks.{refusal-same}
+use Rattle.bench.proofs.TieMovedEnds.{Turned, EndsReady, turned-all}
+
+-- the record whose received view has become the one held
+abbrev holdingReceived : EndRecord → EndRecord
+holdingReceived r = record { received = r .received; view = r .view; discarded = r .received; holding = true }
+
+-- what holds of a record, before and after that, holds of the updated one
+updated-keeps :
+    (P : EndRecord → Type 0) (t : ℕ) (r : EndRecord) (c : Bool) →
+    P r →
+    P (holdingReceived r) →
+    P (cond c (updated t r) r)
+unfolding updated
+updated-keeps P t r false old new = old
+updated-keeps P t r true old new = go (eqb (r .view) t)
+  where
+    go : (b : Bool) → P (cond b (holdingReceived r) r)
+    go true = new
+    go false = old
+
+-- bridge y moves to view t, another one
+module _ (s : State) (n : Network) (r : Represents s n) (y t : ℕ) (low : y < s .bench .bridges) (view : t < s .bench .views) where
+  abbrev lentOf : Lent
+  lentOf = lentView (s .bench) (s .costs) (s .tables) t
+
+  abbrev endsOf : Ends
+  endsOf = ends (s .bench .records) (s .sent) (s .held)
+
+  abbrev endsAfter : Ends
+  endsAfter = movedEnds lentOf (s .bench .views) y t (2 * s .bench .links) endsOf
+
+  isReady : StateReady s
+  isReady = told s (r .inRange)
+
+  counts : (s .bench .bridges ≤ 16) × (s .bench .links ≤ 32) × (2 * s .bench .links ≤ length (s .bench .ends))
+  counts = few (s .bench) _ _ (isReady .lasting)
+
+  ends-ready : EndsReady lentOf (s .bench .views) y t endsOf
+  unfolding isView
+  ends-ready =
+      record {
+        few = counts .0;
+        view = lent-in-range (s .bench) _ _ (isReady .lasting) t view;
+        isView = true-both (le-leb _ _ (isReady .lasting .viewsLeast)) (true-both (le-leb _ _ (isReady .lasting .viewsMost)) (lt-ltb _ _ view));
+        records = isReady .records;
+        links = counts .1;
+        recordsRoom = omega (arith, counts .1, r .typed .records);
+        sentRoom = isReady .sentLong;
+        heldRoom = isReady .heldLong;
+      }
+
+  turned : Turned lentOf (s .bench .views) y t endsOf (2 * s .bench .links) endsAfter
+  turned = turned-all lentOf (s .bench .views) y t endsOf ends-ready (2 * s .bench .links) (omega arith)
+
+  module _ (e : ℕ) (h : e < 2 * s .bench .links) where
+    abbrev own : Bool
+    own = eqb (getD (s .bench .ends) e 0) y
+
+    abbrev old : EndRecord
+    old = getD (s .bench .records) e freshRecord
+
+    bridge-at : n .plan .graph .bridgeAt e ≡ getD (s .bench .ends) e 0
+    bridge-at = rw (r .plan)
+
+    end-after : getD (endsAfter .records) e freshRecord ≡ cond own (updated t old) old
+    end-after = rw (lt-ltb e (2 * s .bench .links) h) at (turned .end e)
+
+    end-keeps : (P : EndRecord → Type 0) → P old → P (holdingReceived old) → P (getD (endsAfter .records) e freshRecord)
+    end-keeps P before after = rw end-after (updated-keeps P t old own before after)
+
+    module _ (d : ℕ) (k : d < s .bench .bridges) where
+      sent-by :
+          (c : Bool) →
+          cond c (sentUpdated (offerIn (n .plan) t e) (n .records .sent e)) (n .records .sent e) d
+          ≡ cond c (sentUpdated (lentOffer lentOf e) (cell (s .sent) e) d) (cell (s .sent) e d)
+      unfolding sentUpdated
+      sent-by true = rw (r .sent e d h k, offer-stands s n r t view e d h k)
+      sent-by false = r .sent e d h k
+
+      sent-after : cond own (sentUpdated (offerIn (n .plan) t e) (n .records .sent e)) (n .records .sent e) d ≡ cell (endsAfter .sent) e d
+      sent-after = sent-by own ∙ sym (rw (lt-ltb e (2 * s .bench .links) h) at (turned .sent d k e))
+
+      held-by :
+          (c : Bool) →
+          cond c (heldUpdated t (n .records .ends e) (offerIn (n .plan) t (opposite e)) (n .records .held e)) (n .records .held e) d
+          ≡ cond c (heldUpdated t old (lentOffer lentOf (opposite e)) (cell (s .held) e) d) (cell (s .held) e d)
+      unfolding heldUpdated
+      held-by true = rw (r .ends e h, r .held e d h k, offer-stands s n r t view (opposite e) d (omega arith) k)
+      held-by false = r .held e d h k
+
+      held-after :
+          cond own (heldUpdated t (n .records .ends e) (offerIn (n .plan) t (opposite e)) (n .records .held e)) (n .records .held e) d
+          ≡ cell (endsAfter .held) e d
+      held-after = held-by own ∙ sym (rw (lt-ltb e (2 * s .bench .links) h) at (turned .held d k e))
+
+  module _ (more : getD (s .bench .number) y 0 < 65535) where
+    number-after : (z : ℕ) → getD (set (s .bench .number) y (getD (s .bench .number) y 0 + 1)) z 0 ≡ cond (eqb z y) (suc (getD (s .bench .number) z 0)) (getD (s .bench .number) z 0)
+    number-after z = getD-stored (s .bench .number) y _ z 0 (omega (arith, counts .0, r .typed .numbers)) ∙ go (eqb z y) refl
+      where
+        go : (b : Bool) → eqb z y ≡ b → cond b (getD (s .bench .number) y 0 + 1) (getD (s .bench .number) z 0) ≡ cond b (suc (getD (s .bench .number) z 0)) (getD (s .bench .number) z 0)
+        go true q = rw (eqb-true z y q) (omega arith)
+        go false q = refl
+
+    number-fits : (z : ℕ) → getD (s .bench .number) z 0 < 65536 → cond (eqb z y) (suc (getD (s .bench .number) z 0)) (getD (s .bench .number) z 0) < 65536
+    number-fits z old = go (eqb z y) refl
+      where
+        go : (b : Bool) → eqb z y ≡ b → cond b (suc (getD (s .bench .number) z 0)) (getD (s .bench .number) z 0) < 65536
+        go true q = rw (eqb-true z y q) (omega arith)
+        go false q = old
+
+    view-in-range : (c : Bool) {x : ℕ} → x < s .bench .views → cond c t x < s .bench .views
+    view-in-range true old = view
+    view-in-range false old = old
+
+    abbrev stateAfter : State
+    stateAfter = let o = movedBench (s .bench) y t endsAfter in state (o .bench) (s .costs) (s .tables) (o .sent) (o .held) (s .messages)
+
+    ready-after : StateReady stateAfter
+    unfolding recordInRange
+    ready-after =
+        record {
+          lasting = isReady .lasting;
+          sentLong = rw (turned .sentLong) (isReady .sentLong);
+          heldLong = rw (turned .heldLong) (isReady .heldLong);
+          count = isReady .count;
+          view = λ z h. rw (getD-stored (s .bench .view) y t z 0 (omega (arith, counts .0, r .typed .views))) (view-in-range (eqb z y) (isReady .view z h));
+          records = λ e h. end-keeps e h (λ (x : EndRecord). recordInRange (s .bench .views) x ≡ true) (isReady .records e h) (isReady .records e h);
+          messagesLong = isReady .messagesLong;
+          message = isReady .message;
+        }
+
+    typed-after : Typed (stateAfter .bench)
+    typed-after =
+        record {
+          views = simp length-set (r .typed .views);
+          numbers = simp length-set (r .typed .numbers);
+          records = turned .recordsLong ∙ r .typed .records;
+          cuts = r .typed .cuts;
+          number = λ z h. rw (number-after z) (number-fits z (r .typed .number z h));
+          received = λ e h. end-keeps e h (λ (x : EndRecord). x .received < 65536) (r .typed .received e h) (r .typed .received e h);
+          discarded = λ e h. end-keeps e h (λ (x : EndRecord). x .discarded < 65536) (r .typed .discarded e h) (r .typed .received e h);
+        }
+
+    kept-moved : Represents stateAfter (moved n y t)
+    unfolding moved
+    kept-moved =
+        record {
+          inRange = ready stateAfter ready-after;
+          typed = typed-after;
+          plan = r .plan;
+          distances = r .distances;
+          view = λ z h. rw (r .view z h) (sym (getD-stored (s .bench .view) y t z 0 (omega (arith, counts .0, r .typed .views))));
+          number = λ z h. rw (r .number z h) (sym (number-after z));
+          cut = r .cut;
+          ends = λ e h. rw (r .plan, r .ends e h) (sym (end-after e h));
+          sent = λ e d h k. rw (bridge-at e h) (sent-after e h d k);
+          held = λ e d h k. rw (bridge-at e h) (held-after e h d k);
+          messages = r .messages;
+        }
+
+module _ (s : State) (n : Network) (r : Represents s n) (y t : ℕ) where
+  -- the state with what an update leaves
+  abbrev withRewritten : Rewritten → State
+  withRewritten o = state (o .bench) (s .costs) (s .tables) (o .sent) (o .held) (s .messages)
+
+  abbrev updateDone : Bool → Rewritten
+  updateDone same =
+      cond same (rewritten 0 (s .bench) (s .sent) (s .held))
+      (movedBench (s .bench) y t
+      (movedEnds (lentView (s .bench) (s .costs) (s .tables) t) (s .bench .views) y t (2 * s .bench .links) (ends (s .bench .records) (s .sent) (s .held))))
+
+  -- an accepted one
+  kept-update : UpdateListed n y t → Represents (withRewritten (updateDone (eqb (getD (s .bench .view) y 0) t))) (updatedTo n y t)
+  unfolding updatedTo
+  kept-update listed = rw (r .view y low) (go (eqb (getD (s .bench .view) y 0) t) refl)
+    where
+      low : y < s .bench .bridges
+      low = rw (r .plan) at (listed .bridge)
+
+      number : eqb (getD (s .bench .number) y 0) 65535 && not (eqb (getD (s .bench .view) y 0) t) ≡ false
+      number = rw (r .number y low, r .view y low) at (listed .numberLeft)
+
+      more : eqb (getD (s .bench .view) y 0) t ≡ false → getD (s .bench .number) y 0 < 65535
+      more q = omega (arith, r .typed .number y low, eqb-false (getD (s .bench .number) y 0) 65535 (other-false _ (not (eqb (getD (s .bench .view) y 0) t)) (ap not number) (rw q)))
+
+      go : (same : Bool) → eqb (getD (s .bench .view) y 0) t ≡ same → Represents (withRewritten (updateDone same)) (cond same n (moved n y t))
+      go true q = r
+      go false q = kept-moved s n r y t low (rw (r .plan) at (listed .view)) (more q)
+
+  pub update-represents : Represents (stepBy s (change (update y t))) (step n (change (update y t)))
+  unfolding stepBy updateOf act changed
+  update-represents =
+      settled-step withRewritten n (change (update y t)) _ (λ k. rewritten k (s .bench) (s .sent) (s .held)) (updateDone (eqb (getD (s .bench .view) y 0) t))
+      (refusal-same s n r _ (change (update y t)) (network-ready s (told s (r .inRange))))
+      (λ m. r)
+      (λ a. kept-update (update-listed n y t a))

@@ -1,0 +1,196 @@
+-- What the entry check of a whole state tells, part by part, and that the parts together pass it. A lent view's offers are the plan's.
+-- Assumes nothing.
+use Prim.Native.Nat.{ℕ, _+_, _*_, _/_, _≤_, _<_}
+use native.Mathlib.Omega.{arith}
+use mathlib.Core.Path.{_≡_, refl, sym, _∙_}
+use mathlib.Core.Bool.{Bool, true, false, cond}
+use mathlib.Core.List.{List}
+use borrow.Author.Tests.{leb-true, le-leb, ltb-true, lt-ltb, eqb-true, eqb-false}
+use lib.ListN.{length, getD, set, replicate, length-take, length-drop}
+use lib.Seq.{getD-take, getD-drop, getD-set-same, getD-set-other}
+use lib.Dec.{eqb, leb, ltb}
+use Rattle.distances.specs.View.{graphOf, costsOf}
+use Rattle.distances.specs.Distance.{present, dist}
+use Rattle.distances.specs.Table.{cell}
+use Rattle.distances.specs.Call.{inRange, allBelow}
+use Rattle.distances.proofs.Booleans.{both-true, true-both}
+use Rattle.distances.proofs.Ranges.{allBelow-true, true-allBelow, at-bridge, sizes, graph-in-range, costs-in-range}
+use Rattle.distances.proofs.Laws.{dist-cong}
+use Rattle.agreement.specs.Offer.{offer, opposite}
+use Rattle.agreement.specs.Record.{freshRecord}
+use Rattle.agreement.specs.Ranges.{recordInRange, recordsInRange}
+use Rattle.agreement.specs.Call.{lentInRange, lentOffer}
+use Rattle.agreement.proofs.Offers.{offer-is}
+use Rattle.bench.specs.Net.{Network, PlanInRange, distanceIn, offerIn}
+use Rattle.bench.specs.State.{State, part, lentView}
+use Rattle.bench.specs.Ranges.{graphInRange, benchInRange, costsInRange, tablesLong, messageInRange, messagesInRange, networkInRange}
+use Rattle.bench.specs.Changes.{stateInRange}
+use Rattle.bench.specs.Deliveries.{deliveryReady}
+use Rattle.bench.specs.Whole.{Represents, planIn}
+use Rattle.bench.specs.declared.Bench.{Bench}
+
+-- ---- lists: one place stored, and parts
+
+pub getD-stored {ℓ} : {A : Type ℓ} (l : List A) (p : ℕ) (v : A) (q : ℕ) (d : A) → p < length l → getD (set l p v) q d ≡ cond (eqb q p) v (getD l q d)
+getD-stored {A} l p v q d h = go (eqb q p) refl
+  where
+    go : (b : Bool) → eqb q p ≡ b → getD (set l p v) q d ≡ cond b v (getD l q d)
+    go true e = rw (eqb-true q p e) (getD-set-same l p v d h)
+    go false e = getD-set-other l p q v d (eqb-false q p e)
+
+pub part-at : (width k : ℕ) (l : List ℕ) (i : ℕ) → i < width → getD (part width k l) i 0 ≡ getD l (width * k + i) 0
+part-at width k l i h = rw (getD-take, getD-drop)
+
+pub part-length : (width k : ℕ) (l : List ℕ) → width * k + width ≤ length l → length (part width k l) ≡ width
+part-length width k l h = simp (length-take, length-drop) (omega arith)
+
+-- ---- what no call changes: the counts, the ends, the costs, and the room for the distances
+
+pub record Lasting (bridges links views : ℕ) (ends costs tables : List ℕ) : Type 0 where
+  pub viewsLeast : 1 ≤ views
+  pub viewsMost : views ≤ 32
+  pub graph : inRange bridges links ends (replicate 32 0) 256 ≡ true
+  pub costsLong : 1024 ≤ length costs
+  pub eachView : (t : ℕ) → t < views → inRange bridges links ends (part 32 t costs) 256 ≡ true
+  pub tablesLong : 8192 ≤ length tables
+
+abbrev pub LastingOf : Bench → List ℕ → List ℕ → Type 0
+LastingOf b costs tables = Lasting (b .bridges) (b .links) (b .views) (b .ends) costs tables
+
+module _ (b : Bench) (costs tables : List ℕ) where
+  pub lasting-told : graphInRange b ≡ true → costsInRange b costs ≡ true → 8192 ≤ length tables → LastingOf b costs tables
+  unfolding graphInRange costsInRange
+  lasting-told graph long tablesLong =
+      let g = both-true (leb 1 (b .views)) _ graph in
+      let h = both-true (leb (b .views) 32) _ (g .1) in
+      let c = both-true (leb 1024 (length costs)) _ long in
+      record {
+        viewsLeast = leb-true 1 (b .views) (g .0);
+        viewsMost = leb-true (b .views) 32 (h .0);
+        graph = h .1;
+        costsLong = leb-true 1024 (length costs) (c .0);
+        eachView = allBelow-true (b .views) _ (c .1);
+        tablesLong = tablesLong;
+      }
+
+  module _ (l : LastingOf b costs tables) where
+    pub graph-kept : graphInRange b ≡ true
+    unfolding graphInRange
+    graph-kept = true-both (le-leb _ _ (l .viewsLeast)) (true-both (le-leb _ _ (l .viewsMost)) (l .graph))
+
+    pub costs-kept : costsInRange b costs ≡ true
+    unfolding costsInRange
+    costs-kept = true-both (le-leb _ _ (l .costsLong)) (true-allBelow (b .views) _ (l .eachView))
+
+    pub few : (b .bridges ≤ 16) × (b .links ≤ 32) × (2 * b .links ≤ length (b .ends))
+    few = let h = sizes _ _ _ _ _ (l .graph) in (h .0, h .1, h .2)
+
+    pub are-bridges : (e : ℕ) → e < 2 * b .links → getD (b .ends) e 0 < b .bridges
+    are-bridges = at-bridge _ _ _ _ _ (l .graph)
+
+    -- a link's cost in view t, in the view's row
+    pub cost-at : (t k : ℕ) → k < b .links → costsOf (part 32 t costs) k ≡ getD costs (32 * t + k) 0
+    cost-at t k h = part-at 32 t costs k (omega (arith, few))
+
+    pub plan-in-range : PlanInRange (planIn b costs)
+    plan-in-range =
+        record {
+          graph = graph-in-range _ _ _ _ _ (l .graph);
+          least = l .viewsLeast;
+          most = l .viewsMost;
+          costs = λ t low. record { most = λ k h. rw (cost-at t k h) at (costs-in-range _ _ _ _ _ (l .eachView t low) .most k h) };
+        }
+
+    module _ (t : ℕ) (low : t < b .views) where
+      pub lent-in-range : lentInRange (lentView b costs tables t) ≡ true
+      lent-in-range = let most : b .views ≤ 32 = l .viewsMost in rw (part-length 256 t tables (omega arith)) (l .eachView t low)
+
+      -- where the block of view t holds its distances
+      pub lent-offer-in :
+          ((i j : ℕ) → i < b .bridges → j < b .bridges → cell (part 256 t tables) i j ≡ distanceIn (planIn b costs) t i j) →
+          (e d : ℕ) →
+          e < 2 * b .links →
+          d < b .bridges →
+          lentOffer (lentView b costs tables t) e d ≡ offerIn (planIn b costs) t e d
+      unfolding offer present
+      lent-offer-in holds e d he hd =
+          offer-is (lentView b costs tables t) lent-in-range (λ i j hi hj. holds i j hi hj ∙ sym (same i j)) e d he hd
+          ∙ rw (cost-at t (e / 2) (omega arith), same (getD (b .ends) e 0) d, same (getD (b .ends) (opposite e) 0) d)
+        where
+          same :
+              (i j : ℕ) →
+              dist (graphOf (b .bridges) (b .links) (b .ends)) (costsOf (part 32 t costs)) i j ≡ distanceIn (planIn b costs) t i j
+          same i j = dist-cong (graphOf (b .bridges) (b .links) (b .ends)) _ _ (cost-at t) i j
+
+-- ---- the whole check
+
+pub record StateReady (s : State) : Type 0 where
+  pub lasting : LastingOf (s .bench) (s .costs) (s .tables)
+  pub sentLong : 1024 ≤ length (s .sent)
+  pub heldLong : 1024 ≤ length (s .held)
+  pub count : s .bench .messages ≤ 64
+  pub view : (y : ℕ) → y < s .bench .bridges → getD (s .bench .view) y 0 < s .bench .views
+  pub records : (e : ℕ) → e < 2 * s .bench .links → recordInRange (s .bench .views) (getD (s .bench .records) e freshRecord) ≡ true
+  pub messagesLong : 320 ≤ length (s .messages)
+  pub message : (p : ℕ) → p < s .bench .messages → messageInRange (s .bench) (s .messages) p ≡ true
+
+module _ (s : State) where
+  pub bench-ready : StateReady s → benchInRange (s .bench) ≡ true
+  unfolding benchInRange recordsInRange
+  bench-ready r =
+      true-both (graph-kept _ _ _ (r .lasting))
+      (true-both (le-leb _ _ (r .count))
+      (true-both (true-allBelow _ _ (λ y h. lt-ltb _ _ (r .view y h)))
+      (true-both (le-leb _ _ (few (s .bench) (s .costs) (s .tables) (r .lasting) .1)) (true-allBelow _ _ (r .records)))))
+
+  pub network-ready : StateReady s → stateInRange s ≡ true
+  unfolding networkInRange tablesLong
+  network-ready r =
+      true-both (bench-ready r)
+      (true-both (costs-kept _ _ _ (r .lasting))
+      (true-both (le-leb _ _ (r .lasting .tablesLong)) (true-both (le-leb _ _ (r .sentLong)) (le-leb _ _ (r .heldLong)))))
+
+  pub messages-ready : StateReady s → messagesInRange (s .bench) (s .messages) ≡ true
+  unfolding messagesInRange
+  messages-ready r = true-both (le-leb _ _ (r .messagesLong)) (true-allBelow _ _ (r .message))
+
+  pub ready : StateReady s → deliveryReady s ≡ true
+  ready r = true-both (network-ready r) (messages-ready r)
+
+  pub told : deliveryReady s ≡ true → StateReady s
+  unfolding networkInRange benchInRange recordsInRange tablesLong messagesInRange
+  told ok =
+      let b = s .bench in
+      let all = both-true (stateInRange s) _ ok in
+      let bench = both-true (benchInRange b) _ (all .0) in
+      let graph = both-true (graphInRange b) _ (bench .0) in
+      let count = both-true (leb (b .messages) 64) _ (graph .1) in
+      let views = both-true (allBelow (b .bridges) (λ y. ltb (getD (b .view) y 0) (b .views))) _ (count .1) in
+      let costs = both-true (costsInRange b (s .costs)) _ (bench .1) in
+      let tables = both-true (leb 8192 (length (s .tables))) _ (costs .1) in
+      let limits = both-true (leb 1024 (length (s .sent))) _ (tables .1) in
+      let messages = both-true (leb 320 (length (s .messages))) _ (all .1) in
+      record {
+        lasting = lasting-told b (s .costs) (s .tables) (graph .0) (costs .0) (leb-true _ _ (tables .0));
+        sentLong = leb-true _ _ (limits .0);
+        heldLong = leb-true _ _ (limits .1);
+        count = leb-true _ _ (count .0);
+        view = λ y h. ltb-true _ _ (allBelow-true _ _ (views .0) y h);
+        records = allBelow-true _ _ (both-true (leb (b .links) 32) _ (views .1) .1);
+        messagesLong = leb-true _ _ (messages .0);
+        message = allBelow-true _ _ (messages .1);
+      }
+
+-- an offer in the network that stands in a state, as the lent view makes it
+pub offer-stands :
+    (s : State) (n : Network) →
+    Represents s n →
+    (t : ℕ) →
+    t < s .bench .views →
+    (e d : ℕ) →
+    e < 2 * s .bench .links →
+    d < s .bench .bridges →
+    offerIn (n .plan) t e d ≡ lentOffer (lentView (s .bench) (s .costs) (s .tables) t) e d
+offer-stands s n r t low e d he hd =
+    rw (r .plan)
+    (sym (lent-offer-in (s .bench) (s .costs) (s .tables) (told s (r .inRange) .lasting) t low (λ i j hi hj. rw (r .plan) at (r .distances t i j low hi hj)) e d he hd))

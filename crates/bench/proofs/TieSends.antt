@@ -1,0 +1,193 @@
+-- The network still stands in the state when the messages in flight change: send and lose. Assumes nothing.
+use Prim.Native.Nat.{ℕ, _+_, _*_, _-_, _≤_, _<_}
+use native.Mathlib.Numerals.{add-one}
+use native.Mathlib.Omega.{arith}
+use mathlib.Core.Path.{_≡_, refl, sym}
+use mathlib.Core.Bool.{Bool, true, false, _&&_}
+use mathlib.Core.List.{List, [], _∷_, _++_}
+use lib.ListN.{length}
+use lib.Seq.{sets, length-sets}
+use lib.Dec.{ltb}
+use borrow.Author.Tests.{ltb-true, ltb-false}
+use Rattle.distances.proofs.Booleans.{true-both}
+use Rattle.bench.specs.Net.{Network, Message}
+use Rattle.bench.specs.Calls.{send, lose, accepted, act, step, endOf, messageOf, sentOver, without, withMessages, checks, refuse, noSuchBridge, noSuchLink, notOnLink, linkCut, noRoom, noMessage}
+use Rattle.bench.specs.State.{State, state, network, networkOf, messageFrom, messagesFrom}
+use Rattle.bench.specs.Ranges.{benchInRange, messagesInRange}
+use Rattle.bench.specs.Changes.{refusalOf}
+use Rattle.bench.specs.Flights.{numbersOf, withCount, takenOut, Flown, flown, sendOf, loseOf}
+use Rattle.bench.specs.Whole.{Represents, Typed, stepBy}
+use Rattle.bench.proofs.Links.{endOf-below}
+use Rattle.bench.proofs.Places.{skipped}
+use Rattle.bench.proofs.Accepted.{SendListed, send-listed, place-listed, accepted-checks}
+use Rattle.bench.proofs.TieRanges.{StateReady, told, ready, bench-ready, messages-ready}
+use Rattle.bench.proofs.TieRefusals.{settled-step}
+use Rattle.bench.proofs.TieFlights.{messages-length, taken-length, taken-message, taken-below, taken-messages, added-message, kept-message, added-messages}
+use Rattle.bench.proofs.TieChecks.{MessageTold, told-message, message-in-range, refusal-same}
+
+-- the state with other messages in flight
+abbrev pub withFlight : State → ℕ → List ℕ → State
+withFlight s k m = state (withCount (s .bench) k) (s .costs) (s .tables) (s .sent) (s .held) m
+
+module _ (s : State) (n : Network) (r : Represents s n) where
+  pub flight-represents :
+      (k : ℕ) (m : List ℕ) (ms : List Message) →
+      k ≤ 64 →
+      length m ≡ length (s .messages) →
+      ((p : ℕ) → p < k → MessageTold (s .bench .links) (s .bench .views) (messageFrom m p)) →
+      messagesFrom 0 k m ≡ ms →
+      Represents (withFlight s k m) (withMessages n ms)
+  flight-represents k m ms few long each are =
+      record {
+        inRange = ready (withFlight s k m) inside;
+        typed =
+            record {
+              views = ty .views;
+              numbers = ty .numbers;
+              records = ty .records;
+              cuts = ty .cuts;
+              number = ty .number;
+              received = ty .received;
+              discarded = ty .discarded;
+            };
+        plan = r .plan;
+        distances = r .distances;
+        view = r .view;
+        number = r .number;
+        cut = r .cut;
+        ends = r .ends;
+        sent = r .sent;
+        held = r .held;
+        messages = sym are;
+      }
+    where
+      ty : Typed (s .bench)
+      ty = r .typed
+
+      old : StateReady s
+      old = told s (r .inRange)
+
+      inside : StateReady (withFlight s k m)
+      inside =
+          record {
+            lasting = old .lasting;
+            sentLong = old .sentLong;
+            heldLong = old .heldLong;
+            count = few;
+            view = old .view;
+            records = old .records;
+            messagesLong = rw long (old .messagesLong);
+            message = λ p h. told-message _ _ _ (each p h);
+          }
+
+  -- one taken out
+  pub taken-represents :
+      (p : ℕ) →
+      p < s .bench .messages →
+      Represents (withFlight s (s .bench .messages - 1) (takenOut (s .bench .messages) p (s .messages))) (withMessages n (without p (n .messages)))
+  taken-represents p listed =
+      flight-represents (s .bench .messages - 1) _ _ (omega (arith, old .count)) (taken-length (s .bench .messages) p (s .messages))
+      (λ i low. rw (taken-message (s .bench .messages) p (s .messages) listed long i low)
+      (message-in-range s n r (skipped p i) (taken-below (s .bench .messages) p (s .messages) listed long i low)))
+      (rw (r .messages) (taken-messages (s .bench .messages) p (s .messages) listed long))
+    where
+      old : StateReady s
+      old = told s (r .inRange)
+
+      long : 5 * s .bench .messages ≤ length (s .messages)
+      long = omega (arith, old .count, old .messagesLong)
+
+  -- one added
+  added-represents :
+      (x : Message) →
+      s .bench .messages < 64 →
+      MessageTold (s .bench .links) (s .bench .views) x →
+      Represents (withFlight s (s .bench .messages + 1) (sets (s .messages) (5 * s .bench .messages) (numbersOf x))) (withMessages n (n .messages ++ (x ∷ [])))
+  added-represents x free inside =
+      flight-represents (s .bench .messages + 1) _ _ (omega arith) (length-sets (s .messages) (5 * s .bench .messages) (numbersOf x))
+      (λ i low. go i (ltb i (s .bench .messages)) refl low)
+      (rw (add-one, r .messages) (added-messages (s .bench .messages) (s .messages) x room))
+    where
+      room : 5 * s .bench .messages + 5 ≤ length (s .messages)
+      room = omega (arith, told s (r .inRange) .messagesLong)
+
+      go :
+          (i : ℕ) (b : Bool) →
+          ltb i (s .bench .messages) ≡ b →
+          i < s .bench .messages + 1 →
+          MessageTold (s .bench .links) (s .bench .views) (messageFrom (sets (s .messages) (5 * s .bench .messages) (numbersOf x)) i)
+      go i true q low =
+          let h : i < s .bench .messages = ltb-true _ _ q in
+          rw (kept-message (s .bench .messages) (s .messages) x room i h) (message-in-range s n r i h)
+      go i false q low =
+          let last : i ≡ s .bench .messages = omega (arith, ltb-false i (s .bench .messages) q) in
+          rw (last, added-message (s .bench .messages) (s .messages) x room) inside
+
+  -- the entry check of send and of lose
+  flight-ready : (benchInRange (s .bench) && messagesInRange (s .bench) (s .messages)) ≡ true
+  flight-ready = let old = told s (r .inRange) in true-both (bench-ready s old) (messages-ready s old)
+
+  -- what a send puts in is the same, and in range
+  module _ (y l : ℕ) (hy : y < s .bench .bridges) (hl : l < s .bench .links) where
+    same-sent : messageOf n y l ≡ messageOf (network s) y l
+    unfolding messageOf
+    same-sent =
+        rw (
+          r .ends (endOf (n .plan .graph) y l) (endOf-below (n .plan .graph) y l (s .bench .links) hl),
+          r .plan,
+          r .view y hy,
+          r .number y hy,
+        )
+
+    sent-in-range : MessageTold (s .bench .links) (s .bench .views) (messageOf (network s) y l)
+    unfolding messageOf
+    sent-in-range =
+        record {
+          link = hl;
+          direction = omega arith;
+          view = told s (r .inRange) .view y hy;
+          number = r .typed .number y hy;
+          discarded = r .typed .discarded _ (endOf-below _ y l (s .bench .links) hl);
+        }
+
+  -- the bench and the messages alone tell the refusal
+  send-refused :
+      (y l : ℕ) →
+      refusalOf (benchInRange (s .bench) && messagesInRange (s .bench) (s .messages)) (networkOf (s .bench) (s .messages)) (send y l) ≡ refuse n (send y l)
+  unfolding refusalOf checks noSuchBridge noSuchLink notOnLink linkCut noRoom
+  send-refused y l = refusal-same s n r _ (send y l) flight-ready
+
+  lose-refused :
+      (p : ℕ) →
+      refusalOf (benchInRange (s .bench) && messagesInRange (s .bench) (s .messages)) (networkOf (s .bench) (s .messages)) (lose p) ≡ refuse n (lose p)
+  unfolding refusalOf checks noMessage
+  lose-refused p = refusal-same s n r _ (lose p) flight-ready
+
+  -- the state after a send or a lose
+  flownTo : Flown → State
+  flownTo o = state (o .bench) (s .costs) (s .tables) (s .sent) (s .held) (o .messages)
+
+  flightRefused : ℕ → Flown
+  flightRefused k = flown k (s .bench) (s .messages)
+
+  sent-represents :
+      (y l : ℕ) →
+      accepted n (send y l) ≡ true →
+      Represents (withFlight s (s .bench .messages + 1) (sets (s .messages) (5 * s .bench .messages) (numbersOf (messageOf (networkOf (s .bench) (s .messages)) y l)))) (act n (send y l))
+  unfolding act sentOver messageOf
+  sent-represents y l a =
+      let listed : SendListed n y l = send-listed n y l a in
+      let hy : y < s .bench .bridges = rw (r .plan) at (listed .bridge) in
+      let hl : l < s .bench .links = rw (r .plan) at (listed .link) in
+      rw (same-sent y l hy hl)
+      (added-represents (messageOf (network s) y l) (rw (r .messages, messages-length) at (listed .room)) (sent-in-range y l hy hl))
+
+  pub send-represents : (y l : ℕ) → Represents (stepBy s (send y l)) (step n (send y l))
+  unfolding stepBy sendOf flownTo flightRefused
+  send-represents y l = settled-step flownTo n (send y l) _ flightRefused _ (send-refused y l) (λ k. r) (sent-represents y l)
+
+  pub lose-represents : (p : ℕ) → Represents (stepBy s (lose p)) (step n (lose p))
+  unfolding stepBy loseOf flownTo flightRefused act checks
+  lose-represents p =
+      settled-step flownTo n (lose p) _ flightRefused _ (lose-refused p) (λ k. r)
+      (λ a. taken-represents p (rw (r .messages, messages-length) at (place-listed n p _ (accepted-checks n (lose p) a))))

@@ -1,0 +1,42 @@
+-- Demand 3 for whoever makes the calls one after the other: the network stands in the state after `fresh`, and after each call.
+-- Assumes nothing.
+use mathlib.Core.List.{List, [], _∷_}
+use Rattle.bench.specs.Net.{Network, fresh}
+use Rattle.bench.specs.Calls.{Call, change, send, deliver, repeat, lose, port, report, path, step, run}
+use Rattle.bench.specs.State.{State}
+use Rattle.bench.specs.Whole.{Represents, WholeLists, planIn, freshBy, stepBy, runBy}
+use Rattle.bench.proofs.Theorem.{demand3}
+use Rattle.bench.proofs.TieRanges.{plan-in-range}
+use Rattle.bench.proofs.TieSteps.{change-represents, port-represents, report-represents, path-represents}
+use Rattle.bench.proofs.TieSends.{send-represents, lose-represents}
+use Rattle.bench.proofs.TieDeliveries.{deliver-represents, repeat-represents}
+use Rattle.bench.proofs.TieReports.{answers}
+use Rattle.bench.proofs.TieFresh.{fresh-lasting, fresh-represents}
+
+pub step-represents : (s : State) (n : Network) (c : Call) → Represents s n → Represents (stepBy s c) (step n c)
+step-represents s n (change x) r = change-represents s n r x
+step-represents s n (send y l) r = send-represents s n r y l
+step-represents s n (deliver p) r = deliver-represents s n r p
+step-represents s n (repeat p) r = repeat-represents s n r p
+step-represents s n (lose p) r = lose-represents s n r p
+step-represents s n (port y d) r = port-represents s n r y d
+step-represents s n (report d) r = report-represents s n r d
+step-represents s n (path y d) r = path-represents s n r y d
+
+pub run-represents : (cs : List Call) (s : State) (n : Network) → Represents s n → Represents (runBy s cs) (run n cs)
+unfolding runBy run
+run-represents [] s n r = r
+run-represents (c ∷ cs) s n r = run-represents cs (stepBy s c) (step n c) (step-represents s n c r)
+
+pub whole-lists : WholeLists
+whole-lists b costs tables sent held messages done room cs =
+    record {
+      holds = demand3 (planIn b costs) (plan-in-range b costs tables (fresh-lasting b costs tables sent held done)) cs;
+      stands = stood;
+      answers = answers _ _ stood;
+    }
+  where
+    stood : Represents (runBy (freshBy b costs tables sent held messages) cs) (run (fresh (planIn b costs)) cs)
+    stood =
+        run-represents cs (freshBy b costs tables sent held messages) (fresh (planIn b costs))
+        (fresh-represents b costs tables sent held messages done room)

@@ -1,0 +1,87 @@
+-- What port, report and path answer. Assumes nothing.
+use Prim.Native.Nat.{ℕ, zero, suc, _+_, _-_, _*_}
+use mathlib.Core.Bool.{Bool, _&&_}
+use mathlib.Core.List.{List, [], _∷_}
+use lib.ListN.{length, getD, set}
+use lib.Dec.{leb}
+use Rattle.distances.specs.View.{NONE, graphOf}
+use Rattle.distances.specs.Table.{cell}
+use Rattle.agreement.specs.Call.{Said, says, portOutcome}
+use Rattle.agreement.specs.declared.Port.{Port}
+use Rattle.agreement.specs.declared.Port.the-variants.{Closed, Open}
+use Rattle.bench.specs.Calls as calls
+use Rattle.bench.specs.Calls.{Call}
+use Rattle.bench.specs.Ports.{Hop, hopBy}
+use Rattle.bench.specs.Paths.{onward}
+use Rattle.bench.specs.Paths as paths
+use Rattle.bench.specs.State.{State, network, lentView, part}
+use Rattle.bench.specs.Changes.{refusalOf, settled, stateInRange}
+use Rattle.bench.specs.Deliveries.{refusedBy}
+use Rattle.bench.specs.declared.Bench.{Bench}
+use Rattle.bench.specs.declared.Forwarding.{Forwarding}
+use Rattle.bench.specs.declared.Way.{Way}
+
+-- each reply as document 01 has it: the number, and the value where the call is accepted
+abbrev pub forwardingSays : Forwarding → Said Port
+forwardingSays (Forwarding.Refused k) = refusedBy k
+forwardingSays (Forwarding.Found p) = says p
+
+abbrev pub waySays : Way → Said paths.Way
+waySays (Way.Refused k) = refusedBy k
+waySays (Way.Delivered h) = says (paths.delivered h)
+waySays (Way.Stops last h) = says (paths.stops last h)
+
+-- the port that layer 2 finds for bridge y, in y's view
+unfoldable pub found : List Port → Port
+found [] = Closed
+found (p ∷ ps) = p
+
+unfoldable pub portIn : State → ℕ → ℕ → Port
+portIn s y d =
+    let b : Bench = s .bench in
+    found
+    (portOutcome (lentView b (s .costs) (s .tables) (getD (b .view) y 0)) (b .views) (b .cut) (b .records) (s .sent) (s .held) y d
+    .value)
+
+-- The forwarding port of bridge y for destination d
+unfoldable pub portOf : State → ℕ → ℕ → Said Port
+portOf s y d =
+    settled (refusalOf (stateInRange s) (network s) (calls.port y d)) refusedBy (says (portIn s y d))
+
+-- The report of destination d: for each bridge below k its distance in its own view and its link, NONE for no port
+abbrev pub linkNumber : Port → ℕ
+linkNumber Closed = NONE
+linkNumber (Open l) = l
+
+unfoldable pub reportedRow : State → ℕ → ℕ → List ℕ → List ℕ
+reportedRow s d y rows =
+    set
+    (set rows (2 * y) (cell (part 256 (getD (s .bench .view) y 0) (s .tables)) y d))
+    (2 * y + 1)
+    (linkNumber (portIn s y d))
+
+unfoldable pub reported : State → ℕ → ℕ → List ℕ → List ℕ
+reported s d zero rows = rows
+reported s d (suc y) rows = reportedRow s d y (reported s d y rows)
+
+-- the reply's number and the lent rows
+pub record Reported : Type 0 where
+  pub reply : ℕ
+  pub rows : List ℕ
+
+abbrev pub report : ℕ → List ℕ → Reported
+report reply rows = record { reply = reply; rows = rows }
+
+unfoldable pub reportOf : State → ℕ → List ℕ → Reported
+reportOf s d rows =
+    settled (refusalOf (stateInRange s && leb 32 (length rows)) (network s) (calls.report d)) (λ k. report k rows)
+    (report 0 (reported s d (s .bench .bridges) rows))
+
+-- The path from bridge y to destination d, by the ports found
+unfoldable pub hopIn : State → ℕ → ℕ → Hop
+hopIn s d y = hopBy (graphOf (s .bench .bridges) (s .bench .links) (s .bench .ends)) y (portIn s y d)
+
+unfoldable pub pathOf : State → ℕ → ℕ → Said paths.Way
+pathOf s y d =
+    settled (refusalOf (stateInRange s) (network s) (calls.path y d)) refusedBy
+    (says (onward (hopIn s d) d (s .bench .bridges - 1) 0 y))

@@ -1,0 +1,86 @@
+-- What deliver and repeat answer, and make of the bench, the limit tables and the messages. Assumes nothing.
+use Prim.Native.Nat.{ℕ, _-_}
+use mathlib.Core.Bool.{Bool, _&&_}
+use mathlib.Core.List.{List, [], _∷_}
+use lib.ListN.{getD, set}
+use Rattle.agreement.specs.Record.{freshRecord}
+use Rattle.agreement.specs.Offer.{opposite}
+use Rattle.agreement.specs.Call.{Said, says, deliverOutcome}
+use Rattle.agreement.specs.declared.Agreement.{Agreement}
+use Rattle.agreement.specs.declared.Answer.{Answer}
+use Rattle.agreement.specs.declared.EndRecord.{EndRecord}
+use Rattle.bench.specs.Net.{sender}
+use Rattle.bench.specs.Calls.{Call, deliver, repeat}
+use Rattle.bench.specs.State.{State, network, lentView, messageFrom}
+use Rattle.bench.specs.Ranges.{messagesInRange}
+use Rattle.bench.specs.Changes.{refusalOf, settled, stateInRange}
+use Rattle.bench.specs.Flights.{withCount, takenOut}
+use Rattle.bench.specs.declared.Bench.{Bench}
+use Rattle.bench.specs.declared.Reaction.{Reaction}
+
+-- the reply as document 01 has it: the number, and the answer where the call is accepted
+abbrev pub refusedBy : {A : Type 0} → ℕ → Said A
+refusedBy k = record { number = k; value = [] }
+
+abbrev pub reactionSays : Reaction → Said Answer
+reactionSays (Reaction.Refused k) = refusedBy k
+reactionSays (Reaction.Answered a) = says a
+
+-- a bench, the limit tables and the messages after a call
+pub record Delivered : Type 0 where
+  pub reply : Said Answer
+  pub bench : Bench
+  pub sent : List ℕ
+  pub held : List ℕ
+  pub messages : List ℕ
+
+abbrev pub delivered : Said Answer → Bench → List ℕ → List ℕ → List ℕ → Delivered
+delivered reply bench sent held messages =
+    record { reply = reply; bench = bench; sent = sent; held = held; messages = messages }
+
+-- the bench with other records
+abbrev pub withRecords : Bench → List EndRecord → Bench
+withRecords b records =
+    record {
+      bridges = b .bridges;
+      links = b .links;
+      views = b .views;
+      messages = b .messages;
+      ends = b .ends;
+      view = b .view;
+      number = b .number;
+      records = records;
+      cut = b .cut;
+    }
+
+-- what a message carries, at end e, as layer 2 takes it there in the view of the end's bridge
+unfoldable pub receivedAt : State → ℕ → Agreement → Delivered
+receivedAt s e m =
+    let b : Bench = s .bench in
+    let y : ℕ = getD (b .ends) e 0 in
+    let t : ℕ = getD (b .view) y 0 in
+    let o =
+    deliverOutcome (lentView b (s .costs) (s .tables) t) (b .views) t (getD (b .number) y 0) e
+    (getD (b .records) e freshRecord) m (s .sent) (s .held) in
+    delivered (o .reply) (withRecords b (set (b .records) e (o .end))) (o .sent) (o .held) (s .messages)
+
+-- the message at place p, at the end opposite to its sender
+abbrev pub received : State → ℕ → Delivered
+received s p = receivedAt s (opposite (sender (messageFrom (s .messages) p))) (messageFrom (s .messages) p .agreement)
+
+-- what a delivery is handed, in range
+abbrev pub deliveryReady : State → Bool
+deliveryReady s = stateInRange s && messagesInRange (s .bench) (s .messages)
+
+abbrev pub deliveryRefused : State → ℕ → Delivered
+deliveryRefused s k = delivered (refusedBy k) (s .bench) (s .sent) (s .held) (s .messages)
+
+unfoldable pub repeatOf : State → ℕ → Delivered
+repeatOf s p = settled (refusalOf (deliveryReady s) (network s) (repeat p)) (deliveryRefused s) (received s p)
+
+unfoldable pub deliverOf : State → ℕ → Delivered
+deliverOf s p =
+    let r : Delivered = received s p in
+    let count : ℕ = s .bench .messages in
+    settled (refusalOf (deliveryReady s) (network s) (deliver p)) (deliveryRefused s)
+    (delivered (r .reply) (withCount (r .bench) (count - 1)) (r .sent) (r .held) (takenOut count p (s .messages)))

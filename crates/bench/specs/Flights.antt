@@ -1,0 +1,58 @@
+-- Messages in flight as lent numbers, five a message: what send and lose make of them. Assumes nothing.
+use Prim.Native.Nat.{ℕ, _+_, _-_, _*_}
+use mathlib.Core.Bool.{Bool, cond, _&&_}
+use mathlib.Core.List.{List, [], _∷_}
+use lib.ListN.{getD}
+use lib.Seq.{sets}
+use lib.Dec.{leb, ltb}
+use Rattle.distances.specs.Table.{rewritten}
+use Rattle.agreement.specs.declared.Agreement.{Agreement}
+use Rattle.bench.specs.Net.{Message}
+use Rattle.bench.specs.Calls.{Call, send, lose, messageOf}
+use Rattle.bench.specs.State.{networkOf}
+use Rattle.bench.specs.Ranges.{benchInRange, messagesInRange}
+use Rattle.bench.specs.Changes.{refusalOf, settled}
+use Rattle.bench.specs.declared.Bench.{Bench}
+
+-- a message's five numbers
+abbrev pub numbersOf : Message → List ℕ
+numbersOf m =
+    m .link ∷ m .direction ∷ m .agreement .view ∷ m .agreement .number ∷ m .agreement .discarded ∷ []
+
+-- the bench with another count of messages in flight
+abbrev pub withCount : Bench → ℕ → Bench
+withCount b k =
+    record {
+      bridges = b .bridges;
+      links = b .links;
+      views = b .views;
+      messages = k;
+      ends = b .ends;
+      view = b .view;
+      number = b .number;
+      records = b .records;
+      cut = b .cut;
+    }
+
+-- of `count` messages the one at place p is taken out: later ones move up by one
+unfoldable pub takenOut : ℕ → ℕ → List ℕ → List ℕ
+takenOut count p m = rewritten (λ k. leb (5 * p) k && ltb k (5 * (count - 1))) (λ k. getD m (k + 5) 0) m
+
+-- a bench and the messages after a call
+pub record Flown : Type 0 where
+  pub reply : ℕ
+  pub bench : Bench
+  pub messages : List ℕ
+
+abbrev pub flown : ℕ → Bench → List ℕ → Flown
+flown reply bench messages = record { reply = reply; bench = bench; messages = messages }
+
+unfoldable pub sendOf : Bench → List ℕ → ℕ → ℕ → Flown
+sendOf b m y l =
+    settled (refusalOf (benchInRange b && messagesInRange b m) (networkOf b m) (send y l)) (λ k. flown k b m)
+    (flown 0 (withCount b (b .messages + 1)) (sets m (5 * b .messages) (numbersOf (messageOf (networkOf b m) y l))))
+
+unfoldable pub loseOf : Bench → List ℕ → ℕ → Flown
+loseOf b m p =
+    settled (refusalOf (benchInRange b && messagesInRange b m) (networkOf b m) (lose p)) (λ k. flown k b m)
+    (flown 0 (withCount b (b .messages - 1)) (takenOut (b .messages) p m))

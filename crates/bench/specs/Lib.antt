@@ -1,0 +1,15 @@
+pub mod Net
+pub mod Calls
+pub mod Ports
+pub mod Paths
+pub mod Rounds
+pub mod Demand3
+pub mod State
+pub mod Ranges
+pub mod Changes
+pub mod Flights
+pub mod Deliveries
+pub mod Answers
+pub mod Steps
+pub mod Whole
+pub mod Examples

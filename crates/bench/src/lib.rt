@@ -1,0 +1,58 @@
+// Layer 3: the network bench, with messages in flight. A caller keeps a `Bench` by value and lends the buffers beside it: costs
+// (view t, link l at 32 t + l), the distances of each view (a block of 256 for each), two limit tables (a row of 16 for each end),
+// and the messages (five numbers for each).
+use agreement::Answer;
+use agreement::EndRecord;
+use agreement::Port;
+
+// Link l joins ends[2 l] and ends[2 l + 1]; `messages` is how many are in flight.
+pub struct Bench {
+    pub bridges: usize,
+    pub links: usize,
+    pub views: usize,
+    pub messages: usize,
+    pub ends: [u8; 64],
+    pub view: [u8; 16],
+    pub number: [u16; 16],
+    pub records: [EndRecord; 64],
+    pub cut: [bool; 32],
+}
+
+// Refused holds document 01's number.
+pub enum Reply {
+    Refused(u8),
+    Done,
+}
+
+pub enum Reaction {
+    Refused(u8),
+    Answered(Answer),
+}
+
+pub enum Forwarding {
+    Refused(u8),
+    Found(Port),
+}
+
+pub enum Way {
+    Refused(u8),
+    Delivered(usize),
+    Stops(usize, usize),
+}
+
+// Where a frame goes from a bridge: it stays, or it crosses a link to another bridge.
+pub enum Hop {
+    Stays,
+    Crosses(usize, usize),
+}
+
+// The bench after a call, beside the reply.
+pub struct Changed {
+    pub reply: Reply,
+    pub bench: Bench,
+}
+
+pub struct Delivered {
+    pub reply: Reaction,
+    pub bench: Bench,
+}

@@ -8,6 +8,7 @@ use lib.ListN.{length}
 use lib.Dec.{eqb}
 use borrow.Author.Tests.{eqb-true, leb-false, not-false}
 use Rattle.distances.proofs.Booleans.{below}
+use Rattle.distances.proofs.Refusals.{passed}
 use Rattle.bench.specs.Net.{Network}
 use Rattle.bench.specs.Calls.{Call, Check, change, send, update, refusal, noSuchBridge, noSuchView, noNumberLeft, noSuchLink, notOnLink, linkCut, noRoom, noMessage, changeChecks, checks, refuse, accepted, endOf}
 use Rattle.bench.proofs.Links.{end-at-bridge}
@@ -16,14 +17,6 @@ use Rattle.bench.proofs.Links.{end-at-bridge}
 pub accepted-checks : (n : Network) (c : Call) → accepted n c ≡ true → refusal (checks n c) ≡ 0
 unfolding accepted refuse
 accepted-checks n c e = eqb-true (refuse n c) 0 e
-
-pub passed : (c : Check) (cs : List Check) → (c .number ≡ 0 → ⊥) → refusal (c ∷ cs) ≡ 0 → (c .when ≡ false) × (refusal cs ≡ 0)
-unfolding refusal
-passed c cs positive = go (c .when) refl
-  where
-    go : (b : Bool) → c .when ≡ b → cond b (c .number) (refusal cs) ≡ 0 → (c .when ≡ false) × (refusal cs ≡ 0)
-    go true w e = absurd (positive e)
-    go false w e = (w, e)
 
 -- an accepted send
 pub record SendListed (n : Network) (b l : ℕ) : Type 0 where

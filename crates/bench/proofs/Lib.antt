@@ -4,7 +4,7 @@ pub mod Links
 pub mod Accepted
 pub mod Fresh
 pub mod Places
-pub mod Messages
+pub mod SoundMessages
 pub mod Moved
 pub mod Received
 pub mod Runs
@@ -15,7 +15,7 @@ pub mod PathEnds
 pub mod Fates
 pub mod Deliveries
 pub mod RoundLaws
-pub mod Ready
+pub mod AfterRounds
 pub mod Settles
 pub mod Theorem
 pub mod Example
@@ -37,3 +37,11 @@ pub mod TieFilled
 pub mod TieFresh
 pub mod TieWhole
 pub mod Known
+pub mod EntryChecks
+pub mod EntrySettled
+pub mod FlightSteps
+pub mod FlightRanges
+pub mod ChangeSteps
+pub mod WalkSteps
+pub mod ChangeEntry
+pub mod FlightCalls

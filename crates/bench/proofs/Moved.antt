@@ -13,7 +13,7 @@ use Rattle.bench.specs.Net.{Network, Message, offerIn, sender}
 use Rattle.bench.specs.Calls.{moved, messageAt}
 use Rattle.bench.proofs.Invariant.{InvariantBy, far}
 use Rattle.bench.proofs.Sides.{Side, raisedTo, raised-before, raised-new, far-moved, own-moved}
-use Rattle.bench.proofs.Messages.{Sound, each-sound}
+use Rattle.bench.proofs.SoundMessages.{Sound, each-sound}
 
 -- what every bridge was on, b having moved to t
 unfoldable pub movedHistory : Network → ℕ → ℕ → (ℕ → ℕ → ℕ) → ℕ → ℕ → ℕ

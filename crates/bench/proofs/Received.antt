@@ -16,7 +16,7 @@ use Rattle.bench.specs.Net.{Network, Message, offerIn, sender}
 use Rattle.bench.specs.Calls.{receivedAt, delivered, messageAt}
 use Rattle.bench.proofs.Invariant.{InvariantBy, far}
 use Rattle.bench.proofs.Sides.{Side, own-received, far-received}
-use Rattle.bench.proofs.Messages.{Sound}
+use Rattle.bench.proofs.SoundMessages.{Sound}
 
 -- the record and the rows of end e when it receives m
 module _ (n : Network) (m : Message) (e : ℕ) where

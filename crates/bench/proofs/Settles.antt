@@ -24,7 +24,7 @@ use Rattle.bench.proofs.Steps.{invariant-run}
 use Rattle.bench.proofs.PathEnds.{path-ends}
 use Rattle.bench.proofs.Deliveries.{ToldAt, ClearedAt, OneView}
 use Rattle.bench.proofs.RoundLaws.{oneView-run, round-told}
-use Rattle.bench.proofs.Ready.{Ready, ForwardsOver, chosenIn, forwards}
+use Rattle.bench.proofs.AfterRounds.{Ready, ForwardsOver, chosenIn, forwards}
 
 -- an end of an uncut link is one before the calls too
 abbrev Uncut : Network → ℕ → Type 0

@@ -10,7 +10,7 @@ use Rattle.bench.proofs.Invariant.{Invariant, InvariantBy}
 use Rattle.bench.proofs.Accepted.{accepted-checks, update-listed, place-listed, send-listed}
 use Rattle.bench.proofs.Runs.{every-run}
 use Rattle.bench.proofs.Fresh.{invariant-fresh}
-use Rattle.bench.proofs.Messages.{each-sound, kept-without, kept-sent}
+use Rattle.bench.proofs.SoundMessages.{each-sound, kept-without, kept-sent}
 use Rattle.bench.proofs.Moved.{movedHistory, kept-moved}
 use Rattle.bench.proofs.Received.{kept-delivered}
 

@@ -26,7 +26,7 @@ use Rattle.bench.specs.Changes.{refusalOf, settled, stateInRange}
 use Rattle.bench.specs.Deliveries.{refusedBy}
 use Rattle.bench.specs.Answers.{found, portIn, portOf, hopIn, pathOf}
 use Rattle.bench.specs.Whole.{Represents}
-use Rattle.bench.proofs.Accepted.{passed}
+use Rattle.distances.proofs.Refusals.{passed}
 use Rattle.bench.proofs.Links.{across-below}
 use Rattle.bench.proofs.Hops.{port-forwards, hop-crosses}
 use Rattle.bench.proofs.TieRanges.{StateReady, told, network-ready, few, lent-in-range, plan-in-range, part-at}

@@ -12,7 +12,8 @@ use Rattle.bench.specs.State.{State, state}
 use Rattle.bench.specs.Ranges.{graphInRange, benchInRange, costsInRange, messagesInRange, networkInRange}
 use Rattle.bench.specs.Changes.{Changed, changed as leaving, refusalOf, benchWithCut, cutOf, restoreOf}
 use Rattle.bench.specs.Whole.{Represents, stepBy}
-use Rattle.bench.proofs.Accepted.{passed, accepted-checks}
+use Rattle.distances.proofs.Refusals.{passed}
+use Rattle.bench.proofs.Accepted.{accepted-checks}
 use Rattle.bench.proofs.TieRanges.{getD-stored, told, bench-ready, few}
 use Rattle.bench.proofs.TieRefusals.{settled-step}
 use Rattle.bench.proofs.TieChecks.{refusal-same}

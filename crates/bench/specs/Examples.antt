@@ -85,12 +85,12 @@ allExamples =
     ∷ record { found = ownDistance (after callsE4) 1 0 ∷ uses callsE4 1 ∷ way callsE4 2; stated = 4 ∷ NONE ∷ 1 ∷ 1 ∷ 1 ∷ [] }
     ∷ record { found = uses callsE5 2 ∷ []; stated = 2 ∷ [] }
     ∷ record {
-        found =
-            heldLimit (after callsE6 .records .ends 2) (after callsE6 .records .held 2) 0
-            ∷ after callsE6 .records .sent 2 0
-            ∷ uses callsE6 1
-            ∷ [];
-        stated = 4 ∷ 2 ∷ NONE ∷ []
+      found =
+          heldLimit (after callsE6 .records .ends 2) (after callsE6 .records .held 2) 0
+          ∷ after callsE6 .records .sent 2 0
+          ∷ uses callsE6 1
+          ∷ [];
+      stated = 4 ∷ 2 ∷ NONE ∷ [];
     }
     ∷ record { found = uses callsE7 1 ∷ []; stated = 1 ∷ [] }
     ∷ record { found = messageAt (after callsE7) 0 .agreement .number ∷ answered callsE7 0 ∷ []; stated = 1 ∷ 0 ∷ [] }

@@ -5,6 +5,18 @@ use agreement::Answer;
 use agreement::EndRecord;
 use agreement::Port;
 
+pub mod answers;
+pub mod changes;
+mod flights;
+pub mod messages;
+mod moves;
+mod ready;
+mod receives;
+mod refusals;
+mod replies;
+mod starts;
+mod walks;
+
 // Link l joins ends[2 l] and ends[2 l + 1]; `messages` is how many are in flight.
 pub struct Bench {
     pub bridges: usize,

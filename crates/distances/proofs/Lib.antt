@@ -8,3 +8,4 @@ pub mod Known
 pub mod Tables
 pub mod Steps
 pub mod Ranges
+pub mod Refusals

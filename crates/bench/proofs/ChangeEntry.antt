@@ -1,0 +1,50 @@
+-- What the entry checks and the table tell the calls that rewrite a bench. Assumes nothing.
+use Prim.Native.Nat.{ℕ, _<_}
+use native.Mathlib.Omega.{arith}
+use mathlib.Core.Path.{_≡_, refl, sym, _∙_}
+use mathlib.Core.Bool.{true, _&&_, false≢true}
+use mathlib.Core.List.{List, []}
+use borrow.Author.Tests.{leb-true, eq-eqb, ne-eqb}
+use lib.ListN.{length}
+use lib.Dec.{leb}
+use Rattle.distances.proofs.Booleans.{both-true}
+use Rattle.bench.specs.Net.{Network}
+use Rattle.bench.specs.Calls.{change, update, noSuchBridge, noSuchView, noNumberLeft, changeChecks, checks, refuse, accepted}
+use Rattle.bench.specs.State.{State, network, networkOf}
+use Rattle.bench.specs.Ranges.{graphInRange, benchInRange, costsInRange, tablesLong, networkInRange}
+use Rattle.bench.specs.declared.Bench.{Bench}
+use Rattle.bench.proofs.Accepted.{UpdateListed, update-listed}
+use Rattle.bench.proofs.TieRanges.{LastingOf, lasting-told}
+
+module _ (b : Bench) (costs tables : List ℕ) (sent held : ℕ) where
+  -- what no call changes, told by the parts of an entry check
+  rows-lasting : graphInRange b ≡ true → (costsInRange b costs && tablesLong (length tables) sent held) ≡ true → LastingOf b costs tables
+  unfolding tablesLong
+  rows-lasting graph ok =
+      let rows = both-true (costsInRange b costs) _ ok in
+      lasting-told b costs tables graph (rows .0) (leb-true _ _ (both-true (leb 8192 (length tables)) _ (rows .1) .0))
+
+  -- what `fresh` checks
+  pub plan-lasting : (graphInRange b && (costsInRange b costs && tablesLong (length tables) sent held)) ≡ true → LastingOf b costs tables
+  plan-lasting ok = let g = both-true (graphInRange b) _ ok in rows-lasting (g .0) (g .1)
+
+  -- what most calls check
+  pub network-lasting : networkInRange b costs (length tables) sent held ≡ true → LastingOf b costs tables
+  unfolding networkInRange benchInRange
+  network-lasting ok = let n = both-true (benchInRange b) _ ok in rows-lasting (both-true (graphInRange b) _ (n .0) .0) (n .1)
+
+-- an update's checks read the bench alone
+pub update-same : (s : State) (y t : ℕ) → refuse (networkOf (s .bench) []) (change (update y t)) ≡ refuse (network s) (change (update y t))
+unfolding refuse checks changeChecks noSuchBridge noSuchView noNumberLeft
+update-same s y t = refl
+
+module _ (n : Network) (y t : ℕ) where
+  pub update-told : {k : ℕ} → k ≡ refuse n (change (update y t)) → k ≡ 0 → UpdateListed n y t
+  unfolding accepted
+  update-told e none = update-listed n y t (eq-eqb _ _ (sym e ∙ none))
+
+  -- a bridge that goes to another view has a number left
+  pub number-left : UpdateListed n y t → n .number y < 65536 → (n .view y ≡ t → ⊥) → n .number y < 65535
+  number-left listed fits other =
+      let some : n .number y ≡ 65535 → ⊥ = λ e. false≢true (sym (rw (eq-eqb _ _ e, ne-eqb _ _ other) at (listed .numberLeft))) in
+      omega arith

@@ -1,0 +1,42 @@
+-- One turn of each loop that rewrites a bench: the next end moved, the next end started, the next view filled. Assumes nothing.
+use Prim.Native.Nat.{ℕ, _+_, _<_}
+use native.Mathlib.Numerals.{add-one}
+use mathlib.Core.List.{List, map}
+use mathlib.Core.Path.{_≡_, _∙_, sym}
+use lib.ListN.{length, length-map, getD, set}
+use Rattle.agreement.specs.Call.{Lent, outcome, freshOutcome}
+use Rattle.agreement.specs.Record.{freshRecord}
+use Rattle.agreement.specs.declared.EndRecord.{EndRecord}
+use Rattle.agreement.proofs.Basics.{getD-default}
+use Rattle.bench.specs.Changes.{Ends, ends, ended, movedEnd, movedEnds, Limits, limits, startedEnds, filledView, filledTables}
+
+-- a record is read with the array's own default
+pub moved-more :
+    (v : Lent) (views y t e : ℕ) (start : Ends) (d : EndRecord)
+    {records : List EndRecord} {sent held sent' held' : List ℕ} {r : EndRecord} →
+    ends records sent held ≡ movedEnds v views y t e start →
+    e < length records →
+    ended r sent' held' ≡ movedEnd v views t y e (getD records e d) sent held →
+    ends (set records e r) sent' held' ≡ movedEnds v views y t (e + 1) start
+unfolding movedEnds
+moved-more v views y t e start d {records} i h m = rw (add-one, ← i, getD-default records e freshRecord d h, ← m)
+
+pub started-more :
+    (v : Lent) (e : ℕ) (start : Limits) {sent held sent' held' : List ℕ} {k : ℕ} {r : EndRecord} →
+    limits sent held ≡ startedEnds v e start →
+    outcome k r sent' held' ≡ freshOutcome v e sent held →
+    limits sent' held' ≡ startedEnds v (e + 1) start
+unfolding startedEnds
+started-more v e start i m = rw (add-one, ← i, ← m)
+
+pub filled-more :
+    (bridges links : ℕ) (places costs : List ℕ) (t : ℕ) (start : List ℕ) {tables next : List ℕ} →
+    tables ≡ filledTables bridges links places costs t start →
+    next ≡ filledView bridges links places costs t tables →
+    next ≡ filledTables bridges links places costs (t + 1) start
+unfolding filledTables
+filled-more bridges links places costs t start i m = m ∙ rw (add-one, i)
+
+-- an array of structs in a struct is as long as its type says
+pub length-mapped : (X Y : Type 0) (f : X → Y) (l : List X) (n : ℕ) → length (map f l) ≡ n → length l ≡ n
+length-mapped X Y f l n e = sym (length-map l f) ∙ e

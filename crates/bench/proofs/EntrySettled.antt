@@ -1,0 +1,31 @@
+-- What a call comes to by the checks that it makes: 17 out of range, else the table's number, else what it does. Assumes nothing.
+use Prim.Native.Nat.{ℕ, _<_}
+use native.Mathlib.Omega.{arith}
+use mathlib.Core.Path.{_≡_}
+use mathlib.Core.Bool.{Bool, true, false}
+use mathlib.Core.List.{List, _∷_}
+use borrow.Author.Tests.{ne-eqb}
+use Rattle.distances.proofs.Booleans.{below}
+use Rattle.bench.specs.Net.{Network}
+use Rattle.bench.specs.Calls.{Call, Check, refusal, refuse, noSuchLink}
+use Rattle.bench.specs.Changes.{refusalOf, settled}
+use Rattle.distances.proofs.Refusals.{passed}
+use Rattle.bench.proofs.TieRefusals.{refusal-ready}
+
+module _ {A : Type 0} (ok : Bool) (n : Network) (c : Call) (refused : ℕ → A) (done : A) where
+  pub out-of-range : ok ≡ false → refused 17 ≡ settled (refusalOf ok n c) refused done
+  unfolding refusalOf refusal
+  out-of-range e = rw e
+
+  -- in range, and the table's number k
+  module _ (e : ok ≡ true) (k : ℕ) (same : k ≡ refuse n c) where
+    pub turned-down : (k ≡ 0 → ⊥) → refused k ≡ settled (refusalOf ok n c) refused done
+    turned-down some = rw (refusal-ready ok n c e, ← same, ne-eqb k 0 some)
+
+    pub goes-on : k ≡ 0 → done ≡ settled (refusalOf ok n c) refused done
+    goes-on none = rw (refusal-ready ok n c e, ← same, none)
+
+-- the link of a call that the table lets pass
+pub link-listed : (n : Network) (l : ℕ) (cs : List Check) → refusal (noSuchLink n l ∷ cs) ≡ 0 → l < n .plan .graph .links
+unfolding noSuchLink
+link-listed n l cs e = below l (n .plan .graph .links) (passed (noSuchLink n l) cs (omega arith) e .0)

@@ -1,0 +1,167 @@
+-- The steps of the code that finds ports and follows them: the port layer 2 answers, the link of an open port, the bridge a hop leads
+-- to, one hop of a walk; and a bridge that the table lets pass. Assumes nothing.
+use Prim.Native.Nat.{ℕ, zero, suc, _+_, _-_, _*_, _≤_, _<_}
+use native.Mathlib.Numerals.{add-one}
+use native.Mathlib.Omega.{arith}
+use mathlib.Core.Path.{_≡_, refl, sym, ap, _∙_}
+use mathlib.Core.Bool.{Bool, true, false, cond}
+use mathlib.Core.List.{List, [], _∷_}
+use borrow.Author.Tests.{eq-eqb, ne-eqb}
+use lib.ListN.{length, getD, take, drop}
+use lib.Dec.{eqb}
+use Rattle.distances.specs.View.{Graph, graphOf, costsOf}
+use Rattle.distances.specs.Table.{cell}
+use Rattle.distances.proofs.Booleans.{below}
+use Rattle.distances.proofs.Refusals.{passed}
+use Rattle.agreement.specs.Forwarding.{port}
+use Rattle.agreement.specs.Ranges.{portInRange}
+use Rattle.agreement.specs.Call.{Said, Lent, lent, lentGraph, lentRecords, says, refused, forwardingSays, portOutcome}
+use Rattle.agreement.specs.declared.EndRecord.{EndRecord}
+use Rattle.agreement.specs.declared.Forwarding.{Forwarding}
+use Rattle.agreement.specs.declared.Port.{Port}
+use Rattle.agreement.specs.declared.Port.the-variants.{Closed, Open}
+use Rattle.agreement.proofs.Forwards.{open-forwards}
+use Rattle.bench.specs.Net.{Network}
+use Rattle.bench.specs.Calls.{Check, refusal, noSuchBridge}
+use Rattle.bench.specs.Ports.{Hop, stays, crosses, across, hopBy}
+use Rattle.bench.specs.Paths.{delivered, stops, follow, onward}
+use Rattle.bench.specs.State.{State, state, lentView, part}
+use Rattle.bench.specs.Answers.{found, portIn, hopIn, reportedRow, reported}
+use Rattle.bench.specs.Steps.{Ready}
+use Rattle.bench.specs.declared.Bench.{Bench}
+use Rattle.bench.proofs.TieRanges.{part-at}
+
+-- ---- the port that layer 2 answers
+
+-- the port in its answer
+abbrev pub portSaid : Forwarding → Port
+portSaid Forwarding.Refused = Closed
+portSaid (Forwarding.Found p) = p
+
+said-found : (r : Forwarding) (o : Said Port) → forwardingSays r ≡ o → portSaid r ≡ found (o .value)
+unfolding found
+said-found Forwarding.Refused o e = rw (sym e)
+said-found (Forwarding.Found p) o e = rw (sym e)
+
+-- lent the row of costs and the block of distances of y's view
+pub port-found :
+    (b : Bench) (costs tables sent held : List ℕ) (y d : ℕ) (r : Forwarding) →
+    let t : ℕ = getD (b .view) y 0 in
+    forwardingSays r
+    ≡ portOutcome
+    (lent (b .bridges) (b .links) (b .ends) (take (32 * t + 32 - 32 * t) (drop (32 * t) costs))
+    (take (256 * t + 256 - 256 * t) (drop (256 * t) tables)))
+    (b .views) (b .cut) (b .records) sent held y d →
+    portSaid r ≡ portIn (state b costs tables sent held []) y d
+unfolding portIn
+port-found b costs tables sent held y d r e =
+    let t : ℕ = getD (b .view) y 0 in
+    let row : 32 * t + 32 - 32 * t ≡ 32 = omega arith in
+    let block : 256 * t + 256 - 256 * t ≡ 256 = omega arith in
+    said-found r _ (rw (row, block) at e)
+
+-- ---- the link of an open port is one of the links
+
+outcome-link :
+    (v : Lent) (views : ℕ) (cut : List Bool) (records : List EndRecord) (sent held : List ℕ) (y d l : ℕ) →
+    found (portOutcome v views cut records sent held y d .value) ≡ Open l →
+    l < v .links
+unfolding found portOutcome
+outcome-link v views cut records sent held y d l =
+    go (portInRange (v .bridges) (v .links) (v .ends) (v .costs) (v .table) views records (length sent) (length held) y d)
+  where
+    p : Port
+    p = port (lentGraph v) (costsOf (v .costs)) (cell (v .table)) (lentRecords cut records sent held) y d
+
+    go : (ok : Bool) → found (cond ok (says p) refused .value) ≡ Open l → l < v .links
+    go true o =
+        let by = open-forwards (lentGraph v) (costsOf (v .costs)) (cell (v .table)) (lentRecords cut records sent held) y d l o in
+        omega (arith, by .listed, by .link)
+    go false o = absurd (let z : _≡_ {A = ℕ} 0 1 = cc in omega arith)
+
+pub open-link : (s : State) (y d l : ℕ) → portIn s y d ≡ Open l → l < s .bench .links
+unfolding portIn
+open-link s y d l =
+    let b : Bench = s .bench in
+    outcome-link (lentView b (s .costs) (s .tables) (getD (b .view) y 0)) (b .views) (b .cut) (b .records) (s .sent) (s .held) y d l
+
+-- ---- a hop leads to a bridge
+
+across-below :
+    (g : Graph) → ((e : ℕ) → e < 2 * g .links → g .bridgeAt e < g .bridges) → (l y : ℕ) → l < g .links → across g l y < g .bridges
+unfolding across
+across-below g are l y h = go (eqb (g .bridgeAt (2 * l)) y)
+  where
+    go : (t : Bool) → cond t (g .bridgeAt (2 * l + 1)) (g .bridgeAt (2 * l)) < g .bridges
+    go true = are (2 * l + 1) (omega arith)
+    go false = are (2 * l) (omega arith)
+
+pub hop-leads :
+    (b : Bench) (costs tables sent held : List ℕ) →
+    Ready b costs tables →
+    (d y l z : ℕ) →
+    hopIn (state b costs tables sent held []) d y ≡ crosses l z →
+    z < b .bridges
+unfolding hopIn hopBy
+hop-leads b costs tables sent held ready d y l z = go (portIn s y d) refl
+  where
+    s : State
+    s = state b costs tables sent held []
+
+    g : Graph
+    g = graphOf (b .bridges) (b .links) (b .ends)
+
+    go : (p : Port) → portIn s y d ≡ p → hopBy g y p ≡ crosses l z → z < b .bridges
+    go Closed at e = absurd (let o : _≡_ {A = ℕ} 0 1 = cc in omega arith)
+    go (Open k) at e =
+        let same : across g k y ≡ z = cc in
+        rw same at (across-below g (ready .areBridges) k y (open-link s y d k at))
+
+-- ---- a walk, hop by hop
+
+module _ (next : ℕ → Hop) (d : ℕ) where
+  pub onward-here : (left h y : ℕ) → y ≡ d → onward next d left h y ≡ delivered h
+  unfolding onward
+  onward-here zero h y e = rw (eq-eqb y d e)
+  onward-here (suc left) h y e = rw (eq-eqb y d e)
+
+  pub onward-stops : (left h y : ℕ) → (y ≡ d → ⊥) → next y ≡ stays → onward next d left h y ≡ stops y h
+  unfolding onward follow
+  onward-stops zero h y apart e = rw (ne-eqb y d apart)
+  onward-stops (suc left) h y apart e = rw (ne-eqb y d apart, e)
+
+  onward-crosses : (left h y l z : ℕ) → (y ≡ d → ⊥) → next y ≡ crosses l z → onward next d (suc left) h y ≡ onward next d left (suc h) z
+  unfolding onward follow
+  onward-crosses left h y l z apart e = rw (ne-eqb y d apart, e)
+
+  -- at most `most` hops in all
+  pub onward-more :
+      (most h y l z : ℕ) →
+      h < most →
+      (y ≡ d → ⊥) →
+      next y ≡ crosses l z →
+      onward next d (most - h) h y ≡ onward next d (most - (h + 1)) (h + 1) z
+  onward-more most h y l z low apart e =
+      let left : most - h ≡ suc (most - (h + 1)) = omega arith in
+      rw (left, add-one) (onward-crosses (most - suc h) h y l z apart e)
+
+  pub onward-last : (most h y : ℕ) → most ≤ h → onward next d (most - h) h y ≡ cond (eqb y d) (delivered h) (stops y h)
+  unfolding onward
+  onward-last most h y past = let none : most - h ≡ 0 = omega arith in rw none
+
+-- ---- a bridge that the table lets pass
+
+pub bridge-listed : (n : Network) (y : ℕ) (cs : List Check) → refusal (noSuchBridge n y ∷ cs) ≡ 0 → y < n .plan .graph .bridges
+unfolding noSuchBridge
+bridge-listed n y cs e = below y (n .plan .graph .bridges) (passed (noSuchBridge n y) cs (omega arith) e .0)
+
+-- ---- the report, row by row
+
+-- bridge y's distance, in the block of its view
+pub own-cell : (t y d : ℕ) (tables : List ℕ) → y < 16 → d < 16 → getD tables (256 * t + 16 * y + d) 0 ≡ cell (part 256 t tables) y d
+unfolding cell
+own-cell t y d tables hy hd = ap (λ (p : ℕ). getD tables p 0) (omega arith) ∙ sym (part-at 256 t tables (16 * y + d) (omega arith))
+
+pub reported-more : (s : State) (d y : ℕ) (rows : List ℕ) → reportedRow s d y (reported s d y rows) ≡ reported s d (y + 1) rows
+unfolding reported
+reported-more s d y rows = rw add-one

@@ -1,0 +1,30 @@
+-- `flights::end_of` meets its contract. Assumes nothing.
+use borrow.Author.Tests.{eq-eqb, ne-eqb}
+use borrow.Author.Needs.{needs}
+use Rattle.bench.specs.Calls.{endOf}
+use Rattle.bench.proofs.flights.end_of.Statement.{statement}
+use Rattle.bench.proofs.flights.end_of.Tie as tie
+
+mul-first : tie.Need-mul-first
+mul-first c = search needs
+
+element-copy-out-at : tie.Need-element-copy-out-at
+element-copy-out-at c = search needs
+
+cast-at : tie.Need-cast-at
+cast-at c = search needs
+
+add-result : tie.Need-add-result
+add-result c = search needs
+
+returns : tie.Need-returns
+unfolding endOf
+returns c = rw (eq-eqb _ _ (c .if1 .taken))
+
+returns-2 : tie.Need-returns-2
+unfolding endOf
+returns-2 c = rw (ne-eqb _ _ (c .if1 .left))
+
+pub end-of-spec : {M : Type 1} → statement M
+end-of-spec =
+    tie.close (tie.spec mul-first element-copy-out-at cast-at add-result returns returns-2)

@@ -1,0 +1,71 @@
+-- `messages::deliver` meets its contract. What an accepted delivery is handed is ready for the private functions (`delivery-told`). Assumes
+-- nothing.
+use native.Mathlib.Omega.{arith}
+use borrow.Author.Needs.{needs}
+use Rattle.bench.specs.State.{State, state}
+use Rattle.bench.proofs.FlightCalls.{DeliveryTold, delivery-told, deliver-refused, deliver-done}
+use Rattle.bench.proofs.messages.deliver.Statement.{statement}
+use Rattle.bench.proofs.messages.deliver.Tie as tie
+
+-- what is handed over
+abbrev handed : tie.Start → State
+handed s =
+    let a = s .args in
+    state (a .bench) (a .costs .now) (a .tables .now) (a .sent .now) (a .held .now) (a .messages .now)
+
+-- what an accepted call is handed
+told : (c : tie.Else1) → DeliveryTold (handed (c .before .before .before .before .before .before .before .before)) (c .before .before .before .before .before .before .before .before .args .place)
+told c = delivery-told (handed (c .before .before .before .before .before .before .before .before)) _ _ (c .before .delivery-refusal .ensures) (c .if1 .left)
+
+delivery-refusal-requires : tie.Need-delivery-refusal-requires
+delivery-refusal-requires c κs = search needs
+
+refused-delivery-requires : tie.Need-refused-delivery-requires
+refused-delivery-requires c κs = search needs
+
+same-length : tie.Need-same-length
+same-length c = search needs
+
+returns : tie.Need-returns
+returns c = deliver-refused (handed (c .before .before .before .before .before .before .before .before .before)) _ _ (c .before .before .delivery-refusal .ensures) (c .before .if1 .taken) (c .refused-delivery .ensures .0) (c .refused-delivery .ensures .1)
+
+receive-at-requires : tie.Need-receive-at-requires
+receive-at-requires c κs = let h = told (c .before .before .before) in (h .ready, (omega arith, h .long, h .message))
+
+take-out-requires : tie.Need-take-out-requires
+take-out-requires c κs = let h = told (c .before .before .before .before .before .before .before .before .before) in (h .listed, h .count, h .long)
+
+sub-with-count : tie.Need-sub-with-count
+sub-with-count c = omega (arith, told (c .before .before .before .before .before .before .before .before .before .before .before .before .before) .listed)
+
+with-count-requires : tie.Need-with-count-requires
+with-count-requires c κs = search needs
+
+same-length-2 : tie.Need-same-length-2
+same-length-2 c = search needs
+
+same-length-3 : tie.Need-same-length-3
+same-length-3 c = search needs
+
+same-length-4 : tie.Need-same-length-4
+same-length-4 c = search needs
+
+returns-2 : tie.Need-returns-2
+returns-2 c = deliver-done (handed (c .before .before .before .before .before .before .before .before .before .before .before .before .before .before .before .before .before .before .before .before .before .before)) _ _ (c .before .before .before .before .before .before .before .before .before .before .before .before .before .before .before .delivery-refusal .ensures) (c .before .before .before .before .before .before .before .before .before .before .before .before .before .before .if1 .left) (c .before .before .before .before .before .before .before .before .before .before .receive-at .ensures) (c .with-count .ensures) (c .before .before .before .before .take-out .ensures)
+
+pub deliver-spec : {M : Type 1} → statement M
+deliver-spec =
+    tie.close
+    (tie.spec
+    delivery-refusal-requires
+    refused-delivery-requires
+    same-length
+    returns
+    receive-at-requires
+    take-out-requires
+    sub-with-count
+    with-count-requires
+    same-length-2
+    same-length-3
+    same-length-4
+    returns-2)

@@ -1,0 +1,145 @@
+-- `receives::receive` meets its contract. The bench is ready, so the view's costs and distances can be lent, and what layer 2 makes of the
+-- end stands in the bench (`received-end`). Assumes nothing.
+use Prim.Native.Nat.{_<_}
+use native.Mathlib.Omega.{arith}
+use mathlib.Core.Path.{_≡_, refl}
+use borrow.Author.Needs.{needs}
+use lib.ListN.{length}
+use Rattle.agreement.specs.Record.{freshRecord}
+use Rattle.agreement.proofs.Basics.{getD-default}
+use Rattle.bench.proofs.ChangeSteps.{length-mapped}
+use Rattle.bench.proofs.FlightSteps.{Placed, placed, received-end}
+use Rattle.bench.proofs.receives.receive.Statement.{statement}
+use Rattle.bench.proofs.receives.receive.Tie as tie
+
+-- what the ready bench tells of the end
+told : (s : tie.Start) → Placed (s .args .t1) (s .args .end)
+told s = placed (s .pre .0) (s .args .end) (s .pre .1)
+
+-- as many records as the type says
+listed : (s : tie.Start) → length (s .args .t1 .records) ≡ 64
+listed s = search (needs, length-mapped)
+
+element-copy-out-bridge : tie.Need-element-copy-out-bridge
+element-copy-out-bridge c = search needs
+
+cast-bridge : tie.Need-cast-bridge
+cast-bridge c = search needs
+
+element-copy-out-view : tie.Need-element-copy-out-view
+element-copy-out-view c = told (c .before .before .before .before .before .before) .bridge
+
+cast-row : tie.Need-cast-row
+cast-row c = search needs
+
+mul-row : tie.Need-mul-row
+mul-row c = omega (arith, told (c .before .before .before .before .before .before .before))
+
+add-row-past : tie.Need-add-row-past
+add-row-past c = omega (arith, told (c .before .before .before .before .before .before .before))
+
+cast-block : tie.Need-cast-block
+cast-block c = search needs
+
+mul-block : tie.Need-mul-block
+mul-block c = omega (arith, told (c .before .before .before .before .before .before .before))
+
+add-block-past : tie.Need-add-block-past
+add-block-past c = omega (arith, told (c .before .before .before .before .before .before .before))
+
+slice-aggregate-deliver-end : tie.Need-slice-aggregate-deliver-end
+slice-aggregate-deliver-end c = search needs
+
+mul-deliver-end : tie.Need-mul-deliver-end
+mul-deliver-end c = omega (arith, told (c .before .before .before .before .before .before .before .before))
+
+sub-deliver-end : tie.Need-sub-deliver-end
+sub-deliver-end c = search needs
+
+part-deliver-end-start : tie.Need-part-deliver-end-start
+part-deliver-end-start c = search needs
+
+part-deliver-end-end : tie.Need-part-deliver-end-end
+part-deliver-end-end c = omega (arith, told (c .before .before .before .before .before .before .before .before), c .before .before .before .before .before .before .before .before .pre .0 .costsLong)
+
+mul-deliver-end-2 : tie.Need-mul-deliver-end-2
+mul-deliver-end-2 c = omega (arith, told (c .before .before .before .before .before .before .before .before .before))
+
+sub-deliver-end-2 : tie.Need-sub-deliver-end-2
+sub-deliver-end-2 c = search needs
+
+part-deliver-end-start-2 : tie.Need-part-deliver-end-start-2
+part-deliver-end-start-2 c = search needs
+
+part-deliver-end-end-2 : tie.Need-part-deliver-end-end-2
+part-deliver-end-end-2 c = omega (arith, told (c .before .before .before .before .before .before .before .before .before), c .before .before .before .before .before .before .before .before .before .pre .0 .tablesLong)
+
+mul-deliver-end-3 : tie.Need-mul-deliver-end-3
+mul-deliver-end-3 c = omega (arith, told (c .before .before .before .before .before .before .before .before .before .before))
+
+element-copy-out-deliver-end : tie.Need-element-copy-out-deliver-end
+element-copy-out-deliver-end c = told (c .before .before .before .before .before .before .before .before .before .before) .bridge
+
+mul-deliver-end-4 : tie.Need-mul-deliver-end-4
+mul-deliver-end-4 c = search needs
+
+element-copy-out-deliver-end-2 : tie.Need-element-copy-out-deliver-end-2
+element-copy-out-deliver-end-2 c = search needs
+
+deliver-end-requires : tie.Need-deliver-end-requires
+deliver-end-requires c κs = search needs
+
+mul-after : tie.Need-mul-after
+mul-after c = search needs
+
+element-set-from-after : tie.Need-element-set-from-after
+element-set-from-after c = search needs
+
+reaction-of-requires : tie.Need-reaction-of-requires
+reaction-of-requires c κs = search needs
+
+same-length : tie.Need-same-length
+same-length c = search needs
+
+same-length-2 : tie.Need-same-length-2
+same-length-2 c = search needs
+
+returns : tie.Need-returns
+returns c = let s = c .before .before .before .before .before .before .before .before .before .before .before .before .before .before .before .before .before .before .before .before .before .args in
+    let h : s .end < length (s .t1 .records) = omega (arith, listed (c .before .before .before .before .before .before .before .before .before .before .before .before .before .before .before .before .before .before .before .before .before), c .before .before .before .before .before .before .before .before .before .before .before .before .before .before .before .before .before .before .before .before .before .pre .1, c .before .before .before .before .before .before .before .before .before .before .before .before .before .before .before .before .before .before .before .before .before .pre .0 .fewLinks) in
+    received-end (s .t1) (s .costs .now) (s .tables .now) (s .sent .now) (s .held .now) (s .end) _ (s .message) _ refl
+    (getD-default (s .t1 .records) (s .end) _ freshRecord h) (c .reaction-of .ensures) (c .before .before .before .before .before .before .deliver-end .ensures)
+
+pub receive-spec : {M : Type 1} → statement M
+receive-spec =
+    tie.close
+    (tie.spec
+    element-copy-out-bridge
+    cast-bridge
+    element-copy-out-view
+    cast-row
+    mul-row
+    add-row-past
+    cast-block
+    mul-block
+    add-block-past
+    slice-aggregate-deliver-end
+    mul-deliver-end
+    sub-deliver-end
+    part-deliver-end-start
+    part-deliver-end-end
+    mul-deliver-end-2
+    sub-deliver-end-2
+    part-deliver-end-start-2
+    part-deliver-end-end-2
+    mul-deliver-end-3
+    element-copy-out-deliver-end
+    mul-deliver-end-4
+    element-copy-out-deliver-end-2
+    deliver-end-requires
+    mul-after
+    element-set-from-after
+    reaction-of-requires
+    same-length
+    same-length-2
+    returns)

@@ -1,0 +1,60 @@
+-- `refusals::deliver_refusal` meets its contract. Each return cites the tests that led to it. Assumes nothing.
+use native.Mathlib.Omega.{arith}
+use borrow.Author.Needs.{needs}
+use borrow.Author.Tests.{lt-ltb, le-ltb}
+use Rattle.bench.specs.Calls.{refuse, checks, refusal, noMessage, linkCut}
+use Rattle.bench.proofs.TieFlights.{messages-length, message-at}
+use Rattle.bench.proofs.refusals.deliver_refusal.Statement.{statement}
+use Rattle.bench.proofs.refusals.deliver_refusal.Tie as tie
+
+returns : tie.Need-returns
+unfolding refuse checks refusal noMessage
+returns c = rw (messages-length, le-ltb _ _ (c .if1 .taken))
+
+mul-link : tie.Need-mul-link
+mul-link c = search needs
+
+mul-link-2 : tie.Need-mul-link-2
+mul-link-2 c = search needs
+
+shared-slice-read-link : tie.Need-shared-slice-read-link
+shared-slice-read-link c = search needs
+
+cast-link : tie.Need-cast-link
+cast-link c = omega (arith, c .before .before .pre .1 (c .before .if1 .left))
+
+element-copy-out-if2 : tie.Need-element-copy-out-if2
+element-copy-out-if2 c = omega (arith, c .before .before .pre .1 (c .before .if1 .left))
+
+returns-2 : tie.Need-returns-2
+unfolding refuse checks refusal noMessage linkCut
+returns-2 c =
+    rw (
+      messages-length,
+      lt-ltb _ _ (c .before .before .before .if1 .left),
+      message-at _ _ _ (c .before .before .before .if1 .left),
+      c .if2 .taken,
+    )
+
+returns-3 : tie.Need-returns-3
+unfolding refuse checks refusal noMessage linkCut
+returns-3 c =
+    rw (
+      messages-length,
+      lt-ltb _ _ (c .before .before .before .if1 .left),
+      message-at _ _ _ (c .before .before .before .if1 .left),
+      c .if2 .left,
+    )
+
+pub deliver-refusal-spec : {M : Type 1} → statement M
+deliver-refusal-spec =
+    tie.close
+    (tie.spec
+    returns
+    mul-link
+    mul-link-2
+    shared-slice-read-link
+    cast-link
+    element-copy-out-if2
+    returns-2
+    returns-3)

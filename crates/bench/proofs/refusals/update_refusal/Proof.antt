@@ -1,0 +1,62 @@
+-- `refusals::update_refusal` meets its contract. Each return cites the tests that led to it. Assumes nothing.
+use mathlib.Core.Path.{sym, _∙_}
+use borrow.Author.Needs.{needs}
+use borrow.Author.Tests.{lt-ltb, le-ltb}
+use Rattle.bench.specs.Calls.{refuse, checks, changeChecks, refusal, noSuchBridge, noSuchView, noNumberLeft}
+use Rattle.bench.proofs.refusals.update_refusal.Statement.{statement}
+use Rattle.bench.proofs.refusals.update_refusal.Tie as tie
+
+returns : tie.Need-returns
+unfolding refuse checks changeChecks refusal noSuchBridge
+returns c = rw (le-ltb _ _ (c .if1 .taken))
+
+returns-2 : tie.Need-returns-2
+unfolding refuse checks changeChecks refusal noSuchBridge noSuchView
+returns-2 c = rw (lt-ltb _ _ (c .before .if1 .left), le-ltb _ _ (c .if2 .taken))
+
+mul-number : tie.Need-mul-number
+mul-number c = search needs
+
+element-copy-out-number : tie.Need-element-copy-out-number
+element-copy-out-number c = search needs
+
+element-copy-out-present : tie.Need-element-copy-out-present
+element-copy-out-present c = search needs
+
+cast-present : tie.Need-cast-present
+cast-present c = search needs
+
+both-requires : tie.Need-both-requires
+both-requires c κs = search needs
+
+returns-3 : tie.Need-returns-3
+unfolding refuse checks changeChecks refusal noSuchBridge noSuchView noNumberLeft
+returns-3 c =
+    rw (
+      lt-ltb _ _ (c .before .before .before .before .before .if1 .left),
+      lt-ltb _ _ (c .before .before .before .before .if2 .left),
+      sym (c .before .both .ensures) ∙ c .if3 .taken,
+    )
+
+returns-4 : tie.Need-returns-4
+unfolding refuse checks changeChecks refusal noSuchBridge noSuchView noNumberLeft
+returns-4 c =
+    rw (
+      lt-ltb _ _ (c .before .before .before .before .before .if1 .left),
+      lt-ltb _ _ (c .before .before .before .before .if2 .left),
+      sym (c .before .both .ensures) ∙ c .if3 .left,
+    )
+
+pub update-refusal-spec : {M : Type 1} → statement M
+update-refusal-spec =
+    tie.close
+    (tie.spec
+    returns
+    returns-2
+    mul-number
+    element-copy-out-number
+    element-copy-out-present
+    cast-present
+    both-requires
+    returns-3
+    returns-4)

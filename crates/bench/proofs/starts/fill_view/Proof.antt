@@ -1,0 +1,77 @@
+-- `starts::fill_view` meets its contract. The block that was lent from inside the tables comes back in its place. Assumes nothing.
+use Prim.Native.Nat.{_*_}
+use native.Mathlib.Nat.{add-sub-cancel-left}
+use mathlib.Core.Path.{ap}
+use borrow.Author.Needs.{needs}
+use Rattle.distances.specs.Call.{Outcome}
+use Rattle.bench.specs.Changes.{filledView}
+use Rattle.bench.proofs.starts.fill_view.Statement.{statement}
+use Rattle.bench.proofs.starts.fill_view.Tie as tie
+
+mul-row : tie.Need-mul-row
+mul-row c = search needs
+
+add-row-past : tie.Need-add-row-past
+add-row-past c = search needs
+
+mul-block : tie.Need-mul-block
+mul-block c = search needs
+
+add-block-past : tie.Need-add-block-past
+add-block-past c = search needs
+
+mul-distances : tie.Need-mul-distances
+mul-distances c = search needs
+
+sub-distances : tie.Need-sub-distances
+sub-distances c = search needs
+
+part-distances-start : tie.Need-part-distances-start
+part-distances-start c = search needs
+
+part-distances-end : tie.Need-part-distances-end
+part-distances-end c = search needs
+
+mul-distances-2 : tie.Need-mul-distances-2
+mul-distances-2 c = search needs
+
+sub-distances-2 : tie.Need-sub-distances-2
+sub-distances-2 c = search needs
+
+part-distances-start-2 : tie.Need-part-distances-start-2
+part-distances-start-2 c = search needs
+
+part-distances-end-2 : tie.Need-part-distances-end-2
+part-distances-end-2 c = search needs
+
+distances-requires : tie.Need-distances-requires
+distances-requires c κs = search needs
+
+same-length : tie.Need-same-length
+same-length c = search needs
+
+returns : tie.Need-returns
+unfolding filledView
+returns c =
+    let a = c .before .before .before .before .before .before .before .before .args in
+    rw (ap (λ (o : Outcome). o .table) (c .before .before .distances .ensures), add-sub-cancel-left (32 * a .view) 32, add-sub-cancel-left (256 * a .view) 256)
+
+pub fill-view-spec : {M : Type 1} → statement M
+fill-view-spec =
+    tie.close
+    (tie.spec
+    mul-row
+    add-row-past
+    mul-block
+    add-block-past
+    mul-distances
+    sub-distances
+    part-distances-start
+    part-distances-end
+    mul-distances-2
+    sub-distances-2
+    part-distances-start-2
+    part-distances-end-2
+    distances-requires
+    same-length
+    returns)

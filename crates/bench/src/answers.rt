@@ -1,0 +1,84 @@
+// The calls that ask: the forwarding port of a bridge, the report of a destination, the path of a frame.
+use crate::Bench;
+use crate::Forwarding;
+use crate::Reply;
+use crate::Way;
+use crate::ready;
+use crate::refusals;
+use crate::walks;
+ghost use mathlib.Core.Path.{_≡_};
+ghost use mathlib.Core.List.{[]};
+ghost use Rattle.bench.specs.State.{state};
+ghost use Rattle.bench.specs.Changes.{number};
+ghost use Rattle.bench.specs.Answers.{forwardingSays, waySays, portOf, report, reportOf, pathOf};
+
+// The forwarding port of a bridge for a destination.
+pub fn port(
+    bench: Bench,
+    costs: &[u32],
+    tables: &[u32],
+    sent: &[u32],
+    held: &[u32],
+    bridge: usize,
+    dest: usize,
+) -> Forwarding
+    ensures { λ r. ⌜ forwardingSays r ≡ portOf (state bench (now (costs .entry)) (now (tables .entry)) (now (sent .entry)) (now (held .entry)) []) bridge dest ⌝ }
+{
+    if !ready::network_in_range(bench, costs, tables.len(), sent.len(), held.len()) {
+        return Forwarding::Refused(17);
+    }
+    let refusal = refusals::port_refusal(bench, bridge, dest);
+    if refusal != 0 {
+        return Forwarding::Refused(refusal);
+    }
+    Forwarding::Found(walks::port_at(bench, costs, tables, sent, held, bridge, dest))
+}
+
+// The report of a destination: row b has bridge b's distance in its own view and its link, NONE for no port.
+pub fn report(
+    bench: Bench,
+    costs: &[u32],
+    tables: &[u32],
+    sent: &[u32],
+    held: &[u32],
+    dest: usize,
+    rows: &mut [u32],
+) -> Reply
+    ensures { λ r. ⌜ report (number r) (now (rows .exit)) ≡ reportOf (state bench (now (costs .entry)) (now (tables .entry)) (now (sent .entry)) (now (held .entry)) []) dest (now (rows .entry)) ⌝ }
+{
+    let size = rows.len();
+    if !ready::network_in_range(bench, costs, tables.len(), sent.len(), held.len()) {
+        return Reply::Refused(17);
+    }
+    if size < 32 {
+        return Reply::Refused(17);
+    }
+    let refusal = refusals::report_refusal(bench, dest);
+    if refusal != 0 {
+        return Reply::Refused(refusal);
+    }
+    walks::report_rows(bench, costs, tables, sent, held, dest, rows);
+    Reply::Done
+}
+
+// The path of a frame from a bridge to a destination.
+pub fn path(
+    bench: Bench,
+    costs: &[u32],
+    tables: &[u32],
+    sent: &[u32],
+    held: &[u32],
+    start: usize,
+    dest: usize,
+) -> Way
+    ensures { λ r. ⌜ waySays r ≡ pathOf (state bench (now (costs .entry)) (now (tables .entry)) (now (sent .entry)) (now (held .entry)) []) start dest ⌝ }
+{
+    if !ready::network_in_range(bench, costs, tables.len(), sent.len(), held.len()) {
+        return Way::Refused(17);
+    }
+    let refusal = refusals::port_refusal(bench, start, dest);
+    if refusal != 0 {
+        return Way::Refused(refusal);
+    }
+    walks::walk(bench, costs, tables, sent, held, start, dest)
+}

@@ -1,0 +1,115 @@
+// The calls that change the network by the planner's hand: fresh, update, cut, restore.
+use crate::Bench;
+use crate::Changed;
+use crate::Reply;
+use crate::moves::moved;
+use crate::ready;
+use crate::refusals;
+use crate::replies::refused;
+use crate::starts;
+ghost use mathlib.Core.Path.{_≡_};
+ghost use mathlib.Core.List.{[]};
+ghost use Prim.Native.Nat.{_<_};
+ghost use Rattle.bench.specs.Changes.{number, changed, benchWithCut, cutOf, restoreOf, rewritten, updateOf, started, freshOf};
+ghost use Rattle.bench.specs.State.{state};
+
+fn with_cut(bench: Bench, link: usize, so: bool) -> Bench
+    requires { ⌜ link < 32 ⌝ }
+    ensures { λ r. ⌜ r ≡ benchWithCut bench link so ⌝ }
+{
+    let mut next = bench;
+    next.cut[link] = so;
+    next
+}
+
+// Cuts a link: it carries neither messages nor frames. Records and messages in flight are retained.
+pub fn cut(bench: Bench, link: usize) -> Changed
+    ensures { λ r. ⌜ changed (number (r .reply)) (r .bench) ≡ cutOf bench link ⌝ }
+{
+    if !ready::bench_in_range(bench) {
+        return refused(17, bench);
+    }
+    let refusal = refusals::cut_refusal(bench, link);
+    if refusal != 0 {
+        return refused(refusal, bench);
+    }
+    Changed {
+        reply: Reply::Done,
+        bench: with_cut(bench, link, true),
+    }
+}
+
+// Restores a cut link.
+pub fn restore(bench: Bench, link: usize) -> Changed
+    ensures { λ r. ⌜ changed (number (r .reply)) (r .bench) ≡ restoreOf bench link ⌝ }
+{
+    if !ready::bench_in_range(bench) {
+        return refused(17, bench);
+    }
+    let refusal = refusals::restore_refusal(bench, link);
+    if refusal != 0 {
+        return refused(refusal, bench);
+    }
+    Changed {
+        reply: Reply::Done,
+        bench: with_cut(bench, link, false),
+    }
+}
+
+// Puts a bridge on a view. Nothing changes where it is on it already.
+pub fn update(
+    bench: Bench,
+    costs: &[u32],
+    tables: &[u32],
+    sent: &mut [u32],
+    held: &mut [u32],
+    bridge: usize,
+    view: usize,
+) -> Changed
+    ensures { λ r. ⌜ rewritten (number (r .reply)) (r .bench) (now (sent .exit)) (now (held .exit)) ≡ updateOf (state bench (now (costs .entry)) (now (tables .entry)) (now (sent .entry)) (now (held .entry)) []) bridge view ⌝ }
+{
+    let sent_size = sent.len();
+    let held_size = held.len();
+    if !ready::network_in_range(bench, costs, tables.len(), sent_size, held_size) {
+        return refused(17, bench);
+    }
+    let refusal = refusals::update_refusal(bench, bridge, view);
+    if refusal != 0 {
+        return refused(refusal, bench);
+    }
+    let present = bench.view[bridge] as usize;
+    if present == view {
+        return Changed {
+            reply: Reply::Done,
+            bench,
+        };
+    }
+    Changed {
+        reply: Reply::Done,
+        bench: moved(bench, costs, tables, bridge, view, sent, held),
+    }
+}
+
+// A fresh network over the counts and ends of the bench handed in: every bridge on view 0. Fills the views' distances too.
+pub fn fresh(
+    bench: Bench,
+    costs: &[u32],
+    tables: &mut [u32],
+    sent: &mut [u32],
+    held: &mut [u32],
+) -> Changed
+    ensures { λ r. ⌜ started (number (r .reply)) (r .bench) (now (tables .exit)) (now (sent .exit)) (now (held .exit)) ≡ freshOf bench (now (costs .entry)) (now (tables .entry)) (now (sent .entry)) (now (held .entry)) ⌝ }
+{
+    let tables_size = tables.len();
+    let sent_size = sent.len();
+    let held_size = held.len();
+    if !ready::plan_in_range(bench, costs, tables_size, sent_size, held_size) {
+        return refused(17, bench);
+    }
+    starts::fill_tables(bench, costs, tables);
+    starts::start_ends(bench, &costs[0..32], &tables[0..256], sent, held);
+    Changed {
+        reply: Reply::Done,
+        bench: starts::fresh_bench(bench),
+    }
+}

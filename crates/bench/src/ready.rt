@@ -1,0 +1,169 @@
+// The entry checks: document 01's ranges of a bench and of what is lent beside it.
+use crate::Bench;
+use distances::ready::both;
+ghost use mathlib.Core.Path.{_≡_};
+ghost use mathlib.Core.Bool.{_&&_};
+ghost use Prim.Native.Nat.{_≤_};
+ghost use lib.ListN.{length, getD};
+ghost use lib.Dec.{ltb};
+ghost use Rattle.distances.specs.Call.{inRange, allBelow};
+ghost use Rattle.bench.specs.State.{part};
+ghost use Rattle.bench.specs.Ranges.{graphInRange, benchInRange, costsInRange, tablesLong, messagePasses, messagesInRange, networkInRange};
+
+pub(crate) fn graph_in_range(bench: Bench) -> bool
+    ensures { λ r. ⌜ r ≡ graphInRange bench ⌝ }
+{
+    let absent = [0u32; 32];
+    let ends = bench.ends;
+    let listed = distances::ready::in_range(bench.bridges, bench.links, &ends, &absent, 256);
+    both(1 <= bench.views, both(bench.views <= 32, listed))
+}
+
+fn views_in_range(bench: Bench) -> bool
+    requires { ⌜ bench .bridges ≤ 16 ⌝ }
+    ensures { λ r. ⌜ r ≡ allBelow (bench .bridges) (λ y. ltb (getD (bench .view) y 0) (bench .views)) ⌝ }
+{
+    let mut ok = true;
+    let mut y = 0;
+    while y < bench.bridges {
+        let t = bench.view[y] as usize;
+        ok = both(ok, t < bench.views);
+        y += 1;
+    }
+    ok
+}
+
+pub(crate) fn bench_in_range(bench: Bench) -> bool
+    ensures { λ r. ⌜ r ≡ benchInRange bench ⌝ }
+{
+    if graph_in_range(bench) {
+        let records = bench.records;
+        let known = agreement::ready::records_in_range(bench.views, bench.links, records);
+        both(bench.messages <= 64, both(views_in_range(bench), known))
+    } else {
+        false
+    }
+}
+
+fn row_in_range(bridges: usize, links: usize, ends: &[u8], costs: &[u32], t: usize) -> bool
+    requires { ⌜ (t ≤ 31) × (1024 ≤ length (now costs)) ⌝ }
+    ensures { λ r. ⌜ r ≡ inRange bridges links (now (ends .entry)) (part 32 t (now (costs .entry))) 256 ⌝ }
+{
+    let first = 32 * t;
+    let past = first + 32;
+    distances::ready::in_range(bridges, links, ends, &costs[first..past], 256)
+}
+
+fn costs_in_range(bench: Bench, costs: &[u32]) -> bool
+    requires { ⌜ bench .views ≤ 32 ⌝ }
+    ensures { λ r. ⌜ r ≡ costsInRange bench (now (costs .entry)) ⌝ }
+{
+    if costs.len() < 1024 {
+        return false;
+    }
+    let ends = bench.ends;
+    let mut ok = true;
+    let mut t = 0;
+    while t < bench.views {
+        ok = both(
+            ok,
+            row_in_range(bench.bridges, bench.links, &ends, costs, t),
+        );
+        t += 1;
+    }
+    ok
+}
+
+fn tables_long(tables: usize, sent: usize, held: usize) -> bool
+    ensures { λ r. ⌜ r ≡ tablesLong tables sent held ⌝ }
+{
+    both(8192 <= tables, both(1024 <= sent, 1024 <= held))
+}
+
+pub(crate) fn plan_in_range(
+    bench: Bench,
+    costs: &[u32],
+    tables: usize,
+    sent: usize,
+    held: usize,
+) -> bool
+    ensures { λ r. ⌜ r ≡ (graphInRange bench && (costsInRange bench (now (costs .entry)) && tablesLong tables sent held)) ⌝ }
+{
+    if graph_in_range(bench) {
+        both(
+            costs_in_range(bench, costs),
+            tables_long(tables, sent, held),
+        )
+    } else {
+        false
+    }
+}
+
+pub(crate) fn network_in_range(
+    bench: Bench,
+    costs: &[u32],
+    tables: usize,
+    sent: usize,
+    held: usize,
+) -> bool
+    ensures { λ r. ⌜ r ≡ networkInRange bench (now (costs .entry)) tables sent held ⌝ }
+{
+    if bench_in_range(bench) {
+        both(
+            costs_in_range(bench, costs),
+            tables_long(tables, sent, held),
+        )
+    } else {
+        false
+    }
+}
+
+fn message_passes(
+    links: usize,
+    views: usize,
+    link: u32,
+    direction: u32,
+    view: u32,
+    number: u32,
+    discarded: u32,
+) -> bool
+    ensures { λ r. ⌜ r ≡ messagePasses links views link direction view number discarded ⌝ }
+{
+    let l = link as usize;
+    let t = view as usize;
+    both(
+        l < links,
+        both(
+            direction < 2,
+            both(t < views, both(number < 65536, discarded < 65536)),
+        ),
+    )
+}
+
+pub(crate) fn messages_in_range(bench: Bench, messages: &[u32]) -> bool
+    requires { ⌜ bench .messages ≤ 64 ⌝ }
+    ensures { λ r. ⌜ r ≡ messagesInRange bench (now (messages .entry)) ⌝ }
+{
+    if messages.len() < 320 {
+        return false;
+    }
+    let mut ok = true;
+    let mut k = 0;
+    while k < bench.messages {
+        let at = 5 * k;
+        ok = both(
+            ok,
+            message_passes(
+                bench.links,
+                bench.views,
+                messages[at],
+                messages[at + 1],
+                messages[at + 2],
+                messages[at + 3],
+                messages[at + 4],
+            ),
+        );
+        k += 1;
+    }
+    ok
+}

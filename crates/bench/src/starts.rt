@@ -1,0 +1,92 @@
+// The parts of a fresh network.
+use crate::Bench;
+ghost use mathlib.Core.Path.{_≡_};
+ghost use Prim.Native.Nat.{_*_, _≤_, _<_};
+ghost use lib.ListN.{length};
+ghost use Rattle.agreement.specs.Call.{lent};
+ghost use Rattle.bench.specs.Changes.{filledView, filledTables, limits, startedEnds, freshBench};
+
+fn fill_view(
+    bridges: usize,
+    links: usize,
+    ends: &[u8],
+    costs: &[u32],
+    tables: &mut [u32],
+    view: usize,
+)
+    requires { ⌜ (view < 32) × (1024 ≤ length (now costs)) × (8192 ≤ length (now tables)) ⌝ }
+    ensures { λ r. ⌜ now (tables .exit) ≡ filledView bridges links (now (ends .entry)) (now (costs .entry)) view (now (tables .entry)) ⌝ }
+{
+    let row = 32 * view;
+    let row_past = row + 32;
+    let block = 256 * view;
+    let block_past = block + 256;
+    distances::distances(
+        bridges,
+        links,
+        ends,
+        &costs[row..row_past],
+        &mut tables[block..block_past],
+    );
+}
+
+pub(crate) fn fill_tables(bench: Bench, costs: &[u32], tables: &mut [u32])
+    requires { ⌜ (bench .views ≤ 32) × (1024 ≤ length (now costs)) × (8192 ≤ length (now tables)) ⌝ }
+    ensures { λ r. ⌜ now (tables .exit) ≡ filledTables (bench .bridges) (bench .links) (bench .ends) (now (costs .entry)) (bench .views) (now (tables .entry)) ⌝ }
+{
+    let places = bench.ends;
+    let mut t = 0;
+    while t < bench.views {
+        fill_view(bench.bridges, bench.links, &places, costs, tables, t);
+        t += 1;
+    }
+}
+
+pub(crate) fn start_ends(
+    bench: Bench,
+    costs: &[u32],
+    table: &[u32],
+    sent: &mut [u32],
+    held: &mut [u32],
+)
+    requires { ⌜ bench .links ≤ 32 ⌝ }
+    ensures { λ r. ⌜ limits (now (sent .exit)) (now (held .exit)) ≡ startedEnds (lent (bench .bridges) (bench .links) (bench .ends) (now (costs .entry)) (now (table .entry))) (2 * bench .links) (limits (now (sent .entry)) (now (held .entry))) ⌝ }
+{
+    let places = bench.ends;
+    let mut e = 0;
+    while e < 2 * bench.links {
+        agreement::calls::start_end(
+            bench.bridges,
+            bench.links,
+            &places,
+            costs,
+            table,
+            e,
+            sent,
+            held,
+        );
+        e += 1;
+    }
+}
+
+pub(crate) fn fresh_bench(bench: Bench) -> Bench
+    ensures { λ r. ⌜ r ≡ freshBench bench ⌝ }
+{
+    let ends = bench.ends;
+    let view = [0u8; 16];
+    let number = [1u16; 16];
+    let record = agreement::calls::fresh_record();
+    let records = [record; 64];
+    let cut = [false; 32];
+    Bench {
+        bridges: bench.bridges,
+        links: bench.links,
+        views: bench.views,
+        messages: 0,
+        ends,
+        view,
+        number,
+        records,
+        cut,
+    }
+}

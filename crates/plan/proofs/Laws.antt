@@ -1,0 +1,179 @@
+-- What a field that was read tells, for the layers above: the bytes that it takes, and what its checks say of it. Assumes nothing.
+use Prim.Native.Nat.{ℕ, zero, suc, _≤_, _<_}
+use native.Mathlib.Omega.{arith}
+use mathlib.Core.Path.{_≡_, refl, sym, subst, _∙_}
+use mathlib.Core.Logic.{⊎-elim}
+use mathlib.Core.Bool.{Bool, true, false, cond, _&&_, _||_, not}
+use mathlib.Core.List.{List, [], _∷_}
+use borrow.Author.Tests.{ltb-true, ltb-false, leb-true, leb-false, eqb-true, eqb-false, not-true, not-false}
+use lib.ListN.{length}
+use lib.Dec.{eqb, leb, ltb}
+use Rattle.distances.specs.Call.{allBelow}
+use Rattle.distances.specs.Refusal.{check, refusal}
+use Rattle.distances.proofs.Booleans.{both-true, one-true}
+use Rattle.distances.proofs.Ranges.{allBelow-true}
+use Rattle.plan.specs.Fields.{byte, tag, valueLength, size, lengthFor, costIn, eventBy, fieldOf}
+use Rattle.plan.specs.Reading.{outOfOrder, headerChecks, costsFit, bridgeChecks, linkChecks, viewChecks, valueChecks, fieldRefusal, readOf, readReply}
+use Rattle.plan.specs.declared.Progress.{Progress}
+use Rattle.plan.specs.declared.Field.{Field}
+use Rattle.plan.specs.declared.Read.{Read}
+use Rattle.distances.proofs.Refusals.{passed}
+
+-- what the checks of each field tell
+pub record BridgesRead (p : Progress) (n : ℕ) : Type 0 where
+  pub opening : p .stage ≡ 0
+  pub least : 2 ≤ n
+  pub most : n ≤ 16
+
+pub record LinkRead (p : Progress) (a b : ℕ) : Type 0 where
+  pub counted : p .stage ≡ 1
+  pub room : p .links < 32
+  pub first : a < p .bridges
+  pub second : b < p .bridges
+  pub differ : a ≡ b → ⊥
+
+pub record ViewRead (rest : List ℕ) (p : Progress) : Type 0 where
+  pub counted : 1 ≤ p .stage
+  pub early : p .stage ≤ 2
+  pub listed : p .links ≤ 32
+  pub room : p .views < 32
+  pub costs : (l : ℕ) → l < p .links → costIn rest l ≤ 16777215
+
+abbrev pub Told : List ℕ → Progress → Field → Type 0
+Told rest p (Field.Bridges n) = BridgesRead p n
+Told rest p (Field.Link a b) = LinkRead p a b
+Told rest p Field.View = ViewRead rest p
+Told rest p (Field.Event v) = 2 ≤ p .stage
+
+-- the tests of all costs, as the tests below a bound
+fits-below : (rest : List ℕ) (k : ℕ) → costsFit rest k ≡ allBelow k (λ l. leb (costIn rest l) 16777215)
+unfolding costsFit allBelow
+fits-below rest zero = refl
+fits-below rest (suc k) = rw (fits-below rest k)
+
+-- a view's stage is 1 or 2
+view-stage : (s : ℕ) → not (eqb s 1 || eqb s 2) ≡ false → (1 ≤ s) × (s ≤ 2)
+view-stage s e =
+    ⊎-elim
+    (λ h. omega (arith, eqb-true s 1 h))
+    (λ h. omega (arith, eqb-true s 2 h))
+    (one-true (eqb s 1) (eqb s 2) (not-false _ e))
+
+-- a stop is no field
+stops : {n : ℕ} {f : Field} {k : ℕ} → Read.Stop n ≡ Read.Field f k → ⊥
+stops e = let z : _≡_ {A = ℕ} 0 1 = cc in omega arith
+
+module _ (rest : List ℕ) (p : Progress) where
+  record Header : Type 0 where
+    order : outOfOrder (p .stage) (tag rest) ≡ false
+    whole : size rest ≤ length rest
+
+  header-told : refusal (headerChecks rest p) ≡ 0 → Header
+  unfolding headerChecks
+  header-told e =
+      let one = passed (check (ltb (length rest) 3) 1) _ (omega arith) e in
+      let two = passed (check (not (leb 1 (tag rest) && leb (tag rest) 12)) 2) _ (omega arith) (one .1) in
+      let three = passed (check (outOfOrder (p .stage) (tag rest)) 4) _ (omega arith) (two .1) in
+      let four = passed (check (not (eqb (valueLength rest) (lengthFor (p .links) (tag rest)))) 3) _ (omega arith) (three .1) in
+      let five = passed (check (ltb (length rest) (size rest)) 1) _ (omega arith) (four .1) in
+      record { order = three .0; whole = ltb-false (length rest) (size rest) (five .0) }
+
+  bridges-told : tag rest ≡ 1 → outOfOrder (p .stage) (tag rest) ≡ false → refusal (bridgeChecks rest p) ≡ 0 → BridgesRead p (byte rest 3)
+  unfolding outOfOrder bridgeChecks
+  bridges-told t order e =
+      let one = passed (check (not (leb 2 (byte rest 3) && leb (byte rest 3) 16)) 5) [] (omega arith) e in
+      let both = both-true (leb 2 (byte rest 3)) (leb (byte rest 3) 16) (not-false _ (one .0)) in
+      record {
+        opening = eqb-true (p .stage) 0 (not-false _ (rw t at order));
+        least = leb-true 2 (byte rest 3) (both .0);
+        most = leb-true (byte rest 3) 16 (both .1);
+      }
+
+  link-told : tag rest ≡ 2 → outOfOrder (p .stage) (tag rest) ≡ false → refusal (linkChecks rest p) ≡ 0 → LinkRead p (byte rest 3) (byte rest 4)
+  unfolding outOfOrder linkChecks
+  link-told t order e =
+      let a = byte rest 3 in
+      let b = byte rest 4 in
+      let one = passed (check (leb 32 (p .links)) 6) _ (omega arith) e in
+      let two = passed (check (not (ltb a (p .bridges) && (ltb b (p .bridges) && not (eqb a b)))) 7) [] (omega arith) (one .1) in
+      let both = both-true (ltb a (p .bridges)) _ (not-false _ (two .0)) in
+      let more = both-true (ltb b (p .bridges)) _ (both .1) in
+      record {
+        counted = eqb-true (p .stage) 1 (not-false _ (rw t at order));
+        room = leb-false 32 (p .links) (one .0);
+        first = ltb-true a (p .bridges) (both .0);
+        second = ltb-true b (p .bridges) (more .0);
+        differ = eqb-false a b (not-true (eqb a b) (more .1));
+      }
+
+  view-told : tag rest ≡ 3 → p .links ≤ 32 → outOfOrder (p .stage) (tag rest) ≡ false → refusal (viewChecks rest p) ≡ 0 → ViewRead rest p
+  unfolding outOfOrder viewChecks
+  view-told t listed order e =
+      let one = passed (check (leb 32 (p .views)) 8) _ (omega arith) e in
+      let two = passed (check (not (costsFit rest (p .links))) 9) [] (omega arith) (one .1) in
+      let stage = view-stage (p .stage) (rw t at order) in
+      record {
+        counted = stage .0;
+        early = stage .1;
+        listed = listed;
+        room = leb-false 32 (p .views) (one .0);
+        costs = λ l h.
+            leb-true (costIn rest l) 16777215
+            (allBelow-true (p .links) (λ l. leb (costIn rest l) 16777215) (sym (fits-below rest (p .links)) ∙ not-false _ (two .0)) l h);
+      }
+
+  -- by the tag
+  value-told : p .links ≤ 32 → outOfOrder (p .stage) (tag rest) ≡ false → refusal (valueChecks rest p) ≡ 0 → Told rest p (fieldOf rest)
+  unfolding valueChecks fieldOf outOfOrder
+  value-told listed order = go (eqb (tag rest) 1) (eqb (tag rest) 2) (eqb (tag rest) 3) refl refl refl
+    where
+      go : (a b c : Bool) → eqb (tag rest) 1 ≡ a → eqb (tag rest) 2 ≡ b → eqb (tag rest) 3 ≡ c →
+          refusal (cond a (bridgeChecks rest p) (cond b (linkChecks rest p) (cond c (viewChecks rest p) []))) ≡ 0 →
+          Told rest p (cond a (Field.Bridges (byte rest 3)) (cond b (Field.Link (byte rest 3) (byte rest 4)) (cond c Field.View (Field.Event (eventBy (tag rest) (byte rest 3) (byte rest 4))))))
+      go true b c one two three e = bridges-told (eqb-true (tag rest) 1 one) order e
+      go false true c one two three e = link-told (eqb-true (tag rest) 2 two) order e
+      go false false true one two three e = view-told (eqb-true (tag rest) 3 three) listed order e
+      go false false false one two three e = ltb-false (p .stage) 2 (rw (one, two, three) at order)
+
+  -- a field that was read: none of its checks applies
+  record Passed (f : Field) (k : ℕ) : Type 0 where
+    listed : p .links ≤ 32
+    field : fieldOf rest ≡ f
+    taken : k ≡ size rest
+    header : refusal (headerChecks rest p) ≡ 0
+    value : refusal (valueChecks rest p) ≡ 0
+
+  none-applies : {f : Field} {k : ℕ} → readReply rest p ≡ Read.Field f k → Passed f k
+  unfolding readReply readOf fieldRefusal
+  none-applies {f} {k} = go (ltb 32 (p .links)) (eqb (length rest) 0) (eqb (refusal (headerChecks rest p)) 0) refl refl
+    where
+      -- the field or its number
+      last : (b : Bool) (r : ℕ) → eqb r 0 ≡ b → cond b (Read.Field (fieldOf rest) (size rest)) (Read.Stop r) ≡ Read.Field f k →
+          (fieldOf rest ≡ f) × (k ≡ size rest) × (r ≡ 0)
+      last true r z e = (cc, cc, eqb-true r 0 z)
+      last false r z e = absurd (stops e)
+
+      go : (a b c : Bool) → ltb 32 (p .links) ≡ a → eqb (refusal (headerChecks rest p)) 0 ≡ c →
+          cond a (Read.Stop 17) (cond b (Read.Stop (cond (eqb (p .views) 0) 4 0)) (
+          cond (eqb (cond c (refusal (valueChecks rest p)) (refusal (headerChecks rest p))) 0)
+          (Read.Field (fieldOf rest) (size rest))
+          (Read.Stop (cond c (refusal (valueChecks rest p)) (refusal (headerChecks rest p)))))) ≡ Read.Field f k →
+          Passed f k
+      go true b c l h e = absurd (stops e)
+      go false true c l h e = absurd (stops e)
+      go false false true l h e = let t = last _ (refusal (valueChecks rest p)) refl e in
+          record { listed = ltb-false 32 (p .links) l; field = t .0; taken = t .1; header = eqb-true (refusal (headerChecks rest p)) 0 h; value = t .2 }
+      go false false false l h e = let t = last _ (refusal (headerChecks rest p)) refl e in
+          absurd (eqb-false (refusal (headerChecks rest p)) 0 h (t .2))
+
+-- the bytes that a field takes are there, its header among them
+pub field-size : (rest : List ℕ) (p : Progress) {f : Field} {k : ℕ} → readReply rest p ≡ Read.Field f k → (3 ≤ k) × (k ≤ length rest) × (k ≡ size rest)
+field-size rest p e =
+    let t = none-applies rest p e in
+    let h = header-told rest p (t .header) in
+    (omega arith, omega arith, t .taken)
+
+pub field-told : (rest : List ℕ) (p : Progress) {f : Field} {k : ℕ} → readReply rest p ≡ Read.Field f k → Told rest p f
+field-told rest p e =
+    let t = none-applies rest p e in
+    subst (Told rest p) (t .field) (value-told rest p (t .listed) (header-told rest p (t .header) .order) (t .value))

@@ -1,0 +1,87 @@
+-- What is read at the head of the bytes that are left (document 01, "Where input is turned down"). Assumes nothing.
+use Prim.Native.Nat.{ℕ, zero, suc, _+_, _*_}
+use mathlib.Core.Bool.{Bool, true, cond, _&&_, _||_, not}
+use mathlib.Core.List.{List, [], _∷_}
+use lib.ListN.{length, set}
+use lib.Dec.{eqb, leb, ltb}
+use Rattle.distances.specs.Refusal.{Check, check, refusal}
+use Rattle.plan.specs.Fields.{byte, tag, valueLength, size, lengthFor, costIn, fieldOf}
+use Rattle.plan.specs.declared.Progress.{Progress}
+use Rattle.plan.specs.declared.Read.{Read}
+use Rattle.plan.specs.declared.Costs.{Costs}
+
+-- the field is out of order: the bridge count first and only there, links before views, views before events, no event before any view
+unfoldable pub outOfOrder : ℕ → ℕ → Bool
+outOfOrder stage t =
+    cond (eqb t 1) (not (eqb stage 0))
+    (cond (eqb t 2) (not (eqb stage 1)) (cond (eqb t 3) (not (eqb stage 1 || eqb stage 2)) (ltb stage 2)))
+
+-- the header's checks, in document 01's order
+unfoldable pub headerChecks : List ℕ → Progress → List Check
+headerChecks rest p =
+    check (ltb (length rest) 3) 1
+    ∷ check (not (leb 1 (tag rest) && leb (tag rest) 12)) 2
+    ∷ check (outOfOrder (p .stage) (tag rest)) 4
+    ∷ check (not (eqb (valueLength rest) (lengthFor (p .links) (tag rest)))) 3
+    ∷ check (ltb (length rest) (size rest)) 1
+    ∷ []
+
+-- every cost of the first k links is at most 16,777,215
+unfoldable pub costsFit : List ℕ → ℕ → Bool
+costsFit rest zero = true
+costsFit rest (suc l) = costsFit rest l && leb (costIn rest l) 16777215
+
+-- the tag's own
+unfoldable pub bridgeChecks : List ℕ → Progress → List Check
+bridgeChecks rest p = check (not (leb 2 (byte rest 3) && leb (byte rest 3) 16)) 5 ∷ []
+
+unfoldable pub linkChecks : List ℕ → Progress → List Check
+linkChecks rest p =
+    check (leb 32 (p .links)) 6
+    ∷ check
+    (not (ltb (byte rest 3) (p .bridges) && (ltb (byte rest 4) (p .bridges) && not (eqb (byte rest 3) (byte rest 4)))))
+    7
+    ∷ []
+
+unfoldable pub viewChecks : List ℕ → Progress → List Check
+viewChecks rest p = check (leb 32 (p .views)) 8 ∷ check (not (costsFit rest (p .links))) 9 ∷ []
+
+unfoldable pub valueChecks : List ℕ → Progress → List Check
+valueChecks rest p =
+    cond (eqb (tag rest) 1) (bridgeChecks rest p)
+    (cond (eqb (tag rest) 2) (linkChecks rest p) (cond (eqb (tag rest) 3) (viewChecks rest p) []))
+
+-- the first check that applies, of the header's and then of the tag's own
+unfoldable pub fieldRefusal : List ℕ → Progress → ℕ
+fieldRefusal rest p = cond (eqb (refusal (headerChecks rest p)) 0) (refusal (valueChecks rest p)) (refusal (headerChecks rest p))
+
+-- nothing left: the plan's end, 4 without a view; else the field, or its refusal
+unfoldable pub readOf : List ℕ → Progress → Read
+readOf rest p =
+    cond (eqb (length rest) 0) (Read.Stop (cond (eqb (p .views) 0) 4 0))
+    (cond (eqb (fieldRefusal rest p) 0) (Read.Field (fieldOf rest) (size rest)) (Read.Stop (fieldRefusal rest p)))
+
+-- for any progress handed in: 17 where it has more links than document 01 allows
+unfoldable pub readReply : List ℕ → Progress → Read
+readReply rest p = cond (ltb 32 (p .links)) (Read.Stop 17) (readOf rest p)
+
+-- a view's costs into a row: the first k numbers
+unfoldable pub withCosts : List ℕ → ℕ → List ℕ → List ℕ
+withCosts rest zero row = row
+withCosts rest (suc l) row = set (withCosts rest l row) l (costIn rest l)
+
+-- the reply's number and the lent row
+pub record Stored : Type 0 where
+  pub reply : ℕ
+  pub row : List ℕ
+
+abbrev pub stored : ℕ → List ℕ → Stored
+stored reply row = record { reply = reply; row = row }
+
+abbrev pub costsNumber : Costs → ℕ
+costsNumber Costs.Refused = 17
+costsNumber Costs.Stored = 0
+
+unfoldable pub costsReply : List ℕ → ℕ → List ℕ → Stored
+costsReply rest links row =
+    cond (leb links 32 && leb 32 (length row)) (stored 0 (withCosts rest links row)) (stored 17 row)

@@ -1,0 +1,60 @@
+// The public calls: the next field, and a view's costs.
+use crate::Costs;
+use crate::Progress;
+use crate::Read;
+use crate::bytes::value_length;
+use crate::header::header_refusal;
+use crate::values;
+ghost use mathlib.Core.Path.{_≡_};
+ghost use Prim.Native.Nat.{_≤_};
+ghost use lib.ListN.{length};
+ghost use Rattle.plan.specs.Reading.{readReply, withCosts, costsNumber, stored, costsReply};
+
+// What stands at the head of the bytes that are left. A progress that no plan leads to, with more than 32 links, is refused with 17.
+pub fn read_field(rest: &[u8], p: Progress) -> Read
+    ensures { λ r. ⌜ r ≡ readReply (now (rest .entry)) p ⌝ }
+{
+    if 32 < p.links {
+        return Read::Stop(17);
+    }
+    if rest.len() == 0 {
+        if p.views == 0 {
+            return Read::Stop(4);
+        }
+        return Read::Stop(0);
+    }
+    let header = header_refusal(rest, p);
+    if header != 0 {
+        return Read::Stop(header);
+    }
+    let value = values::value_refusal(rest, p);
+    if value != 0 {
+        return Read::Stop(value);
+    }
+    Read::Field(values::field_of(rest), 3 + value_length(rest))
+}
+
+// A view's costs into a lent row of 32: the first `links` numbers. 17 where there are more links, or the row is shorter.
+pub fn read_costs(rest: &[u8], links: usize, row: &mut [u32]) -> Costs
+    ensures { λ r. ⌜ stored (costsNumber r) (now (row .exit)) ≡ costsReply (now (rest .entry)) links (now (row .entry)) ⌝ }
+{
+    if 32 < links {
+        return Costs::Refused;
+    }
+    if row.len() < 32 {
+        return Costs::Refused;
+    }
+    store_costs(rest, links, row);
+    Costs::Stored
+}
+
+fn store_costs(rest: &[u8], links: usize, row: &mut [u32])
+    requires { ⌜ (links ≤ 32) × (32 ≤ length (now row)) ⌝ }
+    ensures { λ r. ⌜ now (row .exit) ≡ withCosts (now (rest .entry)) links (now (row .entry)) ⌝ }
+{
+    let mut l = 0;
+    while l < links {
+        row[l] = values::cost_in(rest, l);
+        l += 1;
+    }
+}

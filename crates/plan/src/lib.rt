@@ -1,0 +1,45 @@
+// The plan file's reader: what stands at the head of the bytes that are left, given how far the plan has come.
+mod bytes;
+pub mod fields;
+mod header;
+mod values;
+
+// How far a plan has come. Stage 0: nothing read; 1: the bridge count; 2: a view; 3: an event.
+pub struct Progress {
+    pub stage: usize,
+    pub bridges: usize,
+    pub links: usize,
+    pub views: usize,
+}
+
+pub enum Event {
+    Update(u8, u8),
+    Send(u8, u8),
+    Deliver(u8),
+    Repeat(u8),
+    Lose(u8),
+    Cut(u8),
+    Restore(u8),
+    Report(u8),
+    Path(u8, u8),
+}
+
+// A setup or an event. A view's costs stand in the plan after the field's header.
+pub enum Field {
+    Bridges(u8),
+    Link(u8, u8),
+    View,
+    Event(Event),
+}
+
+// A field and the bytes that it takes; or the plan ends here, with document 01's number, 0 for its proper end.
+pub enum Read {
+    Field(Field, usize),
+    Stop(u8),
+}
+
+// What `read_costs` did.
+pub enum Costs {
+    Refused,
+    Stored,
+}

@@ -1,0 +1,148 @@
+-- Laws of the texts: decimal digits evaluate to the number and have no leading zero, and every text fits in 544 bytes.
+-- Assumes nothing.
+use Prim.Native.Nat.{ℕ, zero, suc, _+_, _-_, _*_, _/_, _%_, _^_, _≤_, _<_}
+use native.Mathlib.Nat.{pow-suc}
+use native.Mathlib.Omega.{arith}
+use mathlib.Core.Bool.{Bool, true, false, cond}
+use mathlib.Core.List.{List, [], _∷_, _++_}
+use mathlib.Core.Path.{_≡_, refl}
+use lib.Dec.{ltb, eqb}
+use lib.ListN.{length, getD, length-append, List·getD-append}
+use borrow.Author.Tests.{ltb-true, ltb-false, lt-ltb, le-ltb, eq-eqb, ne-eqb}
+use Rattle.text.specs.Decimal.{digit, digits, decimal, valueFrom}
+use Rattle.text.specs.Lines.{orDash, rowLine, rowLines, reportText, deliveredText, stopsText, endText, refusedText}
+
+-- a number's digits by the three cases of the code
+pub digits-last : (n : ℕ) → digits 0 n ≡ digit (n % 10) ∷ []
+unfolding digits
+digits-last n = refl
+
+pub digits-one : (k n : ℕ) → n < 10 → digits k n ≡ digit (n % 10) ∷ []
+unfolding digits
+digits-one zero n h = refl
+digits-one (suc k) n h = let e : n % 10 ≡ n = omega arith in rw (lt-ltb n 10 h, e)
+
+pub digits-more : (k n : ℕ) → 0 < k → 10 ≤ n → digits k n ≡ digits (k - 1) (n / 10) ++ (digit (n % 10) ∷ [])
+unfolding digits
+digits-more zero n p h = absurd (omega arith)
+digits-more (suc k) n p h = let e : suc k - 1 ≡ k = omega arith in rw (le-ltb n 10 h, e)
+
+-- what holds of each byte of a list and of one more holds of each byte of both
+every-more :
+    (P : ℕ → Type 0) (s : List ℕ) (b : ℕ) → ((i : ℕ) → i < length s → P (getD s i 0)) → P b →
+    (i : ℕ) → i < length (s ++ (b ∷ [])) → P (getD (s ++ (b ∷ [])) i 0)
+every-more P [] b h p zero l = p
+every-more P [] b h p (suc i) l = absurd (omega arith)
+every-more P (x ∷ s) b h p zero l = h zero (omega arith)
+every-more P (x ∷ s) b h p (suc i) l = every-more P s b (λ j m. h (suc j) (omega arith)) p i (omega arith)
+
+-- a number by its last digit: what holds of one digit, and of more digits where it holds of the tenth's
+by-last :
+    (P : List ℕ → ℕ → Type 0) (k n : ℕ) →
+    (n < 10 → P (digit n ∷ []) n) →
+    (10 ≤ n → P (digits k (n / 10) ++ (digit (n % 10) ∷ [])) n) → P (digits (suc k) n) n
+unfolding digits
+by-last P k n one more = go (ltb n 10) refl
+  where
+    go : (b : Bool) → ltb n 10 ≡ b → P (cond b (digit n ∷ []) (digits k (n / 10) ++ (digit (n % 10) ∷ []))) n
+    go true e = one (ltb-true n 10 e)
+    go false e = more (ltb-false n 10 e)
+
+pub length-digits : (k n : ℕ) → (0 < length (digits k n)) × (length (digits k n) ≤ k + 1)
+length-digits zero n = rw digits-last (omega arith)
+length-digits (suc k) n =
+    by-last (λ s m. (0 < length s) × (length s ≤ suc k + 1)) k n
+    (λ h. omega arith)
+    (λ h. simp length-append (omega (arith, length-digits k (n / 10))))
+
+-- each byte is one of `0` to `9`
+abbrev pub IsDigit : ℕ → Type 0
+IsDigit b = (48 ≤ b) × (b ≤ 57)
+
+pub digits-bytes : (k n i : ℕ) → i < length (digits k n) → IsDigit (getD (digits k n) i 0)
+digits-bytes zero n = rw digits-last (every-more IsDigit [] (digit (n % 10)) (λ i l. absurd (omega arith)) (omega arith))
+digits-bytes (suc k) n =
+    by-last (λ s m. (i : ℕ) → i < length s → IsDigit (getD s i 0)) k n
+    (λ h. every-more IsDigit [] (digit n) (λ i l. absurd (omega arith)) (omega arith))
+    (λ h. every-more IsDigit (digits k (n / 10)) (digit (n % 10)) (digits-bytes k (n / 10)) (omega arith))
+
+value-joined : (v : ℕ) (s t : List ℕ) → valueFrom v (s ++ t) ≡ valueFrom (valueFrom v s) t
+unfolding valueFrom
+value-joined v [] t = refl
+value-joined v (b ∷ s) t = value-joined (10 * v + (b % 48)) s t
+
+value-digits : (k n : ℕ) → n < 10 ^ suc k → valueFrom 0 (digits k n) ≡ n
+unfolding valueFrom
+value-digits zero n h = rw digits-last (omega arith)
+value-digits (suc k) n h =
+    by-last (λ s m. valueFrom 0 s ≡ m) k n
+    (λ l. omega arith)
+    (λ l. rw (value-joined 0 (digits k (n / 10)), value-digits k (n / 10) (omega (arith, pow-suc 10 (suc k)))) (omega arith))
+
+-- the digits of a number of 32 bits stand for it
+pub value-decimal : (n : ℕ) → n < 2 ^ 32 → valueFrom 0 (decimal n) ≡ n
+value-decimal n h = value-digits 9 n (omega arith)
+
+first-digits : (k n : ℕ) → 0 < n → n < 10 ^ suc k → 48 < getD (digits k n) 0 0
+first-digits zero n p h = rw digits-last (omega arith)
+first-digits (suc k) n p h =
+    by-last (λ s m. 48 < getD s 0 0) k n
+    (λ l. omega arith)
+    (λ l. rw (List·getD-append (digits k (n / 10)) (digit (n % 10) ∷ []) 0 0 (length-digits k (n / 10) .0)) (first-digits k (n / 10) (omega arith) (omega (arith, pow-suc 10 (suc k)))))
+
+-- no leading zero but for 0 itself
+pub decimal-first : (n : ℕ) → 0 < n → n < 2 ^ 32 → 48 < getD (decimal n) 0 0
+decimal-first n p h = first-digits 9 n p (omega arith)
+
+pub decimal-zero : decimal 0 ≡ 48 ∷ []
+unfolding digits
+decimal-zero = refl
+
+-- `-`, or ten digits at most
+pub dash : (n : ℕ) → n ≡ 4294967295 → orDash n ≡ 45 ∷ []
+unfolding orDash
+dash n e = rw (eq-eqb n 4294967295 e)
+
+pub no-dash : (n : ℕ) → (n ≡ 4294967295 → ⊥) → orDash n ≡ decimal n
+unfolding orDash
+no-dash n h = rw (ne-eqb n 4294967295 h)
+
+pub length-orDash : (n : ℕ) → length (orDash n) ≤ 10
+unfolding orDash
+length-orDash n = go (eqb n 4294967295)
+  where
+    go : (b : Bool) → length (cond b (45 ∷ []) (decimal n)) ≤ 10
+    go true = omega arith
+    go false = omega (arith, length-digits 9 n)
+
+-- the lengths of the texts
+pub length-rowLine : (bridge distance link : ℕ) → length (rowLine bridge distance link) ≤ 33
+unfolding rowLine
+length-rowLine bridge distance link = simp length-append (omega (arith, length-digits 9 bridge, length-orDash distance, length-orDash link))
+
+pub length-rowLines : (rows : List ℕ) (k : ℕ) → length (rowLines rows k) ≤ 33 * k
+unfolding rowLines
+length-rowLines rows zero = omega arith
+length-rowLines rows (suc y) =
+    simp length-append (omega (arith, length-rowLines rows y, length-rowLine y (getD rows (2 * y) 0) (getD rows (2 * y + 1) 0)))
+
+pub length-reportText : (dest bridges : ℕ) (rows : List ℕ) → bridges ≤ 16 → length (reportText dest bridges rows) ≤ 544
+unfolding reportText
+length-reportText dest bridges rows h = simp length-append (omega (arith, length-digits 9 dest, length-rowLines rows bridges))
+
+pub length-deliveredText : (start dest hops : ℕ) → length (deliveredText start dest hops) ≤ 544
+unfolding deliveredText
+length-deliveredText start dest hops = simp length-append (omega (arith, length-digits 9 start, length-digits 9 dest, length-digits 9 hops))
+
+pub length-stopsText : (start dest last hops : ℕ) → length (stopsText start dest last hops) ≤ 544
+unfolding stopsText
+length-stopsText start dest last hops =
+    simp length-append (omega (arith, length-digits 9 start, length-digits 9 dest, length-digits 9 last, length-digits 9 hops))
+
+pub length-endText : (events : ℕ) → length (endText events) ≤ 544
+unfolding endText
+length-endText events = simp length-append (omega (arith, length-digits 9 events))
+
+pub length-refusedText : (number offset : ℕ) → length (refusedText number offset) ≤ 544
+unfolding refusedText
+length-refusedText number offset = simp length-append (omega (arith, length-digits 9 number, length-digits 9 offset))

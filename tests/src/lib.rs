@@ -1,6 +1,9 @@
 //! Tests of the compiled bench from Rust. Nothing here is proved, and nothing here is used by the proved crates.
 
+pub mod agreement;
 pub mod call;
+pub mod case;
 pub mod dijkstra;
 pub mod random;
+pub mod random_case;
 pub mod view;

@@ -1,4 +1,7 @@
 // What the Rust tests call: the public calls of the layers, each reply as document 01's number.
+mod numbers;
+pub mod records;
+
 ghost use mathlib.Core.Path.{_≡_};
 ghost use Rattle.distances.specs.Call.{outcome, distancesOf};
 

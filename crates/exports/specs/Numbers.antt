@@ -1,0 +1,62 @@
+-- Records, messages, answers and ports as numbers in lists. A number beyond a field's width is taken modulo 65,536 or 256, and any
+-- number but 0 stands for true. Assumes nothing.
+use Prim.Native.Nat.{ℕ, zero, suc, _+_, _*_, _%_}
+use mathlib.Core.Bool.{Bool, cond, not}
+use mathlib.Core.List.{List, [], _∷_, _++_}
+use lib.ListN.{getD}
+use lib.Dec.{eqb}
+use Rattle.distances.specs.View.{NONE}
+use Rattle.agreement.specs.declared.EndRecord.{EndRecord}
+use Rattle.agreement.specs.declared.Agreement.{Agreement}
+use Rattle.agreement.specs.declared.Answer.{Answer}
+use Rattle.agreement.specs.declared.Answer.the-variants.{Stale, Agreed, Noted}
+use Rattle.agreement.specs.declared.Port.{Port}
+use Rattle.agreement.specs.declared.Port.the-variants.{Closed, Open}
+
+-- does a number stand for true
+abbrev pub isSet : ℕ → Bool
+isSet x = not (eqb x 0)
+
+-- the record in the four numbers from place k on
+unfoldable pub recordAt : List ℕ → ℕ → EndRecord
+recordAt xs k =
+    record {
+      received = getD xs k 0 % 65536;
+      view = getD xs (k + 1) 0 % 256;
+      discarded = getD xs (k + 2) 0 % 65536;
+      holding = isSet (getD xs (k + 3) 0);
+    }
+
+-- the message in the first three numbers
+unfoldable pub messageIn : List ℕ → Agreement
+messageIn xs = record { view = getD xs 0 0 % 256; number = getD xs 1 0 % 65536; discarded = getD xs 2 0 % 65536 }
+
+-- f of each number below n
+unfoldable pub listed : {A : Type 0} → ℕ → (ℕ → A) → List A
+listed zero f = []
+listed (suc n) f = listed n f ++ (f n ∷ [])
+
+-- the records of 64 ends, four numbers each, and 32 flags
+abbrev pub recordsIn : List ℕ → List EndRecord
+recordsIn xs = listed 64 (λ e. recordAt xs (4 * e))
+
+abbrev pub flagsIn : List ℕ → List Bool
+flagsIn xs = listed 32 (λ l. isSet (getD xs l 0))
+
+-- the numbers of each
+abbrev pub recordNumbers : EndRecord → List ℕ
+recordNumbers r = r .received ∷ r .view ∷ r .discarded ∷ cond (r .holding) 1 0 ∷ []
+
+abbrev pub messageNumbers : Agreement → List ℕ
+messageNumbers m = m .view ∷ m .number ∷ m .discarded ∷ []
+
+-- 0 stale, 1 agreed, 2 noted; then the number and the view taken
+abbrev pub answerNumbers : Answer → List ℕ
+answerNumbers Stale = 0 ∷ 0 ∷ 0 ∷ []
+answerNumbers (Agreed number view) = 1 ∷ number ∷ view ∷ []
+answerNumbers (Noted number view) = 2 ∷ number ∷ view ∷ []
+
+-- the link, NONE where the port is closed
+abbrev pub portNumbers : Port → List ℕ
+portNumbers Closed = NONE ∷ []
+portNumbers (Open link) = link ∷ []

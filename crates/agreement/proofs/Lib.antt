@@ -10,3 +10,6 @@ pub mod PortCong
 pub mod Direction
 pub mod Directions
 pub mod Told
+pub mod RecordLaws
+pub mod InRange
+pub mod Outcomes

@@ -10,12 +10,11 @@ use Rattle.bench.specs.Net.{Network}
 use Rattle.bench.specs.Calls.{Call, Check, refusal, refuse, noSuchLink}
 use Rattle.bench.specs.Changes.{refusalOf, settled}
 use Rattle.distances.proofs.Refusals.{passed}
-use Rattle.bench.proofs.TieRefusals.{refusal-ready}
+use Rattle.bench.proofs.TieRefusals.{refusal-out, refusal-ready}
 
 module _ {A : Type 0} (ok : Bool) (n : Network) (c : Call) (refused : ℕ → A) (done : A) where
   pub out-of-range : ok ≡ false → refused 17 ≡ settled (refusalOf ok n c) refused done
-  unfolding refusalOf refusal
-  out-of-range e = rw e
+  out-of-range e = rw (← refusal-out ok n c e)
 
   -- in range, and the table's number k
   module _ (e : ok ≡ true) (k : ℕ) (same : k ≡ refuse n c) where

@@ -2,18 +2,18 @@
 use Prim.Native.Nat.{ℕ, _-_, _*_, _%_, _≤_, _<_}
 use native.Mathlib.Omega.{arith}
 use mathlib.Core.Path.{_≡_, sym, _∙_, ap}
-use mathlib.Core.Bool.{Bool, true, false}
+use mathlib.Core.Bool.{Bool, true}
 use mathlib.Core.List.{List, [], _∷_}
 use borrow.Author.Tests.{eq-eqb, ne-eqb, not-false}
 use lib.ListN.{length, getD}
 use Rattle.distances.specs.View.{graphOf}
-use Rattle.distances.proofs.Booleans.{both-true}
+use Rattle.distances.proofs.Booleans.{both-true, true-both}
 use Rattle.agreement.specs.Record.{freshRecord}
 use Rattle.agreement.specs.Call.{Said, says, carryOutcome}
 use Rattle.agreement.specs.declared.Agreement.{Agreement}
 use Rattle.agreement.specs.declared.Answer.{Answer}
 use Rattle.bench.specs.Net.{Network}
-use Rattle.bench.specs.Calls.{Call, send, deliver, repeat, lose, refusal, refuse, accepted, checks, noSuchBridge, noSuchLink, notOnLink, linkCut, noRoom, noMessage, endOf, messageOf}
+use Rattle.bench.specs.Calls.{Call, send, deliver, repeat, lose, refuse, accepted, checks, noSuchBridge, noSuchLink, notOnLink, linkCut, noRoom, noMessage, endOf, messageOf}
 use Rattle.bench.specs.State.{State, network, networkOf}
 use Rattle.bench.specs.Ranges.{messageInRange}
 use Rattle.bench.specs.Changes.{Changed, changed, refusalOf, settled, stateInRange}
@@ -21,6 +21,7 @@ use Rattle.bench.specs.Flights.{withCount, takenOut, flown, numbersOf}
 use Rattle.bench.specs.Deliveries.{Delivered, delivered, received, deliveryReady, deliveryRefused, deliverOf, repeatOf, refusedBy}
 use Rattle.bench.specs.Steps.{Ready}
 use Rattle.bench.specs.declared.Bench.{Bench}
+use Rattle.agreement.proofs.Outcomes.{carry-accepted}
 use Rattle.bench.proofs.Links.{endOf-below}
 use Rattle.distances.proofs.Refusals.{passed}
 use Rattle.bench.proofs.Accepted.{send-listed, place-listed}
@@ -28,11 +29,6 @@ use Rattle.bench.proofs.TieFlights.{messages-length}
 use Rattle.bench.proofs.FlightRanges.{BenchTold, bench-told, view-told, messages-told, network-bench, network-told}
 
 -- ---- refusals
-
--- out of range
-pub refusal-out : (ok : Bool) (n : Network) (c : Call) → ok ≡ false → 17 ≡ refusalOf ok n c
-unfolding refusalOf refusal
-refusal-out ok n c e = rw e
 
 -- nothing turns the call down
 pub refusal-none : (ok : Bool) (n : Network) (c : Call) → refusalOf ok n c ≡ 0 → (ok ≡ true) × (refuse n c ≡ 0)
@@ -86,7 +82,7 @@ pub record SendTold (b : Bench) (m : List ℕ) (y l : ℕ) : Type 0 where
       ≡ says (messageOf (networkOf b m) y l .agreement)
 
 pub send-told : (b : Bench) (m : List ℕ) (y l : ℕ) → BenchTold b → refuse (networkOf b m) (send y l) ≡ 0 → SendTold b m y l
-unfolding accepted messageOf carryOutcome
+unfolding accepted messageOf
 send-told b m y l told none =
     let h = send-listed (networkOf b m) y l (eq-eqb _ 0 none) in
     let low : ownEnd b y l < 2 * b .links = endOf-below _ y l (b .links) (h .link) in
@@ -95,7 +91,7 @@ send-told b m y l told none =
       link = omega (arith, told .counted .links, h .link);
       end = omega (arith, told .counted .links);
       room = rw messages-length at (h .room);
-      carries = rw (view-told b told y (h .bridge), told .records (ownEnd b y l) low);
+      carries = carry-accepted _ _ _ _ (true-both (view-told b told y (h .bridge)) (told .records (ownEnd b y l) low));
     }
 
 -- the five numbers that it appends

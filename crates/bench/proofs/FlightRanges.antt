@@ -1,21 +1,22 @@
 -- What the entry checks tell the calls: of a bench, of the messages beside it, and of what is lent to a delivery. Assumes nothing.
 use Prim.Native.Nat.{ℕ, _*_, _≤_, _<_}
 use mathlib.Core.Path.{_≡_}
-use mathlib.Core.Bool.{Bool, true, _&&_}
+use mathlib.Core.Bool.{true, _&&_}
 use mathlib.Core.List.{List}
-use borrow.Author.Tests.{leb-true, le-leb, ltb-true, lt-ltb}
+use borrow.Author.Tests.{leb-true, ltb-true}
 use lib.ListN.{length, getD}
 use lib.Dec.{leb, ltb}
 use Rattle.distances.specs.Call.{allBelow}
-use Rattle.distances.proofs.Booleans.{both-true, true-both}
+use Rattle.distances.proofs.Booleans.{both-true}
 use Rattle.distances.proofs.Ranges.{allBelow-true}
 use Rattle.agreement.specs.Record.{freshRecord}
-use Rattle.agreement.specs.Ranges.{isView, recordInRange, recordsInRange}
+use Rattle.agreement.specs.Ranges.{isView, recordInRange}
+use Rattle.agreement.proofs.InRange.{view-passes, records-told}
 use Rattle.bench.specs.Ranges.{graphInRange, benchInRange, costsInRange, tablesLong, messageInRange, messagesInRange, networkInRange}
 use Rattle.bench.specs.Steps.{Ready}
 use Rattle.bench.specs.declared.Bench.{Bench}
 use Rattle.bench.proofs.EntryChecks.{Counted, bench-counted}
-use Rattle.bench.proofs.TieRanges.{LastingOf, lasting-told, few, are-bridges}
+use Rattle.bench.proofs.TieRanges.{LastingOf, lasting-told, are-bridges}
 
 -- a bench in range
 pub record BenchTold (b : Bench) : Type 0 where
@@ -27,7 +28,7 @@ pub record BenchTold (b : Bench) : Type 0 where
 
 module _ (b : Bench) where
   pub bench-told : benchInRange b ≡ true → BenchTold b
-  unfolding benchInRange graphInRange recordsInRange
+  unfolding benchInRange graphInRange
   bench-told ok =
       let graph = both-true (graphInRange b) _ ok in
       let count = both-true (leb (b .messages) 64) _ (graph .1) in
@@ -37,13 +38,12 @@ module _ (b : Bench) where
         least = leb-true _ _ (both-true (leb 1 (b .views)) _ (graph .0) .0);
         messages = leb-true _ _ (count .0);
         view = λ y h. ltb-true _ _ (allBelow-true _ _ (views .0) y h);
-        records = allBelow-true _ _ (both-true (leb (b .links) 32) _ (views .1) .1);
+        records = records-told (b .views) (b .links) (b .records) (views .1) .1;
       }
 
   -- a bridge's view, as layer 2 asks it
   pub view-told : BenchTold b → (y : ℕ) → y < b .bridges → isView (b .views) (getD (b .view) y 0) ≡ true
-  unfolding isView
-  view-told told y h = true-both (le-leb _ _ (told .least)) (true-both (le-leb _ _ (told .counted .views)) (lt-ltb _ _ (told .view y h)))
+  view-told told y h = view-passes _ _ (told .least) (told .counted .views) (told .view y h)
 
 -- the messages beside a bench, in range
 pub record MessagesTold (b : Bench) (m : List ℕ) : Type 0 where

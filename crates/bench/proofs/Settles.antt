@@ -10,6 +10,7 @@ use borrow.Author.Tests.{eqb-true, eqb-false}
 use Rattle.distances.specs.View.{NONE}
 use Rattle.distances.specs.Meaning.{total}
 use Rattle.distances.proofs.Laws.{dist-self, dist-le-none}
+use Rattle.distances.proofs.Paths.{total-none, total-more}
 use Rattle.agreement.specs.Offer.{linkOf, opposite, farBridge}
 use Rattle.agreement.proofs.Ends.{opposite-below, linkOf-opposite, bridge-in-range}
 use Rattle.bench.specs.Net.{Network, Plan, PlanInRange, fresh, distanceIn}
@@ -105,11 +106,11 @@ module _ (n : Network) (t : ℕ) (ready : Ready n t) (d : ℕ) where
         omega (arith, on .by .reached .sum, on .by .reached .present, dist-le-none (n .plan .graph) (n .plan .costs t) y d)
 
   arrival : (left h y : ℕ) → y < n .plan .graph .bridges → (distanceIn (n .plan) t y d ≡ NONE → ⊥) → EndsByItself n d (onward (hop n d) d left h y) → Arrives n t d left h y
-  unfolding onward onwardLinks follow followLinks total
+  unfolding onward onwardLinks follow followLinks
   arrival zero h y there reachable ends = go (eqb y d) refl ends
     where
-      go : (b : Bool) → eqb y d ≡ b → EndsByItself n d (cond b (delivered h) (stops y h)) → ((k : ℕ) × (cond b (delivered h) (stops y h) ≡ delivered k)) × (0 ≡ distanceIn (n .plan) t y d)
-      go true q ends = ((h, refl), own-distance y (eqb-true y d q))
+      go : (b : Bool) → eqb y d ≡ b → EndsByItself n d (cond b (delivered h) (stops y h)) → ((k : ℕ) × (cond b (delivered h) (stops y h) ≡ delivered k)) × (total (n .plan .costs t) [] ≡ distanceIn (n .plan) t y d)
+      go true q ends = ((h, refl), total-none _ ∙ own-distance y (eqb-true y d q))
       go false q ends = absurd (stays-crosses _ _ (sym (on y there (eqb-false y d q) reachable .hops) ∙ ends))
   arrival (suc left) h y there reachable ends = go (eqb y d) refl ends (arrival left (suc h))
     where
@@ -117,12 +118,13 @@ module _ (n : Network) (t : ℕ) (ready : Ready n t) (d : ℕ) where
       Later = (z : ℕ) → z < n .plan .graph .bridges → (distanceIn (n .plan) t z d ≡ NONE → ⊥) → EndsByItself n d (onward (hop n d) d left (suc h) z) → Arrives n t d left (suc h) z
 
       go : (b : Bool) → eqb y d ≡ b → EndsByItself n d (cond b (delivered h) (follow y h (onward (hop n d) d left (suc h)) (hop n d y))) → Later → ((k : ℕ) × (cond b (delivered h) (follow y h (onward (hop n d) d left (suc h)) (hop n d y)) ≡ delivered k)) × (total (n .plan .costs t) (cond b [] (followLinks (onwardLinks (hop n d) d left) (hop n d y))) ≡ distanceIn (n .plan) t y d)
-      go true q ends later = ((h, refl), own-distance y (eqb-true y d q))
+      go true q ends later = ((h, refl), total-none _ ∙ own-distance y (eqb-true y d q))
       go false q ends later =
           let away : y ≡ d → ⊥ = eqb-false y d q in
           let by : ForwardsOver n t y d (chosenIn n t y d) = on y there away reachable in
           let rest : Arrives n t d left (suc h) (next y there away reachable) = later _ (next-there y there away reachable) (next-reachable y there away reachable) (rw (by .hops) at ends) in
-          rw (by .hops) (rest .0, ap (λ (x : ℕ). n .plan .costs t (linkOf (chosenIn n t y d)) + x) (rest .1) ∙ by .by .reached .sum)
+          rw (by .hops)
+          (rest .0, total-more _ _ _ ∙ ap (λ (x : ℕ). n .plan .costs t (linkOf (chosenIn n t y d)) + x) (rest .1) ∙ by .by .reached .sum)
 
 ready-settled : (n : Network) (t : ℕ) → Ready n t → (y d : ℕ) → y < n .plan .graph .bridges → (y ≡ d → ⊥) → (distanceIn (n .plan) t y d ≡ NONE → ⊥) → Settled n t y d
 unfolding path linksCrossed

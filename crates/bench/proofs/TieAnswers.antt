@@ -6,15 +6,16 @@ use mathlib.Core.Bool.{Bool, true, false, cond}
 use mathlib.Core.List.{List, _∷_}
 use lib.ListN.{length, getD}
 use lib.Dec.{eqb}
-use borrow.Author.Tests.{eqb-true, lt-ltb, le-leb}
+use borrow.Author.Tests.{eqb-true}
 use Rattle.distances.specs.View.{InRange, costsOf}
 use Rattle.distances.specs.Table.{cell}
-use Rattle.distances.proofs.Booleans.{true-both, below}
-use Rattle.distances.proofs.Ranges.{true-allBelow}
-use Rattle.agreement.specs.Ranges.{portInRange, recordsInRange}
+use Rattle.distances.proofs.Booleans.{below}
+use Rattle.agreement.specs.Ranges.{portInRange}
 use Rattle.agreement.specs.Forwarding.{port}
-use Rattle.agreement.specs.Call.{Lent, lentGraph, portOutcome, says}
+use Rattle.agreement.specs.Call.{Lent, lentGraph, says}
 use Rattle.agreement.proofs.PortCong.{port-cong}
+use Rattle.agreement.proofs.InRange.{records-pass, port-passes}
+use Rattle.agreement.proofs.Outcomes.{port-accepted}
 use Rattle.bench.specs.Net.{Network, Plan}
 use Rattle.bench.specs.Calls as calls
 use Rattle.bench.specs.Calls.{Call, Check, refusal, refuse, checks, noSuchBridge}
@@ -85,17 +86,15 @@ module _ (s : State) (n : Network) (r : Represents s n) where
     port-inside :
         portInRange (s .bench .bridges) (s .bench .links) (s .bench .ends) (lentOf .costs) (lentOf .table) (s .bench .views)
         (s .bench .records) (length (s .sent)) (length (s .held)) y d ≡ true
-    unfolding portInRange recordsInRange
     port-inside =
-        true-both (lent-in-range (s .bench) (s .costs) (s .tables) (inside .lasting) viewOf is-view)
-        (true-both (true-both (le-leb _ _ (inside .sentLong)) (le-leb _ _ (inside .heldLong)))
-        (true-both (true-both (le-leb _ _ (inside .lasting .viewsLeast)) (le-leb _ _ (inside .lasting .viewsMost)))
-        (true-both (true-both (le-leb _ _ (small .1)) (true-allBelow _ _ (inside .records)))
-        (true-both (lt-ltb _ _ hy) (lt-ltb _ _ hd)))))
+        port-passes _ _ _ _ _ _ _ (lent-in-range (s .bench) (s .costs) (s .tables) (inside .lasting) viewOf is-view)
+        (inside .sentLong) (inside .heldLong) (s .bench .views) (s .bench .records) y d
+        (inside .lasting .viewsLeast) (inside .lasting .viewsMost)
+        (records-pass _ (s .bench .links) (s .bench .records) (small .1) (inside .records)) hy hd
 
     port-in : portIn s y d ≡ port (lentGraph lentOf) (costsOf (lentOf .costs)) (cell (lentOf .table)) (network s .records) y d
-    unfolding portIn found portOutcome
-    port-in = rw port-inside
+    unfolding portIn found
+    port-in = rw (port-accepted lentOf (s .bench .views) (s .bench .cut) (s .bench .records) (s .sent) (s .held) y d port-inside)
 
     pub port-same : portIn s y d ≡ ports.portOf n y d
     unfolding ports.portOf

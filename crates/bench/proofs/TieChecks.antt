@@ -8,6 +8,7 @@ use lib.ListN.{length}
 use lib.Dec.{ltb}
 use borrow.Author.Tests.{ltb-true, lt-ltb}
 use Rattle.distances.proofs.Booleans.{both-true, true-both, below}
+use Rattle.distances.proofs.Refusals.{refusal-next}
 use Rattle.bench.specs.Net.{Network, Message}
 use Rattle.bench.specs.Calls.{Call, Change, change, update, cut, restore, send, deliver, repeat, lose, port, report, path, Check, refusal, noSuchBridge, noSuchView, noSuchLink, noNumberLeft, notOnLink, linkCut, noRoom, noMessage, already, messageAt, changeChecks, checks, refuse}
 use Rattle.bench.specs.State.{State, network, messageFrom}
@@ -15,7 +16,7 @@ use Rattle.bench.specs.Ranges.{messagePasses}
 use Rattle.bench.specs.Changes.{refusalOf}
 use Rattle.bench.specs.Whole.{Represents}
 use Rattle.bench.proofs.TieRanges.{told}
-use Rattle.bench.proofs.TieRefusals.{refusal-ready, refusal-next}
+use Rattle.bench.proofs.TieRefusals.{refusal-ready}
 use Rattle.bench.proofs.TieFlights.{messages-length, message-at}
 
 -- checks that are the same, in front of others

@@ -4,7 +4,7 @@ use native.Mathlib.Omega.{arith}
 use mathlib.Core.Path.{_≡_, refl, sym, _∙_}
 use mathlib.Core.Bool.{Bool, true, false}
 use mathlib.Core.List.{List, _++_}
-use borrow.Author.Tests.{lt-ltb, le-leb, eqb-true, eqb-false}
+use borrow.Author.Tests.{eqb-true, eqb-false}
 use lib.ListN.{length, getD, take, drop, length-append, length-take, length-drop, List·getD-append}
 use lib.Seq.{length-take-le, getD-take, take-at, drop-at}
 use lib.Dec.{eqb}
@@ -12,15 +12,17 @@ use Rattle.distances.specs.View.{NONE, graphOf, costsOf}
 use Rattle.distances.specs.Distance.{dist}
 use Rattle.distances.specs.Table.{cell, withPairs}
 use Rattle.distances.specs.Call.{inRange, distancesOf}
-use Rattle.distances.proofs.Tables.{withPairs-length, cell-withPairs}
+use Rattle.distances.proofs.Tables.{withPairs-length, cell-withPairs, cell-block}
+use Rattle.distances.proofs.Outcomes.{distances-accepted}
 use Rattle.agreement.specs.Limits.{withLimits}
-use Rattle.agreement.specs.Ranges.{endInRange}
 use Rattle.agreement.specs.Record.{freshRecord}
 use Rattle.agreement.specs.Call.{Lent, lentInRange, lentOffer, freshOutcome, outcome}
 use Rattle.agreement.proofs.Limits.{withLimits-length, cell-same, cell-other}
+use Rattle.agreement.proofs.InRange.{end-passes}
+use Rattle.agreement.proofs.Outcomes.{fresh-accepted}
 use Rattle.bench.specs.State.{part}
 use Rattle.bench.specs.Changes.{filledView, filledTables, Limits, limits, startedEnds}
-use Rattle.bench.proofs.TieRanges.{part-at, part-length}
+use Rattle.bench.proofs.TieRanges.{part-length}
 
 -- ---- one block of a list replaced
 
@@ -41,13 +43,10 @@ module _ (width k : ℕ) (l new : List ℕ) (fits : width * k + width ≤ length
         take-at new (drop width (drop (width * k) l)) width long,
       )
 
-  -- a block in front of it
-  replaced-before : (t i : ℕ) → width * t + width ≤ width * k → i < width → getD (part width t replaced) i 0 ≡ getD (part width t l) i 0
-  replaced-before t i before h =
-      part-at width t replaced i h
-      ∙ List·getD-append (take (width * k) l) _ 0 (width * t + i) (omega (arith, front-long))
-      ∙ getD-take (width * k) l (width * t + i) 0 (omega arith)
-      ∙ sym (part-at width t l i h)
+  -- a number in front of it
+  replaced-before : (p : ℕ) → p < width * k → getD replaced p 0 ≡ getD l p 0
+  replaced-before p before =
+      List·getD-append (take (width * k) l) _ 0 p (omega (arith, front-long)) ∙ getD-take (width * k) l p 0 before
 
 -- ---- the distances of each view
 
@@ -71,14 +70,13 @@ module _ (bridges links : ℕ) (places costs tables : List ℕ) where
     fits-full = omega (arith, ih .long)
 
     distances-are : distancesOf bridges links places (part 32 k costs) (part 256 k full) .table ≡ distancesIn
-    unfolding distancesOf
-    distances-are = rw (part-length 256 k full fits-full, ok)
+    distances-are = rw (distances-accepted bridges links places (part 32 k costs) (part 256 k full) (rw (part-length 256 k full fits-full) ok))
 
     distances-long : length distancesIn ≡ 256
     distances-long = withPairs-length bridges (part 256 k full) _ ∙ part-length 256 k full fits-full
 
     filled-next : Filled (suc k) (filledView bridges links places costs k full)
-    unfolding filledView cell
+    unfolding filledView
     filled-next =
         rw distances-are
         (record {
@@ -95,7 +93,11 @@ module _ (bridges links : ℕ) (places costs tables : List ℕ) where
             (cell-withPairs bridges (part 256 k full) _ i j few (omega (arith, part-length 256 k full fits-full)) hi hj)
         go t i j hi hj h false q =
             let below : t < k = omega (arith, eqb-false t k q) in
-            replaced-before 256 k full distancesIn fits-full distances-long t (16 * i + j) (omega arith) (omega arith)
+            let row : i < 16 = omega arith in
+            let column : j < 16 = omega arith in
+            cell-block t i j after row column
+            ∙ replaced-before 256 k full distancesIn fits-full distances-long (256 * t + 16 * i + j) (omega arith)
+            ∙ sym (cell-block t i j full row column)
             ∙ ih .block t i j below hi hj
 
   pub filled-all :
@@ -127,8 +129,9 @@ module _ (v : Lent) (x : Limits) where
       begin-is :
           freshOutcome v k (z .sent) (z .held)
           ≡ outcome 0 freshRecord (withLimits (v .bridges) k (lentOffer v k) (z .sent)) (withLimits (v .bridges) k (λ d. NONE) (z .held))
-      unfolding freshOutcome endInRange
-      begin-is = rw (ok, ih .sentLong, ih .heldLong, le-leb _ _ sentRoom, le-leb _ _ heldRoom, lt-ltb _ _ low)
+      begin-is =
+          fresh-accepted v k (z .sent) (z .held)
+          (end-passes _ _ _ _ _ _ _ ok (rw (ih .sentLong) sentRoom) (rw (ih .heldLong) heldRoom) k low)
 
       -- a row that is started, beside those below
       row-begun :

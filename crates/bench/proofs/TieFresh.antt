@@ -15,6 +15,7 @@ use Rattle.agreement.specs.Record.{freshRecord}
 use Rattle.agreement.specs.Ranges.{recordInRange}
 use Rattle.agreement.specs.declared.EndRecord.{EndRecord}
 use Rattle.agreement.specs.Call.{lentOffer}
+use Rattle.agreement.proofs.InRange.{fresh-record-passes}
 use Rattle.bench.specs.Net.{fresh, distanceIn, offerIn}
 use Rattle.bench.specs.State.{State, state, part, lentView, messagesFrom}
 use Rattle.bench.specs.Ranges.{graphInRange, costsInRange, tablesLong}
@@ -114,7 +115,6 @@ module _ (b : Bench) (costs tables sent held : List ℕ) where
       end-fresh P new e h = rw (getD-replicate 64 e freshRecord freshRecord (omega (arith, counts .1))) new
 
       ready-after : StateReady freshState
-      unfolding recordInRange
       ready-after =
           record {
             lasting = lasting-after;
@@ -122,7 +122,7 @@ module _ (b : Bench) (costs tables sent held : List ℕ) where
             heldLong = rw (limits-after .heldLong) (told .heldLong);
             count = omega arith;
             view = λ y h. rw (bridge-fresh 0 y h) (told .lasting .viewsLeast);
-            records = end-fresh (λ (x : EndRecord). recordInRange (b .views) x ≡ true) refl;
+            records = end-fresh (λ (x : EndRecord). recordInRange (b .views) x ≡ true) (fresh-record-passes (b .views));
             messagesLong = room;
             message = λ p h. absurd (omega arith);
           }

@@ -3,16 +3,18 @@ use Prim.Native.Nat.{ℕ, suc, _+_, _*_, _≤_, _<_}
 use native.Mathlib.Omega.{arith}
 use mathlib.Core.Path.{_≡_, refl, sym, _∙_, ap}
 use mathlib.Core.Bool.{Bool, true, false, cond, _&&_, not}
-use borrow.Author.Tests.{lt-ltb, le-leb, eqb-true, eqb-false}
+use borrow.Author.Tests.{lt-ltb, eqb-true, eqb-false}
 use lib.ListN.{length, getD, set, length-set}
 use lib.Dec.{eqb}
 use Rattle.distances.specs.Table.{cell}
-use Rattle.distances.proofs.Booleans.{below, true-both, other-false}
+use Rattle.distances.proofs.Booleans.{other-false}
 use Rattle.agreement.specs.Offer.{opposite}
 use Rattle.agreement.specs.Record.{freshRecord, updated, sentUpdated, heldUpdated}
-use Rattle.agreement.specs.Ranges.{isView, recordInRange}
+use Rattle.agreement.specs.Ranges.{recordInRange}
 use Rattle.agreement.specs.Call.{Lent, lentOffer}
 use Rattle.agreement.specs.declared.EndRecord.{EndRecord}
+use Rattle.agreement.proofs.RecordLaws.{holdingReceived, updated-by, sent-updated-same, held-updated-same}
+use Rattle.agreement.proofs.InRange.{view-passes, record-same}
 use Rattle.bench.specs.Net.{Network, offerIn}
 use Rattle.bench.specs.Calls.{change, update, moved, updatedTo, changed, act, step}
 use Rattle.bench.specs.State.{State, state, lentView}
@@ -23,24 +25,6 @@ use Rattle.bench.proofs.TieRanges.{StateReady, getD-stored, told, ready
 use Rattle.bench.proofs.TieRefusals.{settled-step}
 use Rattle.bench.proofs.TieChecks.{refusal-same}
 use Rattle.bench.proofs.TieMovedEnds.{Turned, EndsReady, turned-all}
-
--- the record whose received view has become the one held
-abbrev holdingReceived : EndRecord → EndRecord
-holdingReceived r = record { received = r .received; view = r .view; discarded = r .received; holding = true }
-
--- what holds of a record, before and after that, holds of the updated one
-updated-keeps :
-    (P : EndRecord → Type 0) (t : ℕ) (r : EndRecord) (c : Bool) →
-    P r →
-    P (holdingReceived r) →
-    P (cond c (updated t r) r)
-unfolding updated
-updated-keeps P t r false old new = old
-updated-keeps P t r true old new = go (eqb (r .view) t)
-  where
-    go : (b : Bool) → P (cond b (holdingReceived r) r)
-    go true = new
-    go false = old
 
 -- bridge y moves to view t, another one
 module _ (s : State) (n : Network) (r : Represents s n) (y t : ℕ) (low : y < s .bench .bridges) (view : t < s .bench .views) where
@@ -60,12 +44,11 @@ module _ (s : State) (n : Network) (r : Represents s n) (y t : ℕ) (low : y < s
   counts = few (s .bench) _ _ (isReady .lasting)
 
   ends-ready : EndsReady lentOf (s .bench .views) y t endsOf
-  unfolding isView
   ends-ready =
       record {
         few = counts .0;
         view = lent-in-range (s .bench) _ _ (isReady .lasting) t view;
-        isView = true-both (le-leb _ _ (isReady .lasting .viewsLeast)) (true-both (le-leb _ _ (isReady .lasting .viewsMost)) (lt-ltb _ _ view));
+        isView = view-passes _ t (isReady .lasting .viewsLeast) (isReady .lasting .viewsMost) view;
         records = isReady .records;
         links = counts .1;
         recordsRoom = omega (arith, counts .1, r .typed .records);
@@ -90,15 +73,18 @@ module _ (s : State) (n : Network) (r : Represents s n) (y t : ℕ) (low : y < s
     end-after = rw (lt-ltb e (2 * s .bench .links) h) at (turned .end e)
 
     end-keeps : (P : EndRecord → Type 0) → P old → P (holdingReceived old) → P (getD (endsAfter .records) e freshRecord)
-    end-keeps P before after = rw end-after (updated-keeps P t old own before after)
+    end-keeps P before after = rw end-after (go own)
+      where
+        go : (c : Bool) → P (cond c (updated t old) old)
+        go true = updated-by t old P before after
+        go false = before
 
     module _ (d : ℕ) (k : d < s .bench .bridges) where
       sent-by :
           (c : Bool) →
           cond c (sentUpdated (offerIn (n .plan) t e) (n .records .sent e)) (n .records .sent e) d
           ≡ cond c (sentUpdated (lentOffer lentOf e) (cell (s .sent) e) d) (cell (s .sent) e d)
-      unfolding sentUpdated
-      sent-by true = rw (r .sent e d h k, offer-stands s n r t view e d h k)
+      sent-by true = sent-updated-same _ _ _ _ d (offer-stands s n r t view e d h k) (r .sent e d h k)
       sent-by false = r .sent e d h k
 
       sent-after : cond own (sentUpdated (offerIn (n .plan) t e) (n .records .sent e)) (n .records .sent e) d ≡ cell (endsAfter .sent) e d
@@ -108,8 +94,8 @@ module _ (s : State) (n : Network) (r : Represents s n) (y t : ℕ) (low : y < s
           (c : Bool) →
           cond c (heldUpdated t (n .records .ends e) (offerIn (n .plan) t (opposite e)) (n .records .held e)) (n .records .held e) d
           ≡ cond c (heldUpdated t old (lentOffer lentOf (opposite e)) (cell (s .held) e) d) (cell (s .held) e d)
-      unfolding heldUpdated
-      held-by true = rw (r .ends e h, r .held e d h k, offer-stands s n r t view (opposite e) d (omega arith) k)
+      held-by true =
+          rw (r .ends e h) (held-updated-same _ _ _ _ d (offer-stands s n r t view (opposite e) d (omega arith) k) (r .held e d h k) t old)
       held-by false = r .held e d h k
 
       held-after :
@@ -140,7 +126,6 @@ module _ (s : State) (n : Network) (r : Represents s n) (y t : ℕ) (low : y < s
     stateAfter = let o = movedBench (s .bench) y t endsAfter in state (o .bench) (s .costs) (s .tables) (o .sent) (o .held) (s .messages)
 
     ready-after : StateReady stateAfter
-    unfolding recordInRange
     ready-after =
         record {
           lasting = isReady .lasting;
@@ -148,7 +133,9 @@ module _ (s : State) (n : Network) (r : Represents s n) (y t : ℕ) (low : y < s
           heldLong = rw (turned .heldLong) (isReady .heldLong);
           count = isReady .count;
           view = λ z h. rw (getD-stored (s .bench .view) y t z 0 (omega (arith, counts .0, r .typed .views))) (view-in-range (eqb z y) (isReady .view z h));
-          records = λ e h. end-keeps e h (λ (x : EndRecord). recordInRange (s .bench .views) x ≡ true) (isReady .records e h) (isReady .records e h);
+          records = λ e h.
+              end-keeps e h (λ (x : EndRecord). recordInRange (s .bench .views) x ≡ true) (isReady .records e h)
+              (record-same (s .bench .views) (holdingReceived (old e h)) (old e h) refl ∙ isReady .records e h);
           messagesLong = isReady .messagesLong;
           message = isReady .message;
         }

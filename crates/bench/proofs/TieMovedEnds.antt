@@ -4,19 +4,22 @@ use native.Mathlib.Omega.{arith}
 use mathlib.Core.Path.{_≡_, refl, sym, _∙_, ap}
 use mathlib.Core.Bool.{Bool, true, false, cond, _&&_}
 use mathlib.Core.List.{List}
-use borrow.Author.Tests.{ltb-true, lt-ltb, le-ltb, le-leb, eqb-true, eqb-false}
+use borrow.Author.Tests.{ltb-true, lt-ltb, le-ltb, eqb-true, eqb-false}
 use lib.ListN.{length, getD, length-set}
 use lib.Seq.{getD-set-same, getD-set-other, set-getD}
 use lib.Dec.{eqb, ltb}
 use Rattle.distances.specs.Table.{cell}
-use Rattle.distances.proofs.Booleans.{not-both, same-test}
+use Rattle.distances.proofs.Booleans.{true-both, not-both, same-test}
 use Rattle.agreement.specs.Offer.{opposite}
 use Rattle.agreement.specs.Record.{freshRecord, updated, sentUpdated, heldUpdated}
 use Rattle.agreement.specs.Limits.{withLimits}
-use Rattle.agreement.specs.Ranges.{isView, recordInRange, endInRange}
+use Rattle.agreement.specs.Ranges.{isView, recordInRange}
 use Rattle.agreement.specs.Call.{Lent, lentInRange, lentOffer, updateOutcome, outcome}
 use Rattle.agreement.specs.declared.EndRecord.{EndRecord}
 use Rattle.agreement.proofs.Limits.{withLimits-length, cell-same, cell-other}
+use Rattle.agreement.proofs.RecordLaws.{sent-updated-same, held-updated-same}
+use Rattle.agreement.proofs.InRange.{end-passes}
+use Rattle.agreement.proofs.Outcomes.{update-accepted}
 use Rattle.bench.specs.Changes.{Ends, ends, ended, endInto, movedEnd, movedEnds}
 
 -- is e an end of bridge y among those below k
@@ -111,22 +114,13 @@ module _ (v : Lent) (views y t : ℕ) (x : Ends) where
     newHeld = withLimits (v .bridges) k (heldUpdated t now (lentOffer v (opposite k)) (cell (z .held) k)) (z .held)
 
     update-is : updateOutcome v views t k now (z .sent) (z .held) ≡ outcome 0 (updated t now) newSent newHeld
-    unfolding updateOutcome endInRange
     update-is =
-        rw (
-          ok .view,
-          ih .sentLong,
-          ih .heldLong,
-          le-leb _ _ (ok .sentRoom),
-          le-leb _ _ (ok .heldRoom),
-          lt-ltb _ _ low,
-          ok .isView,
-          old-end,
-          ok .records k low,
-        )
+        update-accepted v k (z .sent) (z .held) views t now
+        (true-both
+        (end-passes _ _ _ _ _ _ _ (ok .view) (rw (ih .sentLong) (ok .sentRoom)) (rw (ih .heldLong) (ok .heldRoom)) k low)
+        (true-both (ok .isView) (rw old-end (ok .records k low))))
 
     own-turn : eqb (getD (v .ends) k 0) y ≡ true → Turned (suc k) (endInto z k (ended (updated t now) newSent newHeld))
-    unfolding sentUpdated heldUpdated
     own-turn own =
         let room : k < length (z .records) = omega (arith, ok .recordsRoom, ih .recordsLong) in
         let sentRow : 16 * k + 16 ≤ length (z .sent) = omega (arith, ok .links, ok .sentRoom, ih .sentLong) in
@@ -140,11 +134,11 @@ module _ (v : Lent) (views y t : ℕ) (x : Ends) where
               (λ e apart. getD-set-other (z .records) k e _ freshRecord apart);
           sent =
               λ d h. turned-own (v .ends) y k _ _ _ _ own (ih .sent d h)
-              (cell-same (v .bridges) k _ (z .sent) d h (ok .few) sentRow ∙ rw (old-sent d h))
+              (cell-same (v .bridges) k _ (z .sent) d h (ok .few) sentRow ∙ sent-updated-same _ _ _ _ d refl (old-sent d h))
               (λ e apart. cell-other (v .bridges) k _ (z .sent) e d apart (omega (arith, ok .few)));
           held =
               λ d h. turned-own (v .ends) y k _ _ _ _ own (ih .held d h)
-              (cell-same (v .bridges) k _ (z .held) d h (ok .few) heldRow ∙ rw (old-end, old-held d h))
+              (cell-same (v .bridges) k _ (z .held) d h (ok .few) heldRow ∙ rw old-end (held-updated-same _ _ _ _ d refl (old-held d h) t (oldEnd k)))
               (λ e apart. cell-other (v .bridges) k _ (z .held) e d apart (omega (arith, ok .few)));
         }
 

@@ -10,17 +10,18 @@ use lib.ListN.{length, getD, set, replicate, length-take, length-drop}
 use lib.Seq.{getD-take, getD-drop, getD-set-same, getD-set-other}
 use lib.Dec.{eqb, leb, ltb}
 use Rattle.distances.specs.View.{graphOf, costsOf}
-use Rattle.distances.specs.Distance.{present, dist}
+use Rattle.distances.specs.Distance.{dist}
 use Rattle.distances.specs.Table.{cell}
 use Rattle.distances.specs.Call.{inRange, allBelow}
 use Rattle.distances.proofs.Booleans.{both-true, true-both}
 use Rattle.distances.proofs.Ranges.{allBelow-true, true-allBelow, at-bridge, sizes, graph-in-range, costs-in-range}
 use Rattle.distances.proofs.Laws.{dist-cong}
-use Rattle.agreement.specs.Offer.{offer, opposite}
 use Rattle.agreement.specs.Record.{freshRecord}
-use Rattle.agreement.specs.Ranges.{recordInRange, recordsInRange}
+use Rattle.agreement.specs.Ranges.{recordInRange}
 use Rattle.agreement.specs.Call.{lentInRange, lentOffer}
+use Rattle.agreement.proofs.Ends.{offer-same}
 use Rattle.agreement.proofs.Offers.{offer-is}
+use Rattle.agreement.proofs.InRange.{records-pass, records-told}
 use Rattle.bench.specs.Net.{Network, PlanInRange, distanceIn, offerIn}
 use Rattle.bench.specs.State.{State, part, lentView}
 use Rattle.bench.specs.Ranges.{graphInRange, benchInRange, costsInRange, tablesLong, messageInRange, messagesInRange, networkInRange}
@@ -112,10 +113,9 @@ module _ (b : Bench) (costs tables : List ℕ) where
           e < 2 * b .links →
           d < b .bridges →
           lentOffer (lentView b costs tables t) e d ≡ offerIn (planIn b costs) t e d
-      unfolding offer present
       lent-offer-in holds e d he hd =
           offer-is (lentView b costs tables t) lent-in-range (λ i j hi hj. holds i j hi hj ∙ sym (same i j)) e d he hd
-          ∙ rw (cost-at t (e / 2) (omega arith), same (getD (b .ends) e 0) d, same (getD (b .ends) (opposite e) 0) d)
+          ∙ offer-same (graphOf (b .bridges) (b .links) (b .ends)) _ _ _ _ e d (cost-at t (e / 2) (omega arith)) (same _ d) (same _ d)
         where
           same :
               (i j : ℕ) →
@@ -136,12 +136,12 @@ pub record StateReady (s : State) : Type 0 where
 
 module _ (s : State) where
   pub bench-ready : StateReady s → benchInRange (s .bench) ≡ true
-  unfolding benchInRange recordsInRange
+  unfolding benchInRange
   bench-ready r =
       true-both (graph-kept _ _ _ (r .lasting))
       (true-both (le-leb _ _ (r .count))
       (true-both (true-allBelow _ _ (λ y h. lt-ltb _ _ (r .view y h)))
-      (true-both (le-leb _ _ (few (s .bench) (s .costs) (s .tables) (r .lasting) .1)) (true-allBelow _ _ (r .records)))))
+      (records-pass _ _ _ (few (s .bench) (s .costs) (s .tables) (r .lasting) .1) (r .records))))
 
   pub network-ready : StateReady s → stateInRange s ≡ true
   unfolding networkInRange tablesLong
@@ -158,7 +158,7 @@ module _ (s : State) where
   ready r = true-both (network-ready r) (messages-ready r)
 
   pub told : deliveryReady s ≡ true → StateReady s
-  unfolding networkInRange benchInRange recordsInRange tablesLong messagesInRange
+  unfolding networkInRange benchInRange tablesLong messagesInRange
   told ok =
       let b = s .bench in
       let all = both-true (stateInRange s) _ ok in
@@ -176,7 +176,7 @@ module _ (s : State) where
         heldLong = leb-true _ _ (limits .1);
         count = leb-true _ _ (count .0);
         view = λ y h. ltb-true _ _ (allBelow-true _ _ (views .0) y h);
-        records = allBelow-true _ _ (both-true (leb (b .links) 32) _ (views .1) .1);
+        records = records-told (b .views) (b .links) (b .records) (views .1) .1;
         messagesLong = leb-true _ _ (messages .0);
         message = allBelow-true _ _ (messages .1);
       }

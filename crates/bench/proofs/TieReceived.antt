@@ -6,17 +6,19 @@ use mathlib.Core.Bool.{Bool, true, false, cond, _&&_}
 use mathlib.Core.List.{List}
 use lib.ListN.{length, getD, set, length-set}
 use lib.Dec.{eqb}
-use borrow.Author.Tests.{lt-ltb, le-leb}
 use Rattle.distances.specs.Table.{cell}
 use Rattle.distances.proofs.Booleans.{true-both}
 use Rattle.agreement.specs.Offer.{opposite}
 use Rattle.agreement.specs.Record.{freshRecord, answer, recorded, sentDelivered, heldDelivered}
 use Rattle.agreement.specs.Limits.{withLimits}
-use Rattle.agreement.specs.Ranges.{isView, recordInRange, endInRange, deliveryInRange}
+use Rattle.agreement.specs.Ranges.{recordInRange, deliveryInRange}
 use Rattle.agreement.specs.Call.{Lent, lentOffer, lentEndInRange, deliverOutcome, outcome, says}
 use Rattle.agreement.specs.declared.EndRecord.{EndRecord}
 use Rattle.agreement.proofs.Ends.{opposite-below}
 use Rattle.agreement.proofs.Limits.{withLimits-length}
+use Rattle.agreement.proofs.RecordLaws.{recorded-by, sent-delivered-same, held-delivered-same}
+use Rattle.agreement.proofs.InRange.{view-passes, recorded-passes, end-passes, delivery-passes}
+use Rattle.agreement.proofs.Outcomes.{deliver-accepted}
 use Rattle.bench.specs.Net.{Network, Message, offerIn}
 use Rattle.bench.specs.Calls as calls
 use Rattle.bench.specs.State.{State, state, lentView}
@@ -24,7 +26,7 @@ use Rattle.bench.specs.Deliveries.{Delivered, withRecords, receivedAt}
 use Rattle.bench.specs.Whole.{Represents, Typed}
 use Rattle.bench.proofs.TieRanges.{StateReady, told, ready, few, are-bridges, lent-in-range, lent-offer-in, getD-stored}
 use Rattle.bench.proofs.TieChecks.{MessageTold}
-use Rattle.bench.proofs.TieRows.{recorded-by, recorded-in-range, cleared-same, adopted-same, row-at}
+use Rattle.bench.proofs.TieRows.{row-at}
 
 -- the state after a delivery
 abbrev pub deliveredTo : State → Delivered → State
@@ -71,14 +73,10 @@ module _
   small = few (s .bench) (s .costs) (s .tables) (before .lasting)
 
   taken : (lentEndInRange lentThere (s .sent) (s .held) e && deliveryInRange (s .bench .views) view old (x .agreement .view)) ≡ true
-  unfolding endInRange deliveryInRange isView
   taken =
       true-both
-      (true-both (lent-in-range (s .bench) (s .costs) (s .tables) (before .lasting) view is-view)
-      (true-both (le-leb _ _ (before .sentLong)) (true-both (le-leb _ _ (before .heldLong)) (lt-ltb _ _ he))))
-      (true-both
-      (true-both (le-leb _ _ (before .lasting .viewsLeast)) (true-both (le-leb _ _ (before .lasting .viewsMost)) (lt-ltb _ _ is-view)))
-      (true-both (before .records e he) (lt-ltb _ _ (inside .view))))
+      (end-passes _ _ _ _ _ _ _ (lent-in-range (s .bench) (s .costs) (s .tables) (before .lasting) view is-view) (before .sentLong) (before .heldLong) e he)
+      (delivery-passes _ view old (x .agreement .view) (view-passes _ view (before .lasting .viewsLeast) (before .lasting .viewsMost) is-view) (before .records e he) (inside .view))
 
   abbrev sentNow : List ℕ
   sentNow = withLimits (s .bench .bridges) e (sentDelivered number old (x .agreement) (lentOffer lentThere e) (cell (s .sent) e)) (s .sent)
@@ -91,8 +89,7 @@ module _
   outcome-is :
       deliverOutcome lentThere (s .bench .views) view number e old (x .agreement) (s .sent) (s .held)
       ≡ outcome (says (answer view old (x .agreement))) new sentNow heldNow
-  unfolding deliverOutcome
-  outcome-is = rw taken
+  outcome-is = deliver-accepted lentThere e (s .sent) (s .held) (s .bench .views) view old number (x .agreement) taken
 
   abbrev after : State
   after = state (withRecords (s .bench) (set (s .bench .records) e new)) (s .costs) (s .tables) sentNow heldNow (s .messages)
@@ -122,7 +119,7 @@ module _
         view = before .view;
         records = λ k hk.
             each-record (λ z. recordInRange (s .bench .views) z ≡ true) k
-            (recorded-in-range (s .bench .views) view old (x .agreement) (before .records e he) (inside .view))
+            (recorded-passes (s .bench .views) view old (x .agreement) (before .records e he) (inside .view))
             (before .records k hk);
         messagesLong = before .messagesLong;
         message = before .message;
@@ -138,11 +135,11 @@ module _
         number = r .typed .number;
         received = λ k hk.
             each-record (λ z. z .received < 65536) k
-            (recorded-by (λ z. z .received < 65536) view old (x .agreement) (r .typed .received e he) (inside .number) (inside .number))
+            (recorded-by view old (x .agreement) (λ z. z .received < 65536) (r .typed .received e he) (inside .number) (inside .number))
             (r .typed .received k hk);
         discarded = λ k hk.
             each-record (λ z. z .discarded < 65536) k
-            (recorded-by (λ z. z .discarded < 65536) view old (x .agreement) (r .typed .discarded e he) (inside .number) (r .typed .discarded e he))
+            (recorded-by view old (x .agreement) (λ z. z .discarded < 65536) (r .typed .discarded e he) (inside .number) (r .typed .discarded e he))
             (r .typed .discarded k hk);
       }
 
@@ -183,12 +180,12 @@ module _
         sent =
             λ k d hk hd. row-at (s .bench .bridges) e (s .sent) _ (n .records .sent) _ k d (small .0) (row-fits (s .sent) (before .sentLong)) hd
             (rw (same-number, same-view, r .ends e he)
-            (cleared-same number old (x .agreement) _ _ _ _ d (same-offer e d he hd) (r .sent e d he hd)))
+            (sent-delivered-same _ _ _ _ d (same-offer e d he hd) (r .sent e d he hd) number old (x .agreement)))
             (r .sent k d hk hd);
         held =
             λ k d hk hd. row-at (s .bench .bridges) e (s .held) _ (n .records .held) _ k d (small .0) (row-fits (s .held) (before .heldLong)) hd
             (rw (same-view, r .ends e he)
-            (adopted-same view old (x .agreement) _ _ _ _ d (same-offer (opposite e) d (opposite-below e _ he) hd) (r .held e d he hd)))
+            (held-delivered-same _ _ _ _ d (same-offer (opposite e) d (opposite-below e _ he) hd) (r .held e d he hd) view old (x .agreement)))
             (r .held k d hk hd);
         messages = r .messages;
       }

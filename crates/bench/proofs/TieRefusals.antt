@@ -2,32 +2,23 @@
 use Prim.Native.Nat.{ℕ}
 use mathlib.Core.Path.{_≡_, refl}
 use mathlib.Core.Bool.{Bool, true, false, cond}
-use mathlib.Core.List.{List, _∷_}
 use lib.Dec.{eqb}
+use Rattle.distances.proofs.Refusals.{First.here, first, later}
 use Rattle.bench.specs.Net.{Network}
-use Rattle.bench.specs.Calls.{Call, Check, refusal, refuse, accepted, act, step}
+use Rattle.bench.specs.Calls.{Call, checks, refuse, accepted, act, step}
 use Rattle.bench.specs.State.{State}
 use Rattle.bench.specs.Changes.{refusalOf, settled}
 use Rattle.bench.specs.Whole.{Represents}
 
+-- out of range: 17
+pub refusal-out : (ok : Bool) (n : Network) (c : Call) → ok ≡ false → 17 ≡ refusalOf ok n c
+unfolding refusalOf
+refusal-out ok n c e = first (here (rw e))
+
 -- in range: the table's checks
 pub refusal-ready : (ok : Bool) (n : Network) (c : Call) → ok ≡ true → refusalOf ok n c ≡ refuse n c
-unfolding refusalOf refusal refuse
-refusal-ready ok n c e = rw e
-
--- the first check agrees, and where it does not apply the later ones do
-pub refusal-next :
-    (x y : Check) (xs ys : List Check) →
-    x .when ≡ y .when →
-    x .number ≡ y .number →
-    (y .when ≡ false → refusal xs ≡ refusal ys) →
-    refusal (x ∷ xs) ≡ refusal (y ∷ ys)
-unfolding refusal
-refusal-next x y xs ys when number later = rw (when, number) (go (y .when) later)
-  where
-    go : (b : Bool) → (b ≡ false → refusal xs ≡ refusal ys) → cond b (y .number) (refusal xs) ≡ cond b (y .number) (refusal ys)
-    go true later = refl
-    go false later = later refl
+unfolding refusalOf refuse
+refusal-ready ok n c e = later _ (checks n c) (rw e)
 
 -- a call whose outcome is settled by a number that is the network's refusal: the old state where it is refused, and where it is accepted
 -- what stands for the network that it makes

@@ -1,61 +1,15 @@
--- What becomes of an end's record and of its two rows of limits when it receives a message, as far as the state's ranges and the
--- network's destinations ask. Assumes nothing.
+-- A table of limits in which one end's row is rewritten, against rows of which one is another. Assumes nothing.
 use Prim.Native.Nat.{ℕ, _+_, _*_, _≤_, _<_}
 use native.Mathlib.Omega.{arith}
 use mathlib.Core.Path.{_≡_, refl, sym, _∙_}
-use mathlib.Core.Bool.{Bool, true, false, cond, _||_}
+use mathlib.Core.Bool.{Bool, true, false, cond}
 use mathlib.Core.List.{List}
 use lib.ListN.{length}
-use lib.Dec.{eqb, ltb}
-use borrow.Author.Tests.{eqb-true, eqb-false, lt-ltb}
+use lib.Dec.{eqb}
+use borrow.Author.Tests.{eqb-true, eqb-false}
 use Rattle.distances.specs.Table.{cell}
-use Rattle.agreement.specs.Record.{noView, isStale, isAgreed, answer, recorded, sentDelivered, heldDelivered}
 use Rattle.agreement.specs.Limits.{withLimits}
-use Rattle.agreement.specs.Ranges.{recordInRange}
-use Rattle.agreement.specs.declared.EndRecord.{EndRecord}
-use Rattle.agreement.specs.declared.Agreement.{Agreement}
-use Rattle.agreement.specs.declared.Answer.the-variants.{Stale, Agreed, Noted}
 use Rattle.agreement.proofs.Limits.{cell-same, cell-other}
-
--- what holds of a record, and of one with the message's number and view, holds of the record afterwards
-pub recorded-by :
-    (P : EndRecord → Type 0) (v : ℕ) (r : EndRecord) (m : Agreement) →
-    P r →
-    P (record { received = m .number; view = m .view; discarded = m .number; holding = true }) →
-    P (record { received = m .number; view = m .view; discarded = r .discarded; holding = r .holding }) →
-    P (recorded r (answer v r m))
-unfolding recorded answer
-recorded-by P v r m stale agreed noted = go (isStale r m) (isAgreed v m)
-  where
-    go : (a b : Bool) → P (recorded r (cond a Stale (cond b (Agreed (m .number) (m .view)) (Noted (m .number) (m .view)))))
-    go true b = stale
-    go false true = agreed
-    go false false = noted
-
-pub recorded-in-range :
-    (views v : ℕ) (r : EndRecord) (m : Agreement) →
-    recordInRange views r ≡ true →
-    m .view < views →
-    recordInRange views (recorded r (answer v r m)) ≡ true
-unfolding recordInRange
-recorded-in-range views v r m old low = recorded-by (λ x. recordInRange views x ≡ true) v r m old new new
-  where
-    go : (a : Bool) → (a || ltb (m .view) views) ≡ true
-    go true = refl
-    go false = lt-ltb (m .view) views low
-
-    new : (eqb (m .view) noView || ltb (m .view) views) ≡ true
-    new = go (eqb (m .view) noView)
-
--- a row at destination d
-module _ (t : ℕ) (r : EndRecord) (m : Agreement) (offers offers′ row row′ : ℕ → ℕ) (d : ℕ) (same : offers d ≡ offers′ d) (old : row d ≡ row′ d) where
-  pub cleared-same : sentDelivered t r m offers row d ≡ sentDelivered t r m offers′ row′ d
-  unfolding sentDelivered
-  cleared-same = rw (same, old)
-
-  pub adopted-same : heldDelivered t r m offers row d ≡ heldDelivered t r m offers′ row′ d
-  unfolding heldDelivered
-  adopted-same = rw (same, old)
 
 -- a table in which the row of e is rewritten, against rows in which that of e is another: at any row
 pub row-at :

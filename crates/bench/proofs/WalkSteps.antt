@@ -3,24 +3,24 @@
 use Prim.Native.Nat.{ℕ, zero, suc, _+_, _-_, _*_, _≤_, _<_}
 use native.Mathlib.Numerals.{add-one}
 use native.Mathlib.Omega.{arith}
-use mathlib.Core.Path.{_≡_, refl, sym, ap, _∙_}
+use mathlib.Core.Path.{_≡_, refl, sym}
 use mathlib.Core.Bool.{Bool, true, false, cond}
 use mathlib.Core.List.{List, [], _∷_}
 use borrow.Author.Tests.{eq-eqb, ne-eqb}
-use lib.ListN.{length, getD, take, drop}
+use lib.ListN.{getD, take, drop}
 use lib.Dec.{eqb}
 use Rattle.distances.specs.View.{Graph, graphOf, costsOf}
 use Rattle.distances.specs.Table.{cell}
 use Rattle.distances.proofs.Booleans.{below}
 use Rattle.distances.proofs.Refusals.{passed}
-use Rattle.agreement.specs.Forwarding.{port}
-use Rattle.agreement.specs.Ranges.{portInRange}
-use Rattle.agreement.specs.Call.{Said, Lent, lent, lentGraph, lentRecords, says, refused, forwardingSays, portOutcome}
+use Rattle.distances.proofs.Tables.{cell-block}
+use Rattle.agreement.specs.Call.{Said, Lent, lent, lentGraph, lentRecords, forwardingSays, portOutcome}
 use Rattle.agreement.specs.declared.EndRecord.{EndRecord}
 use Rattle.agreement.specs.declared.Forwarding.{Forwarding}
 use Rattle.agreement.specs.declared.Port.{Port}
 use Rattle.agreement.specs.declared.Port.the-variants.{Closed, Open}
 use Rattle.agreement.proofs.Forwards.{open-forwards}
+use Rattle.agreement.proofs.Outcomes.{portReady, port-accepted, port-refused}
 use Rattle.bench.specs.Net.{Network}
 use Rattle.bench.specs.Calls.{Check, refusal, noSuchBridge}
 use Rattle.bench.specs.Ports.{Hop, stays, crosses, across, hopBy}
@@ -29,7 +29,6 @@ use Rattle.bench.specs.State.{State, state, lentView, part}
 use Rattle.bench.specs.Answers.{found, portIn, hopIn, reportedRow, reported}
 use Rattle.bench.specs.Steps.{Ready}
 use Rattle.bench.specs.declared.Bench.{Bench}
-use Rattle.bench.proofs.TieRanges.{part-at}
 
 -- ---- the port that layer 2 answers
 
@@ -66,18 +65,17 @@ outcome-link :
     (v : Lent) (views : ℕ) (cut : List Bool) (records : List EndRecord) (sent held : List ℕ) (y d l : ℕ) →
     found (portOutcome v views cut records sent held y d .value) ≡ Open l →
     l < v .links
-unfolding found portOutcome
-outcome-link v views cut records sent held y d l =
-    go (portInRange (v .bridges) (v .links) (v .ends) (v .costs) (v .table) views records (length sent) (length held) y d)
+unfolding found
+outcome-link v views cut records sent held y d l o = go (portReady v views cut records sent held y d) refl
   where
-    p : Port
-    p = port (lentGraph v) (costsOf (v .costs)) (cell (v .table)) (lentRecords cut records sent held) y d
-
-    go : (ok : Bool) → found (cond ok (says p) refused .value) ≡ Open l → l < v .links
-    go true o =
-        let by = open-forwards (lentGraph v) (costsOf (v .costs)) (cell (v .table)) (lentRecords cut records sent held) y d l o in
+    go : (ok : Bool) → portReady v views cut records sent held y d ≡ ok → l < v .links
+    go true e =
+        let opens = rw (port-accepted v views cut records sent held y d e) at o in
+        let by = open-forwards (lentGraph v) (costsOf (v .costs)) (cell (v .table)) (lentRecords cut records sent held) y d l opens in
         omega (arith, by .listed, by .link)
-    go false o = absurd (let z : _≡_ {A = ℕ} 0 1 = cc in omega arith)
+    go false e =
+        let closed : Closed ≡ Open l = rw (port-refused v views cut records sent held y d e) at o in
+        absurd (let z : _≡_ {A = ℕ} 0 1 = cc in omega arith)
 
 pub open-link : (s : State) (y d l : ℕ) → portIn s y d ≡ Open l → l < s .bench .links
 unfolding portIn
@@ -159,8 +157,7 @@ bridge-listed n y cs e = below y (n .plan .graph .bridges) (passed (noSuchBridge
 
 -- bridge y's distance, in the block of its view
 pub own-cell : (t y d : ℕ) (tables : List ℕ) → y < 16 → d < 16 → getD tables (256 * t + 16 * y + d) 0 ≡ cell (part 256 t tables) y d
-unfolding cell
-own-cell t y d tables hy hd = ap (λ (p : ℕ). getD tables p 0) (omega arith) ∙ sym (part-at 256 t tables (16 * y + d) (omega arith))
+own-cell t y d tables hy hd = sym (cell-block t y d tables hy hd)
 
 pub reported-more : (s : State) (d y : ℕ) (rows : List ℕ) → reportedRow s d y (reported s d y rows) ≡ reported s d (y + 1) rows
 unfolding reported

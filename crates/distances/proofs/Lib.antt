@@ -9,3 +9,4 @@ pub mod Tables
 pub mod Steps
 pub mod Ranges
 pub mod Refusals
+pub mod Outcomes

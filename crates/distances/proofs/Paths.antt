@@ -13,6 +13,15 @@ use Rattle.distances.proofs.Joined.{AreEnds}
 abbrev pub Reaches : Graph → Costs → ℕ → ℕ → ℕ → Type 0
 Reaches g c i j x = (ls : List ℕ) × IsPath g c i ls j × (total c ls ≡ x)
 
+-- the total of no link, and of one link more
+pub total-none : (c : Costs) → total c [] ≡ 0
+unfolding total
+total-none c = refl
+
+pub total-more : (c : Costs) (l : ℕ) (ls : List ℕ) → total c (l ∷ ls) ≡ c l + total c ls
+unfolding total
+total-more c l ls = refl
+
 total-append : (c : Costs) (ls ms : List ℕ) → total c (ls ++ ms) ≡ total c ls + total c ms
 unfolding total
 total-append c [] ms = sym (zero-add _)

@@ -35,6 +35,10 @@ allBelow-true (suc n) test e l h = go (eqb l n) refl (allBelow-true n test (both
     go true d below = rw (eqb-true l n d) (both-true (allBelow n test) (test n) e .1)
     go false d below = below (omega (arith, eqb-false l n d))
 
+pub allBelow-none : (test : ℕ → Bool) → true ≡ allBelow 0 test
+unfolding allBelow
+allBelow-none test = refl
+
 pub true-allBelow : (n : ℕ) (test : ℕ → Bool) → ((i : ℕ) → i < n → test i ≡ true) → allBelow n test ≡ true
 unfolding allBelow
 true-allBelow zero test each = refl

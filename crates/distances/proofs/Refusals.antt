@@ -1,4 +1,5 @@
--- Laws of a list of checks: the number that an early return gives, and what a list tells where none applies. Assumes nothing.
+-- Laws of a list of checks: the number that an early return gives, what a list tells where none applies, and when two lists give the
+-- same number. Assumes nothing.
 use Prim.Native.Nat.{ℕ, _≤_, _<_}
 use mathlib.Core.Path.{_≡_, refl}
 use mathlib.Core.Bool.{Bool, true, false, cond, _&&_, not}
@@ -27,6 +28,25 @@ passed c cs positive = go (c .when) refl
     go : (b : Bool) → c .when ≡ b → cond b (c .number) (refusal cs) ≡ 0 → (c .when ≡ false) × (refusal cs ≡ 0)
     go true w e = absurd (positive e)
     go false w e = (w, e)
+
+-- a check that does not apply leaves the number to the later ones
+pub later : (c : Check) (cs : List Check) → c .when ≡ false → refusal (c ∷ cs) ≡ refusal cs
+unfolding refusal
+later c cs e = rw e
+
+-- the first checks agree, and where they do not apply the later ones do
+pub refusal-next :
+    (x y : Check) (xs ys : List Check) →
+    x .when ≡ y .when →
+    x .number ≡ y .number →
+    (y .when ≡ false → refusal xs ≡ refusal ys) →
+    refusal (x ∷ xs) ≡ refusal (y ∷ ys)
+unfolding refusal
+refusal-next x y xs ys when number later = rw (when, number) (go (y .when) later)
+  where
+    go : (b : Bool) → (b ≡ false → refusal xs ≡ refusal ys) → cond b (y .number) (refusal xs) ≡ cond b (y .number) (refusal ys)
+    go true later = refl
+    go false later = later refl
 
 -- the check that a number lies between two
 module _ (a n b : ℕ) where

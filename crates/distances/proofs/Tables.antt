@@ -6,8 +6,8 @@ use mathlib.Core.Path.{_≡_, refl, sym, _∙_, ap}
 use mathlib.Core.Bool.{Bool, true, false, cond}
 use mathlib.Core.List.{List, [], _∷_}
 use borrow.Author.Tests.{ltb-true, lt-ltb, eqb-true, eqb-false}
-use lib.ListN.{length, getD, set, length-set}
-use lib.Seq.{ext-getD, getD-set-same, getD-set-other}
+use lib.ListN.{length, getD, set, length-set, take, drop}
+use lib.Seq.{ext-getD, getD-set-same, getD-set-other, getD-take, getD-drop}
 use lib.Dec.{eqb, ltb}
 use Rattle.distances.specs.Table.{cell, rewrittenFrom, rewritten, isPair, withPairs}
 use Rattle.distances.proofs.Booleans.{cond-by, both-true, true-both}
@@ -123,3 +123,12 @@ withPairs-twice n t f g =
     at p b =
         withPairs-at n (withPairs n f t) g p (rw (withPairs-length n t f) b)
         ∙ cond-by (isPair n p) (λ e. rw e) (λ e. rw (e, withPairs-at n t f p b, e))
+
+-- a cell of the k-th block of 256 numbers
+pub cell-block : (k i j : ℕ) (l : List ℕ) → i < 16 → j < 16 → cell (take 256 (drop (256 * k) l)) i j ≡ getD l (256 * k + 16 * i + j) 0
+unfolding cell
+cell-block k i j l hi hj =
+    let low : 16 * i + j < 256 = omega arith in
+    getD-take 256 (drop (256 * k) l) (16 * i + j) 0 low
+    ∙ getD-drop (256 * k) l (16 * i + j) 0
+    ∙ ap (λ (p : ℕ). getD l p 0) (omega arith)

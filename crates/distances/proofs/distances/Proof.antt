@@ -7,9 +7,10 @@ use mathlib.Core.List.{List}
 use mathlib.Core.Path.{_≡_, sym, _∙_, ap}
 use borrow.Author.Needs.{needs}
 use lib.ListN.{length}
-use Rattle.distances.specs.Call.{inRange, Outcome, distancesOf}
+use Rattle.distances.specs.Call.{inRange, Outcome}
 use Rattle.distances.proofs.Steps.{whole}
 use Rattle.distances.proofs.Ranges.{sizes, both-ends, ends-below}
+use Rattle.distances.proofs.Outcomes.{distances-accepted, distances-refused}
 use Rattle.distances.proofs.distances.Statement.{statement}
 use Rattle.distances.proofs.distances.Tie as tie
 
@@ -36,11 +37,10 @@ same-length : tie.Need-same-length
 same-length c = search needs
 
 returns : tie.Need-returns
-unfolding distancesOf
 returns c =
     let ok = accepted (c .before .before .before .before .before .before .before .before .before .before .before .before) in
     let h = sizes _ _ _ _ _ ok in
-    rw ok
+    rw (distances-accepted _ _ _ _ _ ok)
     (ap {B = Outcome} (λ (t : List ℕ). record { reply = 0; table = t })
     (c .before .before .passes .ensures
     ∙ whole _ _ _ _ _ (h .0) (h .4) (both-ends _ _ _ _ _ ok) _ _
@@ -48,8 +48,7 @@ returns c =
     (c .before .before .before .before .before .before .join .ensures)))
 
 returns-2 : tie.Need-returns-2
-unfolding distancesOf
-returns-2 c = rw (sym (c .before .in-range .ensures) ∙ c .if1 .left)
+returns-2 c = rw (distances-refused _ _ _ _ _ (sym (c .before .in-range .ensures) ∙ c .if1 .left))
 
 pub distances-spec : {M : Type 1} → statement M
 distances-spec =

@@ -1,7 +1,8 @@
 -- `calls::carry` meets its contract. Assumes nothing.
 use mathlib.Core.Path.{sym, _∙_}
 use borrow.Author.Needs.{needs}
-use Rattle.agreement.specs.Call.{carryOutcome}
+use Rattle.agreement.proofs.Entry.{both-is}
+use Rattle.agreement.proofs.Outcomes.{carry-accepted, carry-refused}
 use Rattle.agreement.proofs.calls.carry.Statement.{statement}
 use Rattle.agreement.proofs.calls.carry.Tie as tie
 
@@ -15,12 +16,16 @@ both-requires : tie.Need-both-requires
 both-requires c κs = search needs
 
 returns : tie.Need-returns
-unfolding carryOutcome
-returns c = rw (sym (c .before .before .before .is-view .ensures), sym (c .before .before .record-in-range .ensures), sym (c .before .both .ensures) ∙ c .if1 .taken)
+returns c =
+    sym
+    (carry-accepted _ _ _ _
+    (sym (both-is (c .before .both .ensures) (c .before .before .before .is-view .ensures) (c .before .before .record-in-range .ensures)) ∙ c .if1 .taken))
 
 returns-2 : tie.Need-returns-2
-unfolding carryOutcome
-returns-2 c = rw (sym (c .before .before .before .is-view .ensures), sym (c .before .before .record-in-range .ensures), sym (c .before .both .ensures) ∙ c .if1 .left)
+returns-2 c =
+    sym
+    (carry-refused _ _ _ _
+    (sym (both-is (c .before .both .ensures) (c .before .before .before .is-view .ensures) (c .before .before .record-in-range .ensures)) ∙ c .if1 .left))
 
 pub carry-spec : {M : Type 1} → statement M
 carry-spec =

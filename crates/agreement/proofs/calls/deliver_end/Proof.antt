@@ -5,9 +5,9 @@ use borrow.Author.Needs.{needs}
 use lib.ListN.{length}
 use Rattle.distances.proofs.Booleans.{both-true}
 use Rattle.agreement.specs.Ranges.{endInRange, deliveryInRange}
-use Rattle.agreement.specs.Call.{deliverOutcome}
 use Rattle.agreement.proofs.Limits.{row-cleared, row-adopted}
 use Rattle.agreement.proofs.Entry.{both-is, end-accepted}
+use Rattle.agreement.proofs.Outcomes.{deliver-accepted, deliver-refused}
 use Rattle.agreement.proofs.calls.deliver_end.Statement.{statement}
 use Rattle.agreement.proofs.calls.deliver_end.Tie as tie
 
@@ -61,11 +61,9 @@ same-length-2 : tie.Need-same-length-2
 same-length-2 c = search needs
 
 returns : tie.Need-returns
-unfolding deliverOutcome
 returns c =
     let s = c .before .before .before .before .before .before .before .before .before .before .before .before .before .before .before .before .before .before .before .before .before .before .args in
     rw (
-      accepted (c .before .before .before .before .before .before .before .before .before .before .before .before .before),
       c .recorded-by .ensures,
       c .before .answer-of .ensures,
       c .before .before .before .before .before .before .rewrite-end .ensures .0,
@@ -77,10 +75,10 @@ returns c =
       row-cleared (s .number) (s .old) (s .message),
       row-adopted (s .view) (s .old) (s .message),
     )
+    (sym (deliver-accepted _ _ _ _ _ _ _ _ _ (accepted (c .before .before .before .before .before .before .before .before .before .before .before .before .before))))
 
 returns-2 : tie.Need-returns-2
-unfolding deliverOutcome
-returns-2 c = rw (checked (c .before) ∙ c .if1 .left)
+returns-2 c = sym (deliver-refused _ _ _ _ _ _ _ _ _ (checked (c .before) ∙ c .if1 .left))
 
 pub deliver-end-spec : {M : Type 1} → statement M
 deliver-end-spec =

@@ -8,10 +8,10 @@ use borrow.Author.Needs.{needs}
 use lib.Dec.{leb, ltb}
 use Rattle.distances.proofs.Booleans.{both-true}
 use Rattle.agreement.specs.declared.EndRecord.{EndRecord}
-use Rattle.agreement.specs.Call.{portOutcome}
 use Rattle.agreement.specs.Steps.{ViewReady}
 use Rattle.agreement.specs.Ranges.{viewInRange, recordsInRange, portInRange}
 use Rattle.agreement.proofs.Entry.{view-ready}
+use Rattle.agreement.proofs.Outcomes.{port-accepted, port-refused}
 use Rattle.agreement.proofs.calls.port.Statement.{statement}
 use Rattle.agreement.proofs.calls.port.Tie as tie
 
@@ -38,12 +38,12 @@ port-of-requires : tie.Need-port-of-requires
 port-of-requires c κs = told _ _ _ _ _ _ _ _ _ _ _ (sym (c .before .port-in-range .ensures) ∙ c .if1 .taken)
 
 returns : tie.Need-returns
-unfolding portOutcome
-returns c = rw (sym (c .before .before .port-in-range .ensures) ∙ c .before .if1 .taken, c .port-of .ensures)
+returns c =
+    rw (c .port-of .ensures)
+    (sym (port-accepted _ _ _ _ _ _ _ _ (sym (c .before .before .port-in-range .ensures) ∙ c .before .if1 .taken)))
 
 returns-2 : tie.Need-returns-2
-unfolding portOutcome
-returns-2 c = rw (sym (c .before .port-in-range .ensures) ∙ c .if1 .left)
+returns-2 c = sym (port-refused _ _ _ _ _ _ _ _ (sym (c .before .port-in-range .ensures) ∙ c .if1 .left))
 
 pub port-spec : {M : Type 1} → statement M
 port-spec = tie.close (tie.spec port-in-range-requires port-of-requires returns returns-2)

@@ -1,9 +1,9 @@
 -- `calls::start_end` meets its contract. Assumes nothing.
 use mathlib.Core.Path.{_∙_, sym}
 use borrow.Author.Needs.{needs}
-use Rattle.agreement.specs.Call.{freshOutcome}
 use Rattle.agreement.proofs.Limits.{row-offered, row-emptied}
 use Rattle.agreement.proofs.Entry.{end-accepted}
+use Rattle.agreement.proofs.Outcomes.{fresh-accepted, fresh-refused}
 use Rattle.agreement.proofs.calls.start_end.Statement.{statement}
 use Rattle.agreement.proofs.calls.start_end.Tie as tie
 
@@ -23,20 +23,18 @@ same-length-2 : tie.Need-same-length-2
 same-length-2 c = search needs
 
 returns : tie.Need-returns
-unfolding freshOutcome
 returns c =
     rw (
-      sym (c .before .before .before .before .before .before .before .before .end-in-range .ensures) ∙ c .before .before .before .before .before .before .before .if1 .taken,
       c .before .before .before .before .before .before .before .before .before .fresh-record .ensures,
       c .before .before .before .before .rewrite-end .ensures .0,
       c .before .before .before .before .rewrite-end .ensures .1,
       row-offered,
       row-emptied,
     )
+    (sym (fresh-accepted _ _ _ _ (sym (c .before .before .before .before .before .before .before .before .end-in-range .ensures) ∙ c .before .before .before .before .before .before .before .if1 .taken)))
 
 returns-2 : tie.Need-returns-2
-unfolding freshOutcome
-returns-2 c = rw (sym (c .before .end-in-range .ensures) ∙ c .if1 .left, c .before .before .fresh-record .ensures)
+returns-2 c = rw (c .before .before .fresh-record .ensures) (sym (fresh-refused _ _ _ _ (sym (c .before .end-in-range .ensures) ∙ c .if1 .left)))
 
 pub start-end-spec : {M : Type 1} → statement M
 start-end-spec =

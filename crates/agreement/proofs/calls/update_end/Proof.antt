@@ -5,9 +5,9 @@ use borrow.Author.Needs.{needs}
 use lib.ListN.{length}
 use Rattle.distances.proofs.Booleans.{both-true}
 use Rattle.agreement.specs.Ranges.{isView, recordInRange, endInRange}
-use Rattle.agreement.specs.Call.{updateOutcome}
 use Rattle.agreement.proofs.Limits.{row-lowered, row-updated}
 use Rattle.agreement.proofs.Entry.{both-is, end-accepted}
+use Rattle.agreement.proofs.Outcomes.{update-accepted, update-refused}
 use Rattle.agreement.proofs.calls.update_end.Statement.{statement}
 use Rattle.agreement.proofs.calls.update_end.Tie as tie
 
@@ -58,11 +58,9 @@ same-length-2 : tie.Need-same-length-2
 same-length-2 c = search needs
 
 returns : tie.Need-returns
-unfolding updateOutcome
 returns c =
     let s = c .before .before .before .before .before .before .before .before .before .before .before .before .before .before .before .before .before .before .before .before .before .args in
     rw (
-      accepted (c .before .before .before .before .before .before .before .before .before .before),
       c .updated-record .ensures,
       c .before .before .before .before .before .rewrite-end .ensures .0,
       c .before .before .before .before .before .rewrite-end .ensures .1,
@@ -70,10 +68,10 @@ returns c =
       row-lowered,
       row-updated (s .view) (s .old),
     )
+    (sym (update-accepted _ _ _ _ _ _ _ (accepted (c .before .before .before .before .before .before .before .before .before .before))))
 
 returns-2 : tie.Need-returns-2
-unfolding updateOutcome
-returns-2 c = rw (checked (c .before) ∙ c .if1 .left)
+returns-2 c = sym (update-refused _ _ _ _ _ _ _ (checked (c .before) ∙ c .if1 .left))
 
 pub update-end-spec : {M : Type 1} → statement M
 update-end-spec =

@@ -3,10 +3,9 @@ use native.Mathlib.Omega.{arith}
 use mathlib.Core.Path.{sym, _∙_}
 use borrow.Author.Needs.{needs}
 use Rattle.distances.proofs.Booleans.{true-both}
-use Rattle.bench.proofs.FlightCalls.{refusal-out}
 use Rattle.bench.proofs.FlightRanges.{bench-told, network-bench, messages-told}
 use Rattle.bench.proofs.TieChecks.{message-told}
-use Rattle.bench.proofs.TieRefusals.{refusal-ready}
+use Rattle.bench.proofs.TieRefusals.{refusal-out, refusal-ready}
 use Rattle.bench.proofs.messages.delivery_refusal.Statement.{statement}
 use Rattle.bench.proofs.messages.delivery_refusal.Tie as tie
 

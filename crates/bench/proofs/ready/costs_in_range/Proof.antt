@@ -1,10 +1,11 @@
 -- `ready::costs_in_range` meets its contract. The loop's invariant: `ok` says whether the row of every view below `t` passes. Assumes nothing.
 use Prim.Native.Nat.{_≤_, _-_}
 use native.Mathlib.Omega.{arith}
-use mathlib.Core.Path.{_≡_, refl}
+use mathlib.Core.Path.{_≡_}
 use borrow.Author.Needs.{needs}
 use borrow.Author.Tests.{le-leb, lt-leb}
 use Rattle.distances.specs.Call.{inRange, allBelow}
+use Rattle.distances.proofs.Ranges.{allBelow-none}
 use Rattle.agreement.proofs.Basics.{all-more}
 use Rattle.bench.specs.Ranges.{costsInRange}
 use Rattle.bench.specs.State.{part}
@@ -23,8 +24,7 @@ unfolding costsInRange
 returns c = rw (lt-leb 1024 _ (c .if1 .taken))
 
 loop-holds : tie.Need-loop-holds Inv-loop μ-loop
-unfolding allBelow
-loop-holds c = (omega arith, refl)
+loop-holds c = (omega arith, allBelow-none _)
 
 slice-aggregate-row-in-range : tie.Need-slice-aggregate-row-in-range Inv-loop μ-loop
 slice-aggregate-row-in-range c = search needs

@@ -1,10 +1,11 @@
 -- `ready::messages_in_range` meets its contract. The loop's invariant: `ok` says whether every message below `k` passes. Assumes nothing.
 use Prim.Native.Nat.{_≤_, _-_}
 use native.Mathlib.Omega.{arith}
-use mathlib.Core.Path.{_≡_, refl}
+use mathlib.Core.Path.{_≡_}
 use borrow.Author.Needs.{needs}
 use borrow.Author.Tests.{le-leb, lt-leb}
 use Rattle.distances.specs.Call.{allBelow}
+use Rattle.distances.proofs.Ranges.{allBelow-none}
 use Rattle.agreement.proofs.Basics.{all-more}
 use Rattle.bench.specs.Ranges.{messageInRange, messagesInRange}
 use Rattle.bench.proofs.ready.messages_in_range.Statement.{statement}
@@ -22,8 +23,7 @@ unfolding messagesInRange
 returns c = rw (lt-leb 320 _ (c .if1 .taken))
 
 loop-holds : tie.Need-loop-holds Inv-loop μ-loop
-unfolding allBelow
-loop-holds c = (omega arith, refl)
+loop-holds c = (omega arith, allBelow-none _)
 
 mul-at : tie.Need-mul-at Inv-loop μ-loop
 mul-at c = omega arith

@@ -6,6 +6,7 @@ use borrow.Author.Needs.{needs}
 use lib.Dec.{ltb}
 use lib.ListN.{getD}
 use Rattle.distances.specs.Call.{allBelow}
+use Rattle.distances.proofs.Ranges.{allBelow-none}
 use Rattle.agreement.proofs.Basics.{all-more}
 use Rattle.bench.proofs.ready.views_in_range.Statement.{statement}
 use Rattle.bench.proofs.ready.views_in_range.Tie as tie
@@ -18,8 +19,7 @@ abbrev μ-loop : tie.MeasureT-loop
 μ-loop bench ok₀ y₀ ok y = bench .bridges - y
 
 loop-holds : tie.Need-loop-holds Inv-loop μ-loop
-unfolding allBelow
-loop-holds c = (omega arith, refl)
+loop-holds c = (omega arith, allBelow-none _)
 
 element-copy-out-t : tie.Need-element-copy-out-t Inv-loop μ-loop
 element-copy-out-t c = search needs

@@ -1,24 +1,25 @@
 -- `refusals::cut_refusal` meets its contract. Each return cites the tests that led to it. Assumes nothing.
 use borrow.Author.Needs.{needs}
 use borrow.Author.Tests.{lt-ltb, le-ltb}
-use Rattle.bench.specs.Calls.{refuse, checks, changeChecks, refusal, noSuchLink, already}
+use Rattle.distances.proofs.Refusals.{First.none, First.here, First.next, first}
+use Rattle.bench.specs.Calls.{refuse, checks, changeChecks, noSuchLink, already}
 use Rattle.bench.proofs.refusals.cut_refusal.Statement.{statement}
 use Rattle.bench.proofs.refusals.cut_refusal.Tie as tie
 
 returns : tie.Need-returns
-unfolding refuse checks changeChecks refusal noSuchLink
-returns c = rw (le-ltb _ _ (c .if1 .taken))
+unfolding refuse checks changeChecks noSuchLink
+returns c = first (here (rw (le-ltb _ _ (c .if1 .taken))))
 
 element-copy-out-if2 : tie.Need-element-copy-out-if2
 element-copy-out-if2 c = search needs
 
 returns-2 : tie.Need-returns-2
-unfolding refuse checks changeChecks refusal noSuchLink already
-returns-2 c = rw (lt-ltb _ _ (c .before .before .if1 .left), c .if2 .taken)
+unfolding refuse checks changeChecks noSuchLink already
+returns-2 c = first (next (rw (lt-ltb _ _ (c .before .before .if1 .left))) (here (rw (c .if2 .taken))))
 
 returns-3 : tie.Need-returns-3
-unfolding refuse checks changeChecks refusal noSuchLink already
-returns-3 c = rw (lt-ltb _ _ (c .before .before .if1 .left), c .if2 .left)
+unfolding refuse checks changeChecks noSuchLink already
+returns-3 c = first (next (rw (lt-ltb _ _ (c .before .before .if1 .left))) (next (rw (c .if2 .left)) none))
 
 pub cut-refusal-spec : {M : Type 1} → statement M
 cut-refusal-spec = tie.close (tie.spec returns element-copy-out-if2 returns-2 returns-3)

@@ -2,14 +2,15 @@
 use native.Mathlib.Omega.{arith}
 use borrow.Author.Needs.{needs}
 use borrow.Author.Tests.{lt-ltb, le-ltb}
-use Rattle.bench.specs.Calls.{refuse, checks, refusal, noMessage, linkCut}
+use Rattle.distances.proofs.Refusals.{First.none, First.here, First.next, first}
+use Rattle.bench.specs.Calls.{refuse, checks, noMessage, linkCut}
 use Rattle.bench.proofs.TieFlights.{messages-length, message-at}
 use Rattle.bench.proofs.refusals.deliver_refusal.Statement.{statement}
 use Rattle.bench.proofs.refusals.deliver_refusal.Tie as tie
 
 returns : tie.Need-returns
-unfolding refuse checks refusal noMessage
-returns c = rw (messages-length, le-ltb _ _ (c .if1 .taken))
+unfolding refuse checks noMessage
+returns c = first (here (rw (messages-length, le-ltb _ _ (c .if1 .taken))))
 
 mul-link : tie.Need-mul-link
 mul-link c = search needs
@@ -27,24 +28,16 @@ element-copy-out-if2 : tie.Need-element-copy-out-if2
 element-copy-out-if2 c = omega (arith, c .before .before .pre .1 (c .before .if1 .left))
 
 returns-2 : tie.Need-returns-2
-unfolding refuse checks refusal noMessage linkCut
+unfolding refuse checks noMessage linkCut
 returns-2 c =
-    rw (
-      messages-length,
-      lt-ltb _ _ (c .before .before .before .if1 .left),
-      message-at _ _ _ (c .before .before .before .if1 .left),
-      c .if2 .taken,
-    )
+    first
+    (next (rw (messages-length, lt-ltb _ _ (c .before .before .before .if1 .left))) (here (rw (message-at _ _ _ (c .before .before .before .if1 .left)) (c .if2 .taken))))
 
 returns-3 : tie.Need-returns-3
-unfolding refuse checks refusal noMessage linkCut
+unfolding refuse checks noMessage linkCut
 returns-3 c =
-    rw (
-      messages-length,
-      lt-ltb _ _ (c .before .before .before .if1 .left),
-      message-at _ _ _ (c .before .before .before .if1 .left),
-      c .if2 .left,
-    )
+    first
+    (next (rw (messages-length, lt-ltb _ _ (c .before .before .before .if1 .left))) (next (rw (message-at _ _ _ (c .before .before .before .if1 .left)) (c .if2 .left)) none))
 
 pub deliver-refusal-spec : {M : Type 1} → statement M
 deliver-refusal-spec =

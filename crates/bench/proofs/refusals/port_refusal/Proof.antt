@@ -1,21 +1,22 @@
 -- `refusals::port_refusal` meets its contract. The destination's test is `report_refusal`'s. Assumes nothing.
-use mathlib.Core.Path.{_∙_}
+use mathlib.Core.Path.{_∙_, sym}
 use borrow.Author.Needs.{needs}
 use borrow.Author.Tests.{lt-ltb, le-ltb}
-use Rattle.bench.specs.Calls.{refuse, checks, refusal, noSuchBridge}
+use Rattle.distances.proofs.Refusals.{First.here, first, later}
+use Rattle.bench.specs.Calls.{refuse, checks, noSuchBridge}
 use Rattle.bench.proofs.refusals.port_refusal.Statement.{statement}
 use Rattle.bench.proofs.refusals.port_refusal.Tie as tie
 
 returns : tie.Need-returns
-unfolding refuse checks refusal noSuchBridge
-returns c = rw (le-ltb _ _ (c .if1 .taken))
+unfolding refuse checks noSuchBridge
+returns c = first (here (rw (le-ltb _ _ (c .if1 .taken))))
 
 report-refusal-requires : tie.Need-report-refusal-requires
 report-refusal-requires c κs = search needs
 
 returns-2 : tie.Need-returns-2
-unfolding refuse checks refusal noSuchBridge
-returns-2 c = c .report-refusal .ensures ∙ rw (lt-ltb _ _ (c .before .if1 .left))
+unfolding refuse checks noSuchBridge
+returns-2 c = c .report-refusal .ensures ∙ sym (later _ _ (rw (lt-ltb _ _ (c .before .if1 .left))))
 
 pub port-refusal-spec : {M : Type 1} → statement M
 port-refusal-spec = tie.close (tie.spec returns report-refusal-requires returns-2)

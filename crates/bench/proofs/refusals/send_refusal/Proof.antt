@@ -2,19 +2,20 @@
 use mathlib.Core.Path.{sym, _∙_}
 use borrow.Author.Needs.{needs}
 use borrow.Author.Tests.{lt-ltb, le-ltb, le-leb, lt-leb}
-use Rattle.bench.specs.Calls.{refuse, checks, refusal, noSuchBridge, noSuchLink, notOnLink, linkCut, noRoom}
+use Rattle.distances.proofs.Refusals.{First.none, First.here, First.next, first}
+use Rattle.bench.specs.Calls.{refuse, checks, noSuchBridge, noSuchLink, notOnLink, linkCut, noRoom}
 use Rattle.bench.proofs.EntryChecks.{neither}
 use Rattle.bench.proofs.TieFlights.{messages-length}
 use Rattle.bench.proofs.refusals.send_refusal.Statement.{statement}
 use Rattle.bench.proofs.refusals.send_refusal.Tie as tie
 
 returns : tie.Need-returns
-unfolding refuse checks refusal noSuchBridge
-returns c = rw (le-ltb _ _ (c .if1 .taken))
+unfolding refuse checks noSuchBridge
+returns c = first (here (rw (le-ltb _ _ (c .if1 .taken))))
 
 returns-2 : tie.Need-returns-2
-unfolding refuse checks refusal noSuchBridge noSuchLink
-returns-2 c = rw (lt-ltb _ _ (c .before .if1 .left), le-ltb _ _ (c .if2 .taken))
+unfolding refuse checks noSuchBridge noSuchLink
+returns-2 c = first (next (rw (lt-ltb _ _ (c .before .if1 .left))) (here (rw (le-ltb _ _ (c .if2 .taken)))))
 
 mul-first : tie.Need-mul-first
 mul-first c = search needs
@@ -38,54 +39,41 @@ both-requires : tie.Need-both-requires
 both-requires c κs = search needs
 
 returns-3 : tie.Need-returns-3
-unfolding refuse checks refusal noSuchBridge noSuchLink notOnLink
+unfolding refuse checks noSuchBridge noSuchLink notOnLink
 returns-3 c =
-    rw (
-      lt-ltb _ _ (c .before .before .before .before .before .if1 .left),
-      lt-ltb _ _ (c .before .before .before .before .if2 .left),
-      neither,
-      sym (c .before .both .ensures) ∙ c .if3 .taken,
-    )
+    first
+    (next (rw (lt-ltb _ _ (c .before .before .before .before .before .if1 .left)))
+    (next (rw (lt-ltb _ _ (c .before .before .before .before .if2 .left)))
+    (here (rw neither (sym (c .before .both .ensures) ∙ c .if3 .taken)))))
 
 element-copy-out-if4 : tie.Need-element-copy-out-if4
 element-copy-out-if4 c = search needs
 
 returns-4 : tie.Need-returns-4
-unfolding refuse checks refusal noSuchBridge noSuchLink notOnLink linkCut
+unfolding refuse checks noSuchBridge noSuchLink notOnLink linkCut
 returns-4 c =
-    rw (
-      lt-ltb _ _ (c .before .before .before .before .before .before .before .if1 .left),
-      lt-ltb _ _ (c .before .before .before .before .before .before .if2 .left),
-      neither,
-      sym (c .before .before .before .both .ensures) ∙ c .before .before .if3 .left,
-      c .if4 .taken,
-    )
+    first
+    (next (rw (lt-ltb _ _ (c .before .before .before .before .before .before .before .if1 .left)))
+    (next (rw (lt-ltb _ _ (c .before .before .before .before .before .before .if2 .left)))
+    (next (rw neither (sym (c .before .before .before .both .ensures) ∙ c .before .before .if3 .left)) (here (c .if4 .taken)))))
 
 returns-5 : tie.Need-returns-5
-unfolding refuse checks refusal noSuchBridge noSuchLink notOnLink linkCut noRoom
+unfolding refuse checks noSuchBridge noSuchLink notOnLink linkCut noRoom
 returns-5 c =
-    rw (
-      lt-ltb _ _ (c .before .before .before .before .before .before .before .before .if1 .left),
-      lt-ltb _ _ (c .before .before .before .before .before .before .before .if2 .left),
-      neither,
-      sym (c .before .before .before .before .both .ensures) ∙ c .before .before .before .if3 .left,
-      c .before .if4 .left,
-      messages-length,
-      le-leb 64 _ (c .if5 .taken),
-    )
+    first
+    (next (rw (lt-ltb _ _ (c .before .before .before .before .before .before .before .before .if1 .left)))
+    (next (rw (lt-ltb _ _ (c .before .before .before .before .before .before .before .if2 .left)))
+    (next (rw neither (sym (c .before .before .before .before .both .ensures) ∙ c .before .before .before .if3 .left))
+    (next (c .before .if4 .left) (here (rw (messages-length, le-leb 64 _ (c .if5 .taken))))))))
 
 returns-6 : tie.Need-returns-6
-unfolding refuse checks refusal noSuchBridge noSuchLink notOnLink linkCut noRoom
+unfolding refuse checks noSuchBridge noSuchLink notOnLink linkCut noRoom
 returns-6 c =
-    rw (
-      lt-ltb _ _ (c .before .before .before .before .before .before .before .before .if1 .left),
-      lt-ltb _ _ (c .before .before .before .before .before .before .before .if2 .left),
-      neither,
-      sym (c .before .before .before .before .both .ensures) ∙ c .before .before .before .if3 .left,
-      c .before .if4 .left,
-      messages-length,
-      lt-leb 64 _ (c .if5 .left),
-    )
+    first
+    (next (rw (lt-ltb _ _ (c .before .before .before .before .before .before .before .before .if1 .left)))
+    (next (rw (lt-ltb _ _ (c .before .before .before .before .before .before .before .if2 .left)))
+    (next (rw neither (sym (c .before .before .before .before .both .ensures) ∙ c .before .before .before .if3 .left))
+    (next (c .before .if4 .left) (next (rw (messages-length, lt-leb 64 _ (c .if5 .left))) none)))))
 
 pub send-refusal-spec : {M : Type 1} → statement M
 send-refusal-spec =

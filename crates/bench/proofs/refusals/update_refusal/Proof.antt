@@ -2,17 +2,18 @@
 use mathlib.Core.Path.{sym, _∙_}
 use borrow.Author.Needs.{needs}
 use borrow.Author.Tests.{lt-ltb, le-ltb}
-use Rattle.bench.specs.Calls.{refuse, checks, changeChecks, refusal, noSuchBridge, noSuchView, noNumberLeft}
+use Rattle.distances.proofs.Refusals.{First.none, First.here, First.next, first}
+use Rattle.bench.specs.Calls.{refuse, checks, changeChecks, noSuchBridge, noSuchView, noNumberLeft}
 use Rattle.bench.proofs.refusals.update_refusal.Statement.{statement}
 use Rattle.bench.proofs.refusals.update_refusal.Tie as tie
 
 returns : tie.Need-returns
-unfolding refuse checks changeChecks refusal noSuchBridge
-returns c = rw (le-ltb _ _ (c .if1 .taken))
+unfolding refuse checks changeChecks noSuchBridge
+returns c = first (here (rw (le-ltb _ _ (c .if1 .taken))))
 
 returns-2 : tie.Need-returns-2
-unfolding refuse checks changeChecks refusal noSuchBridge noSuchView
-returns-2 c = rw (lt-ltb _ _ (c .before .if1 .left), le-ltb _ _ (c .if2 .taken))
+unfolding refuse checks changeChecks noSuchBridge noSuchView
+returns-2 c = first (next (rw (lt-ltb _ _ (c .before .if1 .left))) (here (rw (le-ltb _ _ (c .if2 .taken)))))
 
 mul-number : tie.Need-mul-number
 mul-number c = search needs
@@ -30,22 +31,18 @@ both-requires : tie.Need-both-requires
 both-requires c κs = search needs
 
 returns-3 : tie.Need-returns-3
-unfolding refuse checks changeChecks refusal noSuchBridge noSuchView noNumberLeft
+unfolding refuse checks changeChecks noSuchBridge noSuchView noNumberLeft
 returns-3 c =
-    rw (
-      lt-ltb _ _ (c .before .before .before .before .before .if1 .left),
-      lt-ltb _ _ (c .before .before .before .before .if2 .left),
-      sym (c .before .both .ensures) ∙ c .if3 .taken,
-    )
+    first
+    (next (rw (lt-ltb _ _ (c .before .before .before .before .before .if1 .left)))
+    (next (rw (lt-ltb _ _ (c .before .before .before .before .if2 .left))) (here (sym (c .before .both .ensures) ∙ c .if3 .taken))))
 
 returns-4 : tie.Need-returns-4
-unfolding refuse checks changeChecks refusal noSuchBridge noSuchView noNumberLeft
+unfolding refuse checks changeChecks noSuchBridge noSuchView noNumberLeft
 returns-4 c =
-    rw (
-      lt-ltb _ _ (c .before .before .before .before .before .if1 .left),
-      lt-ltb _ _ (c .before .before .before .before .if2 .left),
-      sym (c .before .both .ensures) ∙ c .if3 .left,
-    )
+    first
+    (next (rw (lt-ltb _ _ (c .before .before .before .before .before .if1 .left)))
+    (next (rw (lt-ltb _ _ (c .before .before .before .before .if2 .left))) (next (sym (c .before .both .ensures) ∙ c .if3 .left) none)))
 
 pub update-refusal-spec : {M : Type 1} → statement M
 update-refusal-spec =

@@ -1,0 +1,21 @@
+-- What the call comes to where its input is in range and where it is not. Assumes nothing.
+use Prim.Native.Nat.{ℕ}
+use mathlib.Core.Path.{_≡_}
+use mathlib.Core.Bool.{true, false}
+use mathlib.Core.List.{List}
+use lib.ListN.{length}
+use Rattle.distances.specs.View.{graphOf, costsOf}
+use Rattle.distances.specs.Distance.{dist}
+use Rattle.distances.specs.Table.{withPairs}
+use Rattle.distances.specs.Call.{inRange, outcome, distancesOf}
+
+module _ (bridges links : ℕ) (ends costs table : List ℕ) where
+  pub distances-accepted :
+      inRange bridges links ends costs (length table) ≡ true →
+      distancesOf bridges links ends costs table ≡ outcome 0 (withPairs bridges (dist (graphOf bridges links ends) (costsOf costs)) table)
+  unfolding distancesOf
+  distances-accepted ok = rw ok
+
+  pub distances-refused : inRange bridges links ends costs (length table) ≡ false → distancesOf bridges links ends costs table ≡ outcome 17 table
+  unfolding distancesOf
+  distances-refused ok = rw ok

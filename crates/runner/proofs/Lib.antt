@@ -1,0 +1,10 @@
+pub mod EventSteps
+pub mod EventFrames
+pub mod EventRanges
+pub mod StepRefused
+pub mod StepTurns
+pub mod RunSteps
+pub mod RunFuel
+pub mod RunEvents
+pub mod RunSetup
+pub mod RunWhole

@@ -1,0 +1,72 @@
+-- From the first event on: the state at the end is what the calls make of the state now. Assumes nothing.
+use Prim.Native.Nat.{ℕ, zero, suc}
+use native.Mathlib.Omega.{arith}
+use mathlib.Core.Path.{_≡_, refl, subst}
+use mathlib.Core.Bool.{Bool, true, false, cond}
+use mathlib.Core.List.{List, [], _∷_, _++_}
+use borrow.Author.Tests.{ne-eqb}
+use lib.ListN.{drop}
+use lib.Dec.{eqb}
+use Rattle.bench.specs.Calls.{Call}
+use Rattle.bench.specs.State.{State}
+use Rattle.bench.specs.Whole.{runBy}
+use Rattle.plan.specs.Reading.{readReply}
+use Rattle.plan.specs.declared.Event.{Event}
+use Rattle.plan.specs.declared.Field.{Field}
+use Rattle.plan.specs.declared.Read.{Read}
+use Rattle.plan.proofs.Laws.{Told, field-told}
+use Rattle.runner.specs.Desk.{Desk, stateOn, progressOf}
+use Rattle.runner.specs.Events.{callOf, replyOf}
+use Rattle.runner.specs.Turns.{Turn, lastTurn, eventTurn, fieldTurn, opened, stepOf}
+use Rattle.runner.specs.Whole.{Place, place, stateAt, callRead, calls, leaves}
+use Rattle.runner.specs.declared.Runner.{Runner}
+use Rattle.runner.proofs.RunSteps.{Step, refused, ended, carried, step-is}
+
+-- the calls make of the state s the state at the end, and an event came
+pub record Ran (s : State) (end : Place) (cs : List Call) : Type 0 where
+  pub state : stateAt end ≡ runBy s cs
+  pub stage : end .runner .stage ≡ 3
+
+-- what follows a turn
+abbrev pub callsAfter : ℕ → List ℕ → List Call → Turn → List Call
+callsAfter fuel rest read t = cond (t .going) (read ++ calls fuel (t .runner) (t .desk) (drop (t .used) rest)) []
+
+abbrev pub endAfter : ℕ → List ℕ → Turn → Place
+endAfter fuel rest t = cond (t .going) (leaves fuel (t .runner) (t .desk) (drop (t .used) rest)) (place (t .runner) (t .desk))
+
+-- events from now on
+abbrev pub Follows : ℕ → Type 0
+Follows fuel = (r : Runner) (k : Desk) (rest : List ℕ) → r .stage ≡ 3 → Ran (stateOn (r .bench) k) (leaves fuel r k rest) (calls fuel r k rest)
+
+pub event-ran :
+    (fuel : ℕ) → Follows fuel → (s : State) (e : Event) (used : ℕ) (r : Runner) (k : Desk) (rest : List ℕ) →
+    Ran s (endAfter fuel rest (eventTurn s e used r k)) (callsAfter fuel rest (callOf e ∷ []) (eventTurn s e used r k))
+unfolding eventTurn runBy
+event-ran fuel follows s e used r k rest = go (eqb (replyOf s (k .rows) e) 0) refl
+  where
+    go : (b : Bool) → eqb (replyOf s (k .rows) e) 0 ≡ b → Ran s (endAfter fuel rest (eventTurn s e used r k)) (callsAfter fuel rest (callOf e ∷ []) (eventTurn s e used r k))
+    go true q = let n = follows _ _ (drop used rest) refl in rw q (record { state = n .state; stage = n .stage })
+    go false q = rw q (record { state = refl; stage = refl })
+
+-- at stage 3 none but an event is read, and the network stands already
+opened-on : (r : Runner) (k : Desk) → r .stage ≡ 3 → opened r k ≡ stateOn (r .bench) k
+unfolding opened
+opened-on r k e = rw (ne-eqb (r .stage) 2 (omega arith))
+
+pub follows : (fuel : ℕ) → Follows fuel
+unfolding calls leaves runBy lastTurn fieldTurn
+follows zero r k rest h = record { state = refl; stage = h }
+follows (suc fuel) r k rest h = go (follows fuel) (step-is r k rest)
+  where
+    go : Follows fuel → Step r k rest → Ran (stateOn (r .bench) k) (endAfter fuel rest (stepOf r k rest)) (callsAfter fuel rest (callRead (readReply rest (progressOf r))) (stepOf r k rest))
+    go next (refused e) = rw e (record { state = refl; stage = h })
+    go next (ended number d e) = rw e (record { state = refl; stage = h })
+    go next (carried f used long d e) = field f d e (field-told rest (progressOf r) d)
+      where
+        field : (f : Field) → readReply rest (progressOf r) ≡ Read.Field f used → stepOf r k rest ≡ fieldTurn rest f used r k → Told rest (progressOf r) f →
+            Ran (stateOn (r .bench) k) (endAfter fuel rest (stepOf r k rest)) (callsAfter fuel rest (callRead (readReply rest (progressOf r))) (stepOf r k rest))
+        field (Field.Bridges n) d e told = absurd (omega arith)
+        field (Field.Link x y) d e told = absurd (omega arith)
+        field Field.View d e told = absurd (omega arith)
+        field (Field.Event v) d e told =
+            rw (e, d) (subst (λ (s : State). Ran s (endAfter fuel rest (eventTurn (opened r k) v used r k)) (callsAfter fuel rest (callOf v ∷ []) (eventTurn (opened r k) v used r k))) (opened-on r k h) (event-ran fuel next (opened r k) v used r k rest))

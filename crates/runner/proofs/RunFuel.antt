@@ -1,0 +1,84 @@
+-- Fuel for one field more than there are bytes is enough: each field that goes on uses bytes. Assumes nothing.
+use Prim.Native.Nat.{ℕ, zero, suc, _<_}
+use native.Mathlib.Nat.{not-suc-le-zero}
+use native.Mathlib.Omega.{arith}
+use mathlib.Core.Path.{_≡_, refl}
+use mathlib.Core.Bool.{Bool, true, false, false≢true}
+use mathlib.Core.List.{List, _++_, append-nil}
+use lib.ListN.{length, take, drop, length-drop}
+use lib.Dec.{eqb}
+use Rattle.bench.specs.State.{State}
+use Rattle.distances.proofs.Booleans.{not-both}
+use Rattle.plan.specs.Reading.{readReply}
+use Rattle.plan.specs.declared.Event.{Event}
+use Rattle.plan.specs.declared.Field.{Field}
+use Rattle.plan.proofs.Laws.{field-size}
+use Rattle.runner.specs.Desk.{Desk, progressOf}
+use Rattle.runner.specs.Events.{replyOf}
+use Rattle.runner.specs.Turns.{lastTurn, setupTurn, eventTurn, fieldTurn, stepOf}
+use Rattle.runner.specs.Plans.{prints}
+use Rattle.runner.specs.Whole.{setupRead, calls, leaves, setsUp, Same, FuelEnough}
+use Rattle.runner.specs.declared.Runner.{Runner}
+use Rattle.runner.proofs.RunSteps.{Step, refused, ended, carried, step-is}
+
+-- the bytes of a field that goes on are those that were read
+event-used : (s : State) (e : Event) (used : ℕ) (r : Runner) (k : Desk) → eventTurn s e used r k .going ≡ true → eventTurn s e used r k .used ≡ used
+unfolding eventTurn
+event-used s e used r k = go (eqb (replyOf s (k .rows) e) 0) refl
+  where
+    go : (b : Bool) → eqb (replyOf s (k .rows) e) 0 ≡ b → eventTurn s e used r k .going ≡ true → eventTurn s e used r k .used ≡ used
+    go true q h = rw q
+    go false q h = absurd (false≢true (rw q at h))
+
+field-used : (rest : List ℕ) (f : Field) (used : ℕ) (r : Runner) (k : Desk) → fieldTurn rest f used r k .going ≡ true → fieldTurn rest f used r k .used ≡ used
+unfolding fieldTurn setupTurn
+field-used rest (Field.Bridges n) used r k e = refl
+field-used rest (Field.Link x y) used r k e = refl
+field-used rest Field.View used r k e = refl
+field-used rest (Field.Event v) used r k e = event-used _ v used r k e
+
+pub uses : (r : Runner) (k : Desk) (rest : List ℕ) → stepOf r k rest .going ≡ true → length (drop (stepOf r k rest .used) rest) < length rest
+unfolding lastTurn
+uses r k rest = go (step-is r k rest)
+  where
+    go : Step r k rest → stepOf r k rest .going ≡ true → length (drop (stepOf r k rest .used) rest) < length rest
+    go (refused e) h = absurd (false≢true (rw e at h))
+    go (ended number d e) h = absurd (false≢true (rw e at h))
+    go (carried f used long d e) h =
+        let size = field-size rest (progressOf r) d in
+        rw (e, field-used rest f used r k (rw e at h), length-drop) (omega arith)
+
+pub fuel-enough : FuelEnough
+unfolding prints calls leaves setsUp
+fuel-enough r k rest zero more h g = absurd (not-suc-le-zero h)
+fuel-enough r k rest (suc fuel) zero h g = absurd (not-suc-le-zero g)
+fuel-enough r k rest (suc fuel) (suc more) h g = go (stepOf r k rest .going) refl (fuel-enough (stepOf r k rest .runner) (stepOf r k rest .desk) (drop (stepOf r k rest .used) rest) fuel more)
+  where
+    go : (b : Bool) → stepOf r k rest .going ≡ b →
+        (length (drop (stepOf r k rest .used) rest) < fuel → length (drop (stepOf r k rest .used) rest) < more → Same fuel more (stepOf r k rest .runner) (stepOf r k rest .desk) (drop (stepOf r k rest .used) rest)) →
+        Same (suc fuel) (suc more) r k rest
+    go true e next =
+        let less = uses r k rest e in
+        let s = next (omega arith) (omega arith) in
+        record { printed = rw (s .printed); made = rw (s .made); left = rw (s .left); start = rw (s .start) }
+    go false e next = record { printed = rw e; made = rw e; left = rw e; start = rw (e, not-both (setupRead (readReply rest (progressOf r))) false refl) }
+
+-- what is printed from here, a step at a time: the bytes of the step, and what is printed from the next field on
+pub prints-next :
+    (r : Runner) (k : Desk) (rest : List ℕ) →
+    stepOf r k rest .going ≡ true →
+    prints (suc (length rest)) r k rest
+    ≡ take (stepOf r k rest .written) (stepOf r k rest .desk .out)
+    ++ prints (suc (length (drop (stepOf r k rest .used) rest))) (stepOf r k rest .runner) (stepOf r k rest .desk) (drop (stepOf r k rest .used) rest)
+unfolding prints
+prints-next r k rest e =
+    let less = uses r k rest e in
+    let same = fuel-enough (stepOf r k rest .runner) (stepOf r k rest .desk) (drop (stepOf r k rest .used) rest) (length rest) (suc (length (drop (stepOf r k rest .used) rest))) less (omega arith) in
+    rw (e, same .printed)
+
+pub prints-last :
+    (r : Runner) (k : Desk) (rest : List ℕ) →
+    stepOf r k rest .going ≡ false →
+    prints (suc (length rest)) r k rest ≡ take (stepOf r k rest .written) (stepOf r k rest .desk .out)
+unfolding prints
+prints-last r k rest e = rw (e, append-nil)

@@ -1,0 +1,212 @@
+-- The setup of a plan: after any of its fields the bridge count, the ends of the links and the costs of the views are in range, so that
+-- `fresh` accepts what stands where the first event comes. Assumes nothing.
+use Prim.Native.Nat.{ℕ, zero, suc, _+_, _*_, _≤_, _<_}
+use native.Mathlib.Nat.{not-suc-le-zero}
+use native.Mathlib.Omega.{arith}
+use mathlib.Core.Path.{_≡_, refl, _∙_}
+use mathlib.Core.Bool.{Bool, true, false, not}
+use mathlib.Core.List.{List, [], _++_}
+use borrow.Author.Tests.{le-leb, lt-ltb, ne-eqb, eqb-true, eqb-false}
+use lib.ListN.{length, getD, set, take, replicate, length-set, length-replicate, getD-replicate, List·getD-append}
+use lib.Seq.{getD-take, getD-set-same, getD-set-other, getD-append-add, length-take-le}
+use lib.Dec.{eqb}
+use Rattle.distances.specs.Call.{every, linkPasses, linkInRange, inRange}
+use Rattle.distances.proofs.Booleans.{true-both}
+use Rattle.distances.proofs.Ranges.{true-allBelow}
+use Rattle.bench.specs.State.{part}
+use Rattle.bench.specs.Ranges.{tablesLong}
+use Rattle.bench.specs.Changes.{freshOf}
+use Rattle.bench.specs.declared.Bench.{Bench}
+use Rattle.bench.proofs.TieRanges.{part-at, part-length, LastingOf, graph-kept, costs-kept}
+use Rattle.plan.specs.Fields.{costIn}
+use Rattle.plan.specs.Reading.{withCosts, costsReply}
+use Rattle.plan.proofs.Laws.{ViewRead}
+use Rattle.runner.specs.Turns.{withBridges, withLink, withView, withRow}
+use Rattle.runner.specs.Plans.{firstRunner, firstDesk}
+
+-- a row with the costs of the first k links
+costs-length : (rest : List ℕ) (k : ℕ) (row : List ℕ) → length (withCosts rest k row) ≡ length row
+unfolding withCosts
+costs-length rest zero row = refl
+costs-length rest (suc k) row = length-set (withCosts rest k row) k (costIn rest k) ∙ costs-length rest k row
+
+costs-at : (rest : List ℕ) (k : ℕ) (row : List ℕ) (l : ℕ) → l < k → k ≤ length row → getD (withCosts rest k row) l 0 ≡ costIn rest l
+unfolding withCosts
+costs-at rest zero row l h g = absurd (not-suc-le-zero h)
+costs-at rest (suc k) row l h g = go (eqb l k) refl (costs-at rest k row l)
+  where
+    go : (q : Bool) → eqb l k ≡ q → (l < k → k ≤ length row → getD (withCosts rest k row) l 0 ≡ costIn rest l) → getD (withCosts rest (suc k) row) l 0 ≡ costIn rest l
+    go true q next = rw (eqb-true l k q) (getD-set-same (withCosts rest k row) k (costIn rest k) 0 (omega (arith, costs-length rest k row)))
+    go false q next = getD-set-other (withCosts rest k row) k l (costIn rest k) 0 (eqb-false l k q) ∙ next (omega (arith, eqb-false l k q)) (omega arith)
+
+-- the costs with one more row: the rows before it are as they were, and it holds what was read
+row-old : (rest : List ℕ) (b : Bench) (costs : List ℕ) (i : ℕ) → i < 32 * b .views → 32 * b .views ≤ length costs → getD (withRow rest b costs) i 0 ≡ getD costs i 0
+unfolding withRow
+row-old rest b costs i h long =
+    List·getD-append (take (32 * b .views) costs) _ 0 i (omega (arith, length-take-le (32 * b .views) costs long))
+    ∙ getD-take (32 * b .views) costs i 0 h
+
+past : (xs ys : List ℕ) (n l : ℕ) → length xs ≡ n → getD (xs ++ ys) (n + l) 0 ≡ getD ys l 0
+past xs ys n l e = rw e at (getD-append-add xs ys l 0)
+
+row-new : (rest : List ℕ) (b : Bench) (costs : List ℕ) (l : ℕ) → 32 * b .views + 32 ≤ length costs → b .links ≤ 32 → l < b .links →
+    getD (withRow rest b costs) (32 * b .views + l) 0 ≡ costIn rest l
+unfolding withRow costsReply
+row-new rest b costs l long most h =
+    let size = part-length 32 (b .views) costs long in
+    let few = true-both (le-leb (b .links) 32 most) (le-leb 32 (length (part 32 (b .views) costs)) (omega arith)) in
+    past (take (32 * b .views) costs) _ (32 * b .views) l (length-take-le (32 * b .views) costs (omega arith))
+    ∙ rw few
+    (List·getD-append (withCosts rest (b .links) (part 32 (b .views) costs)) _ 0 l (omega (arith, costs-length rest (b .links) (part 32 (b .views) costs)))
+    ∙ costs-at rest (b .links) (part 32 (b .views) costs) l h (omega arith))
+
+-- the ends of a link are two bridges
+pub record Joins (bridges a b : ℕ) : Type 0 where
+  pub first : a < bridges
+  pub second : b < bridges
+  pub differ : a ≡ b → ⊥
+
+-- what the setup so far tells of the bench and the costs, by the stage
+pub record Begun (stage : ℕ) (b : Bench) (costs : List ℕ) : Type 0 where
+  pub early : stage ≤ 2
+  pub least : 1 ≤ stage → 2 ≤ b .bridges
+  pub most : b .bridges ≤ 16
+  pub unlinked : stage ≡ 0 → b .links ≡ 0
+  pub linksMost : b .links ≤ 32
+  pub unviewed : stage ≤ 1 → b .views ≡ 0
+  pub viewed : 2 ≤ stage → 1 ≤ b .views
+  pub viewsMost : b .views ≤ 32
+  pub endsLong : length (b .ends) ≡ 64
+  pub joins : (l : ℕ) → l < b .links → Joins (b .bridges) (getD (b .ends) (2 * l) 0) (getD (b .ends) (2 * l + 1) 0)
+  pub cost : (t l : ℕ) → t < b .views → l < b .links → getD costs (32 * t + l) 0 ≤ 16777215
+
+pub begun-first : Begun 0 (firstRunner .bench) (firstDesk .costs)
+begun-first =
+    record {
+      early = omega arith;
+      least = λ h. omega arith;
+      most = omega arith;
+      unlinked = λ h. refl;
+      linksMost = omega arith;
+      unviewed = λ h. refl;
+      viewed = λ h. omega arith;
+      viewsMost = omega arith;
+      endsLong = length-replicate {A = ℕ} 64 0;
+      joins = λ l h. absurd (not-suc-le-zero h);
+      cost = λ t l h. absurd (not-suc-le-zero h);
+    }
+
+module _ (stage : ℕ) (b : Bench) (costs : List ℕ) (s : Begun stage b costs) where
+  pub bridges-begun : (n : ℕ) → stage ≡ 0 → 2 ≤ n → n ≤ 16 → Begun 1 (withBridges b n) costs
+  bridges-begun n opening least most =
+      let none : b .links ≡ 0 = s .unlinked opening in
+      let unseen : b .views ≡ 0 = s .unviewed (omega arith) in
+      record {
+        early = omega arith;
+        least = λ h. least;
+        most = most;
+        unlinked = λ h. none;
+        linksMost = s .linksMost;
+        unviewed = λ h. unseen;
+        viewed = λ h. absurd (omega arith);
+        viewsMost = s .viewsMost;
+        endsLong = s .endsLong;
+        joins = λ l h. absurd (omega arith);
+        cost = λ t l h g. absurd (omega arith);
+      }
+
+  pub link-begun : (x y : ℕ) → stage ≡ 1 → b .links < 32 → Joins (b .bridges) x y → Begun 1 (withLink b x y) costs
+  link-begun x y counted room new =
+      let unseen : b .views ≡ 0 = s .unviewed (omega arith) in
+      record {
+        early = omega arith;
+        least = λ h. s .least (omega arith);
+        most = s .most;
+        unlinked = λ h. absurd (omega arith);
+        linksMost = omega arith;
+        unviewed = λ h. unseen;
+        viewed = λ h. absurd (omega arith);
+        viewsMost = s .viewsMost;
+        endsLong = simp length-set (s .endsLong);
+        joins = λ l h. joined l h (eqb l (b .links)) refl;
+        cost = λ t l h g. absurd (omega arith);
+      }
+    where
+      joined : (l : ℕ) → l < b .links + 1 → (q : Bool) → eqb l (b .links) ≡ q →
+          Joins (b .bridges) (getD (set (set (b .ends) (2 * b .links) x) (2 * b .links + 1) y) (2 * l) 0) (getD (set (set (b .ends) (2 * b .links) x) (2 * b .links + 1) y) (2 * l + 1) 0)
+      joined l h true q =
+          rw (
+            eqb-true l (b .links) q,
+            getD-set-other (set (b .ends) (2 * b .links) x) (2 * b .links + 1) (2 * b .links) y 0 (omega arith),
+            getD-set-same (b .ends) (2 * b .links) x 0 (omega (arith, s .endsLong)),
+            getD-set-same (set (b .ends) (2 * b .links) x) (2 * b .links + 1) y 0 (simp length-set (omega (arith, s .endsLong))),
+          ) new
+      joined l h false q =
+          let low : l < b .links = omega (arith, eqb-false l (b .links) q) in
+          rw (kept (2 * l) (omega arith), kept (2 * l + 1) (omega arith)) (s .joins l low)
+        where
+          kept : (i : ℕ) → i < 2 * b .links → getD (set (set (b .ends) (2 * b .links) x) (2 * b .links + 1) y) i 0 ≡ getD (b .ends) i 0
+          kept i g = getD-set-other (set (b .ends) (2 * b .links) x) (2 * b .links + 1) i y 0 (omega arith) ∙ getD-set-other (b .ends) (2 * b .links) i x 0 (omega arith)
+
+  pub view-begun : (rest : List ℕ) → ViewRead rest (record { stage = stage; bridges = b .bridges; links = b .links; views = b .views }) → 1024 ≤ length costs →
+      Begun 2 (withView b) (withRow rest b costs)
+  view-begun rest told long =
+      record {
+        early = omega arith;
+        least = λ h. s .least (told .counted);
+        most = s .most;
+        unlinked = λ h. absurd (omega arith);
+        linksMost = s .linksMost;
+        unviewed = λ h. absurd (omega arith);
+        viewed = λ h. omega arith;
+        viewsMost = omega arith;
+        endsLong = s .endsLong;
+        joins = s .joins;
+        cost = λ t l h g. cost-at t l h g (eqb t (b .views)) refl;
+      }
+    where
+      cost-at : (t l : ℕ) → t < b .views + 1 → l < b .links → (q : Bool) → eqb t (b .views) ≡ q → getD (withRow rest b costs) (32 * t + l) 0 ≤ 16777215
+      cost-at t l h g true q = rw (eqb-true t (b .views) q, row-new rest b costs l (omega arith) (s .linksMost) g) (told .costs l g)
+      cost-at t l h g false q =
+          let low : t < b .views = omega (arith, eqb-false t (b .views) q) in
+          rw (row-old rest b costs (32 * t + l) (omega (arith, s .linksMost)) (omega (arith, told .room))) (s .cost t l low g)
+
+  -- the ranges of a view
+  range : (row : List ℕ) → stage ≡ 2 → 32 ≤ length row → ((l : ℕ) → l < b .links → getD row l 0 ≤ 16777215) → inRange (b .bridges) (b .links) (b .ends) row 256 ≡ true
+  unfolding inRange every linkInRange linkPasses
+  range row e long each =
+      true-both (le-leb _ _ (s .least (omega arith)))
+      (true-both (le-leb _ _ (s .most))
+      (true-both (le-leb _ _ (s .linksMost))
+      (true-both (le-leb (2 * b .links) (length (b .ends)) (omega (arith, s .linksMost, s .endsLong)))
+      (true-both (le-leb (b .links) (length row) (omega (arith, s .linksMost)))
+      (true-both (le-leb 256 256 (omega arith)) (true-both (true-allBelow _ _ link) refl))))))
+    where
+      link : (l : ℕ) → l < b .links → linkInRange (b .bridges) (b .ends) row l ≡ true
+      link l h =
+          let j = s .joins l h in
+          let apart : not (eqb (getD (b .ends) (2 * l) 0) (getD (b .ends) (2 * l + 1) 0)) ≡ true = rw (ne-eqb _ _ (j .differ)) in
+          true-both (lt-ltb _ _ (j .first)) (true-both (lt-ltb _ _ (j .second)) (true-both apart (le-leb _ _ (each l h))))
+
+  -- so `fresh` accepts them
+  lasts : (tables : List ℕ) → stage ≡ 2 → 1024 ≤ length costs → 8192 ≤ length tables → LastingOf b costs tables
+  lasts tables e long room =
+      record {
+        viewsLeast = s .viewed (omega arith);
+        viewsMost = s .viewsMost;
+        graph = range (replicate 32 0) e (omega (arith, length-replicate {A = ℕ} 32 0)) (λ l h. omega (arith, s .linksMost, getD-replicate {A = ℕ} 32 l 0 0 (omega (arith, s .linksMost))));
+        costsLong = long;
+        eachView = λ t h.
+            let most : b .views ≤ 32 = s .viewsMost in
+            let few : b .links ≤ 32 = s .linksMost in
+            range (part 32 t costs) e (omega (arith, part-length 32 t costs (omega arith)))
+            (λ l g. rw (part-at 32 t costs l (omega arith)) (s .cost t l h g));
+        tablesLong = room;
+      }
+
+  pub fresh-accepts : (tables sent held : List ℕ) → stage ≡ 2 → 1024 ≤ length costs → 8192 ≤ length tables → 1024 ≤ length sent → 1024 ≤ length held →
+      freshOf b costs tables sent held .reply ≡ 0
+  unfolding freshOf tablesLong
+  fresh-accepts tables sent held e long room first second =
+      let l = lasts tables e long room in
+      rw (true-both (graph-kept b costs tables l) (true-both (costs-kept b costs tables l) (true-both (le-leb 8192 (length tables) room) (true-both (le-leb 1024 (length sent) first) (le-leb 1024 (length held) second)))))

@@ -1,0 +1,179 @@
+-- The turns of a step, from what its calls ensure: a setup, an event, the plan's end; and what the checks of a step tell. Assumes nothing.
+use Prim.Native.Nat.{ℕ, _+_, _≤_, _<_}
+use native.Mathlib.Omega.{arith}
+use mathlib.Core.Path.{_≡_, refl, sym, _∙_, ap}
+use mathlib.Core.Bool.{Bool, true, false, cond, _&&_}
+use mathlib.Core.List.{List, []}
+use borrow.Author.Tests.{leb-true, eq-eqb, ne-eqb}
+use lib.ListN.{length}
+use lib.Dec.{eqb, leb}
+use Rattle.distances.proofs.Booleans.{both-true}
+use Rattle.bench.specs.State.{State, state}
+use Rattle.bench.specs.Changes.{freshOf}
+use Rattle.bench.specs.Whole.{stepBy}
+use Rattle.bench.specs.declared.Bench.{Bench}
+use Rattle.plan.specs.Fields.{byte}
+use Rattle.plan.specs.Reading.{readReply}
+use Rattle.plan.specs.declared.Event.{Event}
+use Rattle.plan.specs.declared.Event.the-variants.{Update, Send, Deliver, Repeat, Lose, Cut, Restore, Report, Path}
+use Rattle.plan.specs.declared.Field.{Field}
+use Rattle.plan.specs.declared.Read.{Read}
+use Rattle.plan.proofs.Laws.{Told, field-size, field-told}
+use Rattle.runner.specs.Desk.{Desk, desk, deskLong, stateOn, progressOf}
+use Rattle.runner.specs.Events.{Happening, happenedOf, replyOf, stateAfter}
+use Rattle.runner.specs.Turns.{Turn, turn, lastTurn, lastText, setupTurn, Opened, openedAs, opened, openedOf, eventTurn, fieldTurn, readTurn, stepOf, stopNumber, runnerInRange, fieldFits}
+use Rattle.runner.specs.declared.Runner.{Runner}
+use Rattle.runner.proofs.StepRefused.{refused-state, refused-rows}
+
+-- a private call is lent nothing, or the bytes to be printed alone: its turn on the whole desk
+pub setup-on :
+    (used : ℕ) (b : Bench) (stage : ℕ) (r : Runner) (k : Desk) {reply : ℕ} {going : Bool} {taken written : ℕ} {runner : Runner} →
+    turn reply going taken written runner (desk [] [] [] [] [] [] []) ≡ setupTurn used b stage r (desk [] [] [] [] [] [] []) →
+    turn reply going taken written runner k ≡ setupTurn used b stage r k
+unfolding setupTurn
+setup-on used b stage r k e = ap (λ (t : Turn). turn (t .reply) (t .going) (t .used) (t .written) (t .runner) k) e
+
+pub ended-on :
+    (number : ℕ) (text : List ℕ) (r : Runner) (k : Desk) {reply : ℕ} {going : Bool} {taken written : ℕ} {runner : Runner} {out : List ℕ} →
+    turn reply going taken written runner (desk [] [] [] [] [] [] out) ≡ lastTurn number text r (desk [] [] [] [] [] [] (k .out)) →
+    turn reply going taken written runner (desk (k .costs) (k .tables) (k .sent) (k .held) (k .messages) (k .rows) out)
+    ≡ lastTurn number text r k
+unfolding lastTurn
+ended-on number text r k e =
+    ap
+    (λ (t : Turn).
+    turn (t .reply) (t .going) (t .used) (t .written) (t .runner)
+    (desk (k .costs) (k .tables) (k .sent) (k .held) (k .messages) (k .rows) (t .desk .out)))
+    e
+
+-- ---- events
+
+-- the state that stands when the network was opened
+pub opened-state :
+    (r : Runner) (k : Desk) {b : Bench} {tables sent held : List ℕ} →
+    openedAs b tables sent held ≡ openedOf r (desk (k .costs) (k .tables) (k .sent) (k .held) [] [] []) →
+    state b (k .costs) tables sent held (k .messages) ≡ opened r k
+unfolding opened
+opened-state r k {b} {tables} {sent} {held} = go (eqb (r .stage) 2)
+  where
+    go :
+        (z : Bool) →
+        openedAs b tables sent held
+        ≡ (let o = freshOf (r .bench) (k .costs) (k .tables) (k .sent) (k .held) in
+        let s = cond z (state (o .bench) (k .costs) (o .tables) (o .sent) (o .held) []) (state (r .bench) (k .costs) (k .tables) (k .sent) (k .held) []) in
+        openedAs (s .bench) (s .tables) (s .sent) (s .held)) →
+        state b (k .costs) tables sent held (k .messages)
+        ≡ (let o = freshOf (r .bench) (k .costs) (k .tables) (k .sent) (k .held) in
+        cond z (state (o .bench) (k .costs) (o .tables) (o .sent) (o .held) (k .messages)) (stateOn (r .bench) k))
+    go true e = ap (λ (o : Opened). state (o .bench) (k .costs) (o .tables) (o .sent) (o .held) (k .messages)) e
+    go false e = ap (λ (o : Opened). state (o .bench) (k .costs) (o .tables) (o .sent) (o .held) (k .messages)) e
+
+-- no event changes the costs or the views' distances
+lasting : (s : State) (e : Event) → (stateAfter s e .costs ≡ s .costs) × (stateAfter s e .tables ≡ s .tables)
+unfolding stepBy
+lasting s (Update y t) = (refl, refl)
+lasting s (Send y l) = (refl, refl)
+lasting s (Deliver p) = (refl, refl)
+lasting s (Repeat p) = (refl, refl)
+lasting s (Lose p) = (refl, refl)
+lasting s (Cut l) = (refl, refl)
+lasting s (Restore l) = (refl, refl)
+lasting s (Report d) = (refl, refl)
+lasting s (Path y d) = (refl, refl)
+
+-- what happened, carried into a turn
+module _ (s : State) (e : Event) (used : ℕ) (r : Runner) (k : Desk) (h : Happening) (same : h ≡ happenedOf s (k .rows) (k .out) e) where
+  same-reply : h .reply ≡ replyOf s (k .rows) e
+  unfolding happenedOf
+  same-reply = ap (λ (x : Happening). x .reply) same
+
+  pub accepted-turn :
+      h .reply ≡ 0 →
+      turn 0 true used (h .written)
+      (record { bench = h .bench; stage = 3; events = r .events + 1; offset = r .offset + used })
+      (desk (s .costs) (s .tables) (h .sent) (h .held) (h .messages) (h .rows) (h .out))
+      ≡ eventTurn s e used r k
+  unfolding happenedOf eventTurn
+  accepted-turn none = rw (same, eq-eqb _ 0 (sym same-reply ∙ none), lasting s e .0, lasting s e .1)
+
+  pub refused-turn :
+      (h .reply ≡ 0 → ⊥) →
+      lastTurn (h .reply) (lastText (h .reply) (r .events) (r .offset))
+      (record { bench = h .bench; stage = 3; events = r .events; offset = r .offset })
+      (desk (s .costs) (s .tables) (h .sent) (h .held) (h .messages) (h .rows) (h .out))
+      ≡ eventTurn s e used r k
+  unfolding happenedOf eventTurn lastTurn lastText
+  refused-turn some =
+      let other : replyOf s (k .rows) e ≡ 0 → ⊥ = λ z. some (same-reply ∙ z) in
+      rw (same, ne-eqb _ 0 other, refused-state s (k .rows) e other, refused-rows s (k .rows) e other)
+
+-- ---- what a step's checks tell
+
+pub record StepTold (r : Runner) (k : Desk) : Type 0 where
+  pub events : r .events ≤ 61440
+  pub offset : r .offset ≤ 61440
+  pub costs : 1024 ≤ length (k .costs)
+  pub rows : 32 ≤ length (k .rows)
+  pub out : 544 ≤ length (k .out)
+
+pub step-told : (r : Runner) (k : Desk) → (runnerInRange r && deskLong k) ≡ true → StepTold r k
+unfolding runnerInRange deskLong
+step-told r k ok =
+    let all = both-true (leb (r .events) 61440 && leb (r .offset) 61440) _ ok in
+    let counts = both-true (leb (r .events) 61440) _ (all .0) in
+    let costs = both-true (leb 1024 (length (k .costs))) _ (all .1) in
+    let tables = both-true (leb 8192 (length (k .tables))) _ (costs .1) in
+    let sent = both-true (leb 1024 (length (k .sent))) _ (tables .1) in
+    let held = both-true (leb 1024 (length (k .held))) _ (sent .1) in
+    let messages = both-true (leb 320 (length (k .messages))) _ (held .1) in
+    let rows = both-true (leb 32 (length (k .rows))) _ (messages .1) in
+    record {
+      events = leb-true _ _ (counts .0);
+      offset = leb-true _ _ (counts .1);
+      costs = leb-true _ _ (costs .0);
+      rows = leb-true _ _ (rows .0);
+      out = leb-true _ _ (rows .1);
+    }
+
+-- what the reader tells of a field
+told-fits : (rest : List ℕ) (r : Runner) (f : Field) → Told rest (progressOf r) f → fieldFits (r .bench) f
+told-fits rest r (Field.Bridges n) h = tt
+told-fits rest r (Field.Link x y) h = h .room
+told-fits rest r Field.View h = h .room
+told-fits rest r (Field.Event e) h = tt
+
+module _ (rest : List ℕ) (r : Runner) {f : Field} {used : ℕ} (read : readReply rest (progressOf r) ≡ Read.Field f used) where
+  pub field-fits : fieldFits (r .bench) f
+  field-fits = told-fits rest r f (field-told rest (progressOf r) read)
+
+  -- a field of a header and two bytes' worth of value
+  pub field-used : byte rest 1 < 256 → byte rest 2 < 256 → used ≤ 65538
+  field-used first second = omega (arith, field-size rest (progressOf r) read)
+
+-- ---- the whole step
+
+-- what was read: the plan's end or a field
+pub stop-turn :
+    (rest : List ℕ) (r : Runner) (k : Desk) (read : Read) (number : ℕ) {n : ℕ} →
+    number ≡ stopNumber read →
+    read ≡ Read.Stop n →
+    lastTurn number (lastText number (r .events) (r .offset)) r k ≡ readTurn rest read r k
+unfolding readTurn
+stop-turn rest r k read number same stops = rw (same, stops)
+
+pub field-turn :
+    (rest : List ℕ) (r : Runner) (k : Desk) (read : Read) {f : Field} {used : ℕ} →
+    read ≡ Read.Field f used →
+    fieldTurn rest f used r k ≡ readTurn rest read r k
+unfolding readTurn
+field-turn rest r k read same = rw same
+
+module _ (rest : List ℕ) (r : Runner) (k : Desk) where
+  -- turned down, or read
+  pub step-out : (runnerInRange r && deskLong k) ≡ false → turn 17 false 0 0 r k ≡ stepOf r k rest
+  unfolding stepOf
+  step-out e = rw e
+
+  pub step-read : (runnerInRange r && deskLong k) ≡ true → (read : Read) → read ≡ readReply rest (progressOf r) → readTurn rest read r k ≡ stepOf r k rest
+  unfolding stepOf
+  step-read e read same = rw (same, e)

@@ -1,0 +1,37 @@
+-- `steps::desk_long` meets its contract. Assumes nothing.
+use borrow.Author.Needs.{needs}
+use Rattle.runner.proofs.steps.desk_long.Statement.{statement}
+use Rattle.runner.proofs.steps.desk_long.Tie as tie
+
+both-requires : tie.Need-both-requires
+both-requires c κs = search needs
+
+both-requires-2 : tie.Need-both-requires-2
+both-requires-2 c κs = search needs
+
+both-requires-3 : tie.Need-both-requires-3
+both-requires-3 c κs = search needs
+
+both-requires-4 : tie.Need-both-requires-4
+both-requires-4 c κs = search needs
+
+both-requires-5 : tie.Need-both-requires-5
+both-requires-5 c κs = search needs
+
+both-requires-6 : tie.Need-both-requires-6
+both-requires-6 c κs = search needs
+
+returns : tie.Need-returns
+returns c = cc
+
+pub desk-long-spec : {M : Type 1} → statement M
+desk-long-spec =
+    tie.close
+    (tie.spec
+    both-requires
+    both-requires-2
+    both-requires-3
+    both-requires-4
+    both-requires-5
+    both-requires-6
+    returns)

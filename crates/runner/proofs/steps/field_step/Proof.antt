@@ -1,0 +1,111 @@
+-- `steps::field_step` meets its contract: each setup on the whole desk, or an event. Assumes nothing.
+use borrow.Author.Needs.{needs}
+use Rattle.runner.specs.Turns.{fieldTurn}
+use Rattle.runner.proofs.StepTurns.{setup-on}
+use Rattle.runner.proofs.steps.field_step.Statement.{statement}
+use Rattle.runner.proofs.steps.field_step.Tie as tie
+
+enum-known-field : tie.Need-enum-known-field
+enum-known-field c = search needs
+
+with-bridges-requires : tie.Need-with-bridges-requires
+with-bridges-requires c κs = search needs
+
+set-up-requires : tie.Need-set-up-requires
+set-up-requires c κs = search needs
+
+enum-known-field-2 : tie.Need-enum-known-field-2
+enum-known-field-2 c = search needs
+
+with-link-requires : tie.Need-with-link-requires
+with-link-requires c κs = rw (c .before .field2 .given .1) at (c .before .before .before .before .before .before .before .before .before .before .before .before .pre .1)
+
+set-up-requires-2 : tie.Need-set-up-requires-2
+set-up-requires-2 c κs = search needs
+
+enum-told : tie.Need-enum-told
+enum-told c = search needs
+
+store-row-requires : tie.Need-store-row-requires
+store-row-requires c κs = (rw (c .before .enum-told .given .1) at (c .before .before .before .before .before .before .before .before .before .before .before .before .pre .1), c .before .before .before .before .before .before .before .before .before .before .before .before .pre .0 .3)
+
+with-view-requires : tie.Need-with-view-requires
+with-view-requires c κs = rw (c .before .before .before .before .enum-told .given .1) at (c .before .before .before .before .before .before .before .before .before .before .before .before .before .before .before .pre .1)
+
+set-up-requires-3 : tie.Need-set-up-requires-3
+set-up-requires-3 c κs = search needs
+
+enum-known-field-3 : tie.Need-enum-known-field-3
+enum-known-field-3 c = search needs
+
+event-step-requires : tie.Need-event-step-requires
+event-step-requires c κs = search needs
+
+returns : tie.Need-returns
+unfolding fieldTurn
+returns c = rw (c .before .before .before .field .given .1, ← c .before .with-bridges .ensures) (setup-on _ _ _ _ _ (c .set-up .ensures))
+
+returns-2 : tie.Need-returns-2
+unfolding fieldTurn
+returns-2 c = rw (c .before .before .before .field2 .given .1, ← c .before .with-link .ensures) (setup-on _ _ _ _ _ (c .set-up2 .ensures))
+
+same-length : tie.Need-same-length
+same-length c = search needs
+
+returns-3 : tie.Need-returns-3
+unfolding fieldTurn
+returns-3 c = rw (c .before .before .before .before .before .before .enum-told .given .1, ← c .before .with-view .ensures, c .before .before .before .before .store-row .ensures) (setup-on _ _ _ _ _ (c .set-up3 .ensures))
+
+same-length-2 : tie.Need-same-length-2
+same-length-2 c = search needs
+
+same-length-3 : tie.Need-same-length-3
+same-length-3 c = search needs
+
+same-length-4 : tie.Need-same-length-4
+same-length-4 c = search needs
+
+same-length-5 : tie.Need-same-length-5
+same-length-5 c = search needs
+
+same-length-6 : tie.Need-same-length-6
+same-length-6 c = search needs
+
+same-length-7 : tie.Need-same-length-7
+same-length-7 c = search needs
+
+same-length-8 : tie.Need-same-length-8
+same-length-8 c = search needs
+
+returns-4 : tie.Need-returns-4
+unfolding fieldTurn
+returns-4 c = rw (c .before .before .before .before .before .before .before .before .before .before .before .before .before .before .before .before .before .before .before .before .before .field3 .given .1) (c .before .before .before .before .before .before .before .before .before .before .before .before .event-step .ensures)
+
+pub field-step-spec : {M : Type 1} → statement M
+field-step-spec =
+    tie.close
+    (tie.spec
+    enum-known-field
+    with-bridges-requires
+    set-up-requires
+    enum-known-field-2
+    with-link-requires
+    set-up-requires-2
+    enum-told
+    store-row-requires
+    with-view-requires
+    set-up-requires-3
+    enum-known-field-3
+    event-step-requires
+    returns
+    returns-2
+    same-length
+    returns-3
+    same-length-2
+    same-length-3
+    same-length-4
+    same-length-5
+    same-length-6
+    same-length-7
+    same-length-8
+    returns-4)

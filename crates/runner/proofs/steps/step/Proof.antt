@@ -1,0 +1,133 @@
+-- `steps::step` meets its contract: turned down, or the field that was read or the plan's end. Assumes nothing.
+use Prim.Native.Nat.{_<_}
+use native.Mathlib.Omega.{arith}
+use mathlib.Core.Bool.{true, _&&_}
+use mathlib.Core.Path.{_≡_, sym, _∙_}
+use borrow.Author.Tests.{not-true, not-false}
+use borrow.Author.Needs.{needs}
+use Rattle.plan.specs.Fields.{byte}
+use Rattle.runner.specs.Turns.{runnerInRange}
+use Rattle.runner.specs.Desk.{Desk, desk, deskLong}
+use Rattle.runner.proofs.StepTurns.{StepTold, step-told, ended-on, field-fits, field-used, stop-turn, field-turn, step-out, step-read}
+use Rattle.runner.proofs.steps.step.Statement.{statement}
+use Rattle.runner.proofs.steps.step.Tie as tie
+
+-- the desk that is handed over
+abbrev DeskOf : tie.Start → Desk
+DeskOf s =
+    let a = s .args in
+    desk (a .costs .now) (a .tables .now) (a .sent .now) (a .held .now) (a .messages .now) (a .rows .now) (a .out .now)
+
+-- the checks
+tested :
+    (c : tie.After-both) →
+    let s = c .before .before .before .before .before .before .before .before .before .before .before in c .both .result ≡ (runnerInRange (s .args .r) && deskLong (DeskOf s))
+unfolding deskLong
+tested c = rw (c .before .runner-in-range .ensures, c .before .before .desk-long .ensures) at (c .both .ensures)
+
+passes :
+    (c : tie.Else1) →
+    let s = c .before .before .before .before .before .before .before .before .before .before .before .before in (runnerInRange (s .args .r) && deskLong (DeskOf s)) ≡ true
+passes c = sym (tested (c .before)) ∙ not-false _ (c .if1 .left)
+
+told : (c : tie.Else1) → let s = c .before .before .before .before .before .before .before .before .before .before .before .before in StepTold (s .args .r) (DeskOf s)
+told c = step-told _ _ (passes c)
+
+desk-long-requires : tie.Need-desk-long-requires
+desk-long-requires c κs = search needs
+
+runner-in-range-requires : tie.Need-runner-in-range-requires
+runner-in-range-requires c κs = search needs
+
+both-requires : tie.Need-both-requires
+both-requires c κs = search needs
+
+returns : tie.Need-returns
+returns c = step-out _ _ _ (sym (tested (c .before)) ∙ not-true _ (c .if1 .taken))
+
+read-field-requires : tie.Need-read-field-requires
+read-field-requires c κs = search needs
+
+enum-known-read : tie.Need-enum-known-read
+enum-known-read c = search needs
+
+enum-told : tie.Need-enum-told
+enum-told c = search needs
+
+stop-number-requires : tie.Need-stop-number-requires
+stop-number-requires c κs = search needs
+
+ended-requires : tie.Need-ended-requires
+ended-requires c κs = told (c .before .before .before .before .before .before) .out
+
+same-length : tie.Need-same-length
+same-length c = search needs
+
+returns-2 : tie.Need-returns-2
+returns-2 c =
+    let s = c .before .before .before .before .before .before .before .before .before .before .before .before .before .before .before .before .before .before .before .before .before in
+    ended-on _ _ (s .args .r) (DeskOf s) (c .before .before .ended .ensures)
+    ∙ stop-turn (s .args .rest .now) (s .args .r) (DeskOf s) (c .before .before .before .before .before .before .before .read-field .result) _ (c .before .before .before .before .stop-number .ensures) (c .before .before .before .before .before .enum-told .given .1)
+    ∙ step-read _ _ _ (passes (c .before .before .before .before .before .before .before .before .before)) _ (c .before .before .before .before .before .before .before .read-field .ensures)
+
+field-step-requires : tie.Need-field-step-requires
+field-step-requires c κs =
+    let s = c .before .before .before .before .before .before .before .before .before .before .before .before .before .before .before .before .before .before .before .before .before .before .before .before in
+    let t = told (c .before .before .before .before .before .before .before .before .before .before .before .before) in
+    let same = sym (c .before .before .before .before .before .before .before .before .before .before .read-field .ensures) ∙ c .before .before .before .before .before .before .before .before .read .given .1 in
+    let first : byte (s .args .rest .now) 1 < 256 = omega (arith, c .before .before .before .before .before .before .before .before .before .before .before .before .before .before .before .before .before .before .before .before .before .before .before .shared-slice-known .given 1) in
+    let second : byte (s .args .rest .now) 2 < 256 = omega (arith, c .before .before .before .before .before .before .before .before .before .before .before .before .before .before .before .before .before .before .before .before .before .before .before .shared-slice-known .given 2) in
+    ((t .offset, t .events, field-used _ (s .args .r) same first second, t .costs, t .rows, t .out), field-fits _ (s .args .r) same)
+
+same-length-2 : tie.Need-same-length-2
+same-length-2 c = search needs
+
+same-length-3 : tie.Need-same-length-3
+same-length-3 c = search needs
+
+same-length-4 : tie.Need-same-length-4
+same-length-4 c = search needs
+
+same-length-5 : tie.Need-same-length-5
+same-length-5 c = search needs
+
+same-length-6 : tie.Need-same-length-6
+same-length-6 c = search needs
+
+same-length-7 : tie.Need-same-length-7
+same-length-7 c = search needs
+
+same-length-8 : tie.Need-same-length-8
+same-length-8 c = search needs
+
+returns-3 : tie.Need-returns-3
+returns-3 c =
+    let s = c .before .before .before .before .before .before .before .before .before .before .before .before .before .before .before .before .before .before .before .before .before .before .before .before .before .before .before .before .before .before .before .before .before .before .before .before .before .before .before in
+    c .before .before .before .before .before .before .before .before .before .before .before .before .before .before .field-step .ensures
+    ∙ field-turn (s .args .rest .now) (s .args .r) (DeskOf s) (c .before .before .before .before .before .before .before .before .before .before .before .before .before .before .before .before .before .before .before .before .before .before .before .before .before .read-field .result) (c .before .before .before .before .before .before .before .before .before .before .before .before .before .before .before .before .before .before .before .before .before .before .before .read .given .1)
+    ∙ step-read _ _ _ (passes (c .before .before .before .before .before .before .before .before .before .before .before .before .before .before .before .before .before .before .before .before .before .before .before .before .before .before .before)) _ (c .before .before .before .before .before .before .before .before .before .before .before .before .before .before .before .before .before .before .before .before .before .before .before .before .before .read-field .ensures)
+
+pub step-spec : {M : Type 1} → statement M
+step-spec =
+    tie.close
+    (tie.spec
+    desk-long-requires
+    runner-in-range-requires
+    both-requires
+    returns
+    read-field-requires
+    enum-known-read
+    enum-told
+    stop-number-requires
+    ended-requires
+    same-length
+    returns-2
+    field-step-requires
+    same-length-2
+    same-length-3
+    same-length-4
+    same-length-5
+    same-length-6
+    same-length-7
+    same-length-8
+    returns-3)

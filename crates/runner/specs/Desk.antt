@@ -1,0 +1,48 @@
+-- The lent buffers of a run, and the bench's state that stands in them. Assumes nothing.
+use Prim.Native.Nat.{ℕ}
+use mathlib.Core.Bool.{Bool, _&&_}
+use mathlib.Core.List.{List}
+use lib.ListN.{length}
+use lib.Seq.{sets}
+use lib.Dec.{leb}
+use Rattle.bench.specs.State.{State, state}
+use Rattle.bench.specs.declared.Bench.{Bench}
+use Rattle.plan.specs.declared.Progress.{Progress}
+use Rattle.runner.specs.declared.Runner.{Runner}
+
+-- costs, the views' distances, the two limit tables, the messages, a report's rows, and the bytes to be printed
+pub record Desk : Type 0 where
+  pub costs : List ℕ
+  pub tables : List ℕ
+  pub sent : List ℕ
+  pub held : List ℕ
+  pub messages : List ℕ
+  pub rows : List ℕ
+  pub out : List ℕ
+
+abbrev pub desk : List ℕ → List ℕ → List ℕ → List ℕ → List ℕ → List ℕ → List ℕ → Desk
+desk costs tables sent held messages rows out =
+    record { costs = costs; tables = tables; sent = sent; held = held; messages = messages; rows = rows; out = out }
+
+-- each is as long as a run needs
+unfoldable pub deskLong : Desk → Bool
+deskLong k =
+    leb 1024 (length (k .costs))
+    && (leb 8192 (length (k .tables))
+    && (leb 1024 (length (k .sent))
+    && (leb 1024 (length (k .held))
+    && (leb 320 (length (k .messages)) && (leb 32 (length (k .rows)) && leb 544 (length (k .out)))))))
+
+-- the bench's state on the desk
+abbrev pub stateOn : Bench → Desk → State
+stateOn b k = state b (k .costs) (k .tables) (k .sent) (k .held) (k .messages)
+
+-- the desk with another state, other rows and a text to be printed
+abbrev pub deskWith : State → List ℕ → List ℕ → Desk → Desk
+deskWith s rows text k =
+    desk (s .costs) (s .tables) (s .sent) (s .held) (s .messages) rows (sets (k .out) 0 text)
+
+-- how far the reader has come
+abbrev pub progressOf : Runner → Progress
+progressOf r =
+    record { stage = r .stage; bridges = r .bench .bridges; links = r .bench .links; views = r .bench .views }

@@ -1,0 +1,5 @@
+pub mod Desk
+pub mod Events
+pub mod Turns
+pub mod Plans
+pub mod Whole

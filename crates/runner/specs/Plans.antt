@@ -1,0 +1,49 @@
+-- What is printed for any list of bytes (document 01, "Plan file"). Assumes nothing.
+use Prim.Native.Nat.{ℕ, zero, suc}
+use mathlib.Core.Bool.{Bool, false, cond}
+use mathlib.Core.List.{List, [], _∷_, _++_}
+use lib.ListN.{length, take, drop, replicate}
+use lib.Dec.{ltb}
+use Rattle.agreement.specs.Record.{freshRecord}
+use Rattle.bench.specs.declared.Bench.{Bench}
+use Rattle.text.specs.Lines.{refusedText}
+use Rattle.runner.specs.Desk.{Desk, desk}
+use Rattle.runner.specs.Turns.{Turn, stepOf}
+use Rattle.runner.specs.declared.Runner.{Runner}
+
+-- before the first field
+abbrev pub firstRunner : Runner
+firstRunner =
+    record {
+      bench =
+          record {
+            bridges = 0;
+            links = 0;
+            views = 0;
+            messages = 0;
+            ends = replicate 64 0;
+            view = replicate 16 0;
+            number = replicate 16 1;
+            records = replicate 64 freshRecord;
+            cut = replicate 32 false;
+          };
+      stage = 0;
+      events = 0;
+      offset = 0;
+    }
+
+abbrev pub firstDesk : Desk
+firstDesk =
+    desk (replicate 1024 0) (replicate 8192 0) (replicate 1024 0) (replicate 1024 0) (replicate 320 0) (replicate 32 0) (replicate 544 0)
+
+-- field after field, with fuel for so many
+unfoldable pub prints : ℕ → Runner → Desk → List ℕ → List ℕ
+prints zero r k rest = []
+prints (suc fuel) r k rest =
+    let t : Turn = stepOf r k rest in
+    take (t .written) (t .desk .out) ++ cond (t .going) (prints fuel (t .runner) (t .desk) (drop (t .used) rest)) []
+
+-- the whole output: 18 for a plan longer than 61,440 bytes
+unfoldable pub printed : List ℕ → List ℕ
+printed plan =
+    cond (ltb 61440 (length plan)) (refusedText 18 61440) (prints (suc (length plan)) firstRunner firstDesk plan)

@@ -1,0 +1,172 @@
+-- One step of a plan: a field read and carried out, for every input. Assumes nothing.
+use Prim.Native.Nat.{ℕ, _+_, _*_, _<_}
+use mathlib.Core.Bool.{Bool, true, false, cond, _&&_}
+use mathlib.Core.List.{List, [], _∷_, _++_}
+use lib.ListN.{length, set, take, drop}
+use lib.Dec.{eqb, leb}
+use Rattle.bench.specs.State.{State, state, part}
+use Rattle.bench.specs.Changes.{freshOf}
+use Rattle.bench.specs.declared.Bench.{Bench}
+use Rattle.plan.specs.Reading.{readReply, costsReply}
+use Rattle.plan.specs.declared.Event.{Event}
+use Rattle.plan.specs.declared.Field.{Field}
+use Rattle.plan.specs.declared.Read.{Read}
+use Rattle.text.specs.Lines.{endText, refusedText}
+use Rattle.text.specs.declared.Written.{Written}
+use Rattle.runner.specs.Desk.{Desk, desk, deskLong, stateOn, deskWith, progressOf}
+use Rattle.runner.specs.Events.{replyOf, rowsAfter, textOf, stateAfter}
+use Rattle.runner.specs.declared.Runner.{Runner}
+
+-- after a step: document 01's number, whether the plan goes on, the bytes used and those to be printed, the runner and the desk
+pub record Turn : Type 0 where
+  pub reply : ℕ
+  pub going : Bool
+  pub used : ℕ
+  pub written : ℕ
+  pub runner : Runner
+  pub desk : Desk
+
+abbrev pub turn : ℕ → Bool → ℕ → ℕ → Runner → Desk → Turn
+turn reply going used written runner k =
+    record { reply = reply; going = going; used = used; written = written; runner = runner; desk = k }
+
+-- the plan ends here, with its last line
+unfoldable pub lastTurn : ℕ → List ℕ → Runner → Desk → Turn
+lastTurn reply text r k = turn reply false 0 (length text) r (deskWith (stateOn (r .bench) k) (k .rows) text k)
+
+-- the plan goes on after a setup of so many bytes
+unfoldable pub setupTurn : ℕ → Bench → ℕ → Runner → Desk → Turn
+setupTurn used b stage r k =
+    turn 0 true used 0 (record { bench = b; stage = stage; events = r .events; offset = r .offset + used }) k
+
+-- the bench with a bridge count, with one more link, with one more view
+abbrev pub withBridges : Bench → ℕ → Bench
+withBridges b n =
+    record {
+      bridges = n;
+      links = b .links;
+      views = b .views;
+      messages = b .messages;
+      ends = b .ends;
+      view = b .view;
+      number = b .number;
+      records = b .records;
+      cut = b .cut;
+    }
+
+abbrev pub withLink : Bench → ℕ → ℕ → Bench
+withLink b x y =
+    record {
+      bridges = b .bridges;
+      links = b .links + 1;
+      views = b .views;
+      messages = b .messages;
+      ends = set (set (b .ends) (2 * b .links) x) (2 * b .links + 1) y;
+      view = b .view;
+      number = b .number;
+      records = b .records;
+      cut = b .cut;
+    }
+
+abbrev pub withView : Bench → Bench
+withView b =
+    record {
+      bridges = b .bridges;
+      links = b .links;
+      views = b .views + 1;
+      messages = b .messages;
+      ends = b .ends;
+      view = b .view;
+      number = b .number;
+      records = b .records;
+      cut = b .cut;
+    }
+
+-- a view's costs in its row
+unfoldable pub withRow : List ℕ → Bench → List ℕ → List ℕ
+withRow rest b costs =
+    take (32 * b .views) costs
+    ++ (costsReply rest (b .links) (part 32 (b .views) costs) .row ++ drop 32 (drop (32 * b .views) costs))
+
+abbrev pub deskWithCosts : List ℕ → Desk → Desk
+deskWithCosts costs k = desk costs (k .tables) (k .sent) (k .held) (k .messages) (k .rows) (k .out)
+
+-- the network is fresh before the first event
+unfoldable pub opened : Runner → Desk → State
+opened r k =
+    let o = freshOf (r .bench) (k .costs) (k .tables) (k .sent) (k .held) in
+    cond (eqb (r .stage) 2) (state (o .bench) (k .costs) (o .tables) (o .sent) (o .held) (k .messages)) (stateOn (r .bench) k)
+
+-- an event carried out on a state: accepted, it is counted and printed; refused, it ends the plan
+unfoldable pub eventTurn : State → Event → ℕ → Runner → Desk → Turn
+eventTurn s e used r k =
+    let reply : ℕ = replyOf s (k .rows) e in
+    cond (eqb reply 0)
+    (turn 0 true used (length (textOf s (k .rows) e))
+    (record { bench = stateAfter s e .bench; stage = 3; events = r .events + 1; offset = r .offset + used })
+    (deskWith (stateAfter s e) (rowsAfter s (k .rows) e) (textOf s (k .rows) e) k))
+    (turn reply false 0 (length (refusedText reply (r .offset)))
+    (record { bench = s .bench; stage = 3; events = r .events; offset = r .offset })
+    (deskWith s (k .rows) (refusedText reply (r .offset)) k))
+
+-- the field
+unfoldable pub fieldTurn : List ℕ → Field → ℕ → Runner → Desk → Turn
+fieldTurn rest (Field.Bridges n) used r k = setupTurn used (withBridges (r .bench) n) 1 r k
+fieldTurn rest (Field.Link x y) used r k = setupTurn used (withLink (r .bench) x y) 1 r k
+fieldTurn rest Field.View used r k =
+    setupTurn used (withView (r .bench)) 2 r (deskWithCosts (withRow rest (r .bench) (k .costs)) k)
+fieldTurn rest (Field.Event e) used r k = eventTurn (opened r k) e used r k
+
+-- the plan's last line: its proper end where the number is 0, else the refusal
+unfoldable pub lastText : ℕ → ℕ → ℕ → List ℕ
+lastText number events offset = cond (eqb number 0) (endText events) (refusedText number offset)
+
+-- what was read: a field, or the plan's end
+unfoldable pub readTurn : List ℕ → Read → Runner → Desk → Turn
+readTurn rest (Read.Field f used) r k = fieldTurn rest f used r k
+readTurn rest (Read.Stop number) r k = lastTurn number (lastText number (r .events) (r .offset)) r k
+
+-- counts that no plan of 61,440 bytes exceeds
+unfoldable pub runnerInRange : Runner → Bool
+runnerInRange r = leb (r .events) 61440 && leb (r .offset) 61440
+
+-- a step: 17 where a lent buffer is too short or the runner is out of range, and then nothing is changed
+unfoldable pub stepOf : Runner → Desk → List ℕ → Turn
+stepOf r k rest = cond (runnerInRange r && deskLong k) (readTurn rest (readReply rest (progressOf r)) r k) (turn 17 false 0 0 r k)
+
+-- for private functions: the count of bytes of a reply, the number of a plan that ends
+abbrev pub countOf : Written → ℕ
+countOf (Written.Bytes k) = k
+countOf Written.Refused = 0
+
+abbrev pub stopNumber : Read → ℕ
+stopNumber (Read.Stop number) = number
+stopNumber (Read.Field f used) = 0
+
+-- a bench and the costs, after a setup
+pub record SetUp : Type 0 where
+  pub bench : Bench
+  pub costs : List ℕ
+
+abbrev pub setUp : Bench → List ℕ → SetUp
+setUp bench costs = record { bench = bench; costs = costs }
+
+-- the network that stands before an event: fresh before the first
+pub record Opened : Type 0 where
+  pub bench : Bench
+  pub tables : List ℕ
+  pub sent : List ℕ
+  pub held : List ℕ
+
+abbrev pub openedAs : Bench → List ℕ → List ℕ → List ℕ → Opened
+openedAs bench tables sent held = record { bench = bench; tables = tables; sent = sent; held = held }
+
+abbrev pub openedOf : Runner → Desk → Opened
+openedOf r k = let s : State = opened r k in openedAs (s .bench) (s .tables) (s .sent) (s .held)
+
+-- what the reader has told of a field
+abbrev pub fieldFits : Bench → Field → Type 0
+fieldFits b (Field.Bridges n) = Unit {0}
+fieldFits b (Field.Link x y) = b .links < 32
+fieldFits b Field.View = b .views < 32
+fieldFits b (Field.Event e) = Unit {0}

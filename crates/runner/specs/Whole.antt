@@ -1,0 +1,110 @@
+-- Demand 3 for whoever hands over a plan: the calls that a plan is, what stands where its first event comes and where it ends, and
+-- what the two have to do with Demand3. For every list of numbers. Assumes nothing.
+use Prim.Native.Nat.{ℕ, zero, suc, _<_}
+use mathlib.Core.Path.{_≡_}
+use mathlib.Core.Logic.{_⊎_}
+use mathlib.Core.Bool.{Bool, true, false, cond, _&&_}
+use mathlib.Core.List.{List, [], _∷_, _++_}
+use lib.ListN.{length, drop}
+use Rattle.bench.specs.Calls.{Call}
+use Rattle.bench.specs.Changes.{freshOf}
+use Rattle.bench.specs.State.{State}
+use Rattle.bench.specs.Whole.{runBy, freshBy, Meets}
+use Rattle.plan.specs.Reading.{readReply}
+use Rattle.plan.specs.declared.Field.{Field}
+use Rattle.plan.specs.declared.Read.{Read}
+use Rattle.runner.specs.Desk.{Desk, stateOn, progressOf}
+use Rattle.runner.specs.Events.{callOf}
+use Rattle.runner.specs.Turns.{Turn, stepOf}
+use Rattle.runner.specs.Plans.{firstRunner, firstDesk, prints}
+use Rattle.runner.specs.declared.Runner.{Runner}
+
+-- the call that was read: none but an event is one
+abbrev pub callRead : Read → List Call
+callRead (Read.Field (Field.Bridges n) used) = []
+callRead (Read.Field (Field.Link x y) used) = []
+callRead (Read.Field Field.View used) = []
+callRead (Read.Field (Field.Event e) used) = callOf e ∷ []
+callRead (Read.Stop number) = []
+
+-- a setup was read: the bridge count, a link or a view
+abbrev pub setupRead : Read → Bool
+setupRead (Read.Field (Field.Bridges n) used) = true
+setupRead (Read.Field (Field.Link x y) used) = true
+setupRead (Read.Field Field.View used) = true
+setupRead (Read.Field (Field.Event e) used) = false
+setupRead (Read.Stop number) = false
+
+-- the calls of the accepted events, in order, with fuel for so many fields
+unfoldable pub calls : ℕ → Runner → Desk → List ℕ → List Call
+calls zero r k rest = []
+calls (suc fuel) r k rest =
+    let t : Turn = stepOf r k rest in
+    cond (t .going) (callRead (readReply rest (progressOf r)) ++ calls fuel (t .runner) (t .desk) (drop (t .used) rest)) []
+
+-- the runner and the desk at some place of a plan
+pub record Place : Type 0 where
+  pub runner : Runner
+  pub desk : Desk
+
+abbrev pub place : Runner → Desk → Place
+place r k = record { runner = r; desk = k }
+
+abbrev pub stateAt : Place → State
+stateAt p = stateOn (p .runner .bench) (p .desk)
+
+-- what `fresh` leaves of what was set up
+abbrev pub freshAt : Place → State
+freshAt p = freshBy (p .runner .bench) (p .desk .costs) (p .desk .tables) (p .desk .sent) (p .desk .held) (p .desk .messages)
+
+-- where the plan ends
+unfoldable pub leaves : ℕ → Runner → Desk → List ℕ → Place
+leaves zero r k rest = place r k
+leaves (suc fuel) r k rest =
+    let t : Turn = stepOf r k rest in
+    cond (t .going) (leaves fuel (t .runner) (t .desk) (drop (t .used) rest)) (place (t .runner) (t .desk))
+
+-- where the setup ends: before the first event, carried out or refused
+unfoldable pub setsUp : ℕ → Runner → Desk → List ℕ → Place
+setsUp zero r k rest = place r k
+setsUp (suc fuel) r k rest =
+    let t : Turn = stepOf r k rest in
+    cond (setupRead (readReply rest (progressOf r)) && t .going) (setsUp fuel (t .runner) (t .desk) (drop (t .used) rest)) (place r k)
+
+-- the calls of a whole plan, the place of its first event, its end
+abbrev pub planCalls : List ℕ → List Call
+planCalls plan = calls (suc (length plan)) firstRunner firstDesk plan
+
+abbrev pub planStart : List ℕ → Place
+planStart plan = setsUp (suc (length plan)) firstRunner firstDesk plan
+
+abbrev pub planEnd : List ℕ → Place
+planEnd plan = leaves (suc (length plan)) firstRunner firstDesk plan
+
+-- no event came: none was carried out or refused
+pub record NoEvent (end : Place) (cs : List Call) : Type 0 where
+  pub stage : end .runner .stage < 3
+  pub none : cs ≡ []
+
+-- an event came: `fresh` accepts what was set up, and the state at the end is what the calls make of the fresh one; therefore demand 3
+-- holds of the calls, and the network of Demand3 is the one that stands in the state at the end
+pub record RunsFrom (p : Place) (end : Place) (cs : List Call) : Type 0 where
+  pub stage : end .runner .stage ≡ 3
+  pub accepted : freshOf (p .runner .bench) (p .desk .costs) (p .desk .tables) (p .desk .sent) (p .desk .held) .reply ≡ 0
+  pub ran : stateAt end ≡ runBy (freshAt p) cs
+  pub meets : Meets (p .runner .bench) (p .desk .costs) (p .desk .tables) (p .desk .sent) (p .desk .held) (p .desk .messages) cs
+
+abbrev pub PlanRuns : Type 0
+PlanRuns =
+    (plan : List ℕ) →
+    NoEvent (planEnd plan) (planCalls plan) ⊎ RunsFrom (planStart plan) (planEnd plan) (planCalls plan)
+
+-- fuel for one field more than there are bytes is enough: with any more it is the same
+pub record Same (fuel more : ℕ) (r : Runner) (k : Desk) (rest : List ℕ) : Type 0 where
+  pub printed : prints fuel r k rest ≡ prints more r k rest
+  pub made : calls fuel r k rest ≡ calls more r k rest
+  pub left : leaves fuel r k rest ≡ leaves more r k rest
+  pub start : setsUp fuel r k rest ≡ setsUp more r k rest
+
+abbrev pub FuelEnough : Type 0
+FuelEnough = (r : Runner) (k : Desk) (rest : List ℕ) (fuel more : ℕ) → length rest < fuel → length rest < more → Same fuel more r k rest

@@ -1,0 +1,32 @@
+// A plan carried out field by field: one step reads a field, does what it says, and writes the lines that it prints.
+use bench::Bench;
+
+mod events;
+mod setup;
+pub mod steps;
+mod stops;
+
+// How far a plan has come: its stage as the reader counts it, the events carried out, the offset of the next field.
+pub struct Runner {
+    pub bench: Bench,
+    pub stage: usize,
+    pub events: u32,
+    pub offset: u32,
+}
+
+// What an event did: document 01's number, the bench, and the count of bytes that it prints.
+pub struct Happened {
+    pub reply: u8,
+    pub bench: Bench,
+    pub written: usize,
+}
+
+// After a step: whether the plan goes on, the bytes of it that were used, the bytes that are to be printed, and document 01's number,
+// 0 where nothing is refused.
+pub struct Stepped {
+    pub runner: Runner,
+    pub going: bool,
+    pub used: usize,
+    pub written: usize,
+    pub reply: u8,
+}

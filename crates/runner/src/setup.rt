@@ -1,0 +1,67 @@
+// Setup fields: the bridge count, links, views.
+use crate::Runner;
+use bench::Bench;
+ghost use mathlib.Core.Path.{_≡_};
+ghost use mathlib.Core.List.{[]};
+ghost use Prim.Native.Nat.{_≤_, _<_};
+ghost use lib.ListN.{length};
+ghost use Rattle.runner.specs.Desk.{desk};
+ghost use Rattle.runner.specs.Turns.{withBridges, withLink, withView, withRow, openedAs, openedOf};
+
+pub(crate) fn with_bridges(bench: Bench, count: u8) -> Bench
+    ensures { λ r. ⌜ r ≡ withBridges bench count ⌝ }
+{
+    let mut next = bench;
+    next.bridges = count as usize;
+    next
+}
+
+pub(crate) fn with_link(bench: Bench, first: u8, second: u8) -> Bench
+    requires { ⌜ bench .links < 32 ⌝ }
+    ensures { λ r. ⌜ r ≡ withLink bench first second ⌝ }
+{
+    let at = 2 * bench.links;
+    let mut next = bench;
+    next.ends[at] = first;
+    next.ends[at + 1] = second;
+    next.links = bench.links + 1;
+    next
+}
+
+pub(crate) fn with_view(bench: Bench) -> Bench
+    requires { ⌜ bench .views < 32 ⌝ }
+    ensures { λ r. ⌜ r ≡ withView bench ⌝ }
+{
+    let mut next = bench;
+    next.views = bench.views + 1;
+    next
+}
+
+// A view's costs into its row.
+pub(crate) fn store_row(rest: &[u8], bench: Bench, costs: &mut [u32])
+    requires { ⌜ (bench .views < 32) × (1024 ≤ length (now costs)) ⌝ }
+    ensures { λ r. ⌜ now (costs .exit) ≡ withRow (now (rest .entry)) bench (now (costs .entry)) ⌝ }
+{
+    let row = 32 * bench.views;
+    let past = row + 32;
+    plan::fields::read_costs(rest, bench.links, &mut costs[row..past]);
+}
+
+// The network is fresh before the first event.
+pub(crate) fn open(
+    r: Runner,
+    costs: &[u32],
+    tables: &mut [u32],
+    sent: &mut [u32],
+    held: &mut [u32],
+) -> Bench
+    ensures { λ b. ⌜ openedAs b (now (tables .exit)) (now (sent .exit)) (now (held .exit)) ≡ openedOf r (desk (now (costs .entry)) (now (tables .entry)) (now (sent .entry)) (now (held .entry)) [] [] []) ⌝ }
+{
+    let bench = r.bench;
+    if r.stage == 2 {
+        let started = bench::changes::fresh(bench, costs, tables, sent, held);
+        started.bench
+    } else {
+        bench
+    }
+}

@@ -1,0 +1,258 @@
+// The public calls: a runner before the first field, and one step of a plan.
+use crate::Runner;
+use crate::Stepped;
+use crate::events::happen;
+use crate::setup;
+use crate::stops::last_line;
+use crate::stops::stop_number;
+use bench::Bench;
+use distances::ready::both;
+use plan::Event;
+use plan::Field;
+use plan::Progress;
+use plan::Read;
+ghost use mathlib.Core.Path.{_≡_};
+ghost use mathlib.Core.Bool.{_&&_};
+ghost use mathlib.Core.List.{[]};
+ghost use Prim.Native.Nat.{_≤_};
+ghost use lib.ListN.{length};
+ghost use lib.Dec.{leb};
+ghost use Rattle.runner.specs.Desk.{desk};
+ghost use Rattle.runner.specs.Turns.{turn, setupTurn, lastTurn, lastText, fieldTurn, fieldFits, runnerInRange, stepOf};
+ghost use Rattle.runner.specs.Plans.{firstRunner};
+
+// Before the first field.
+pub fn first() -> Runner
+    ensures { λ r. ⌜ r ≡ firstRunner ⌝ }
+{
+    let ends = [0u8; 64];
+    let view = [0u8; 16];
+    let number = [1u16; 16];
+    let record = agreement::calls::fresh_record();
+    let records = [record; 64];
+    let cut = [false; 32];
+    let bench = Bench {
+        bridges: 0,
+        links: 0,
+        views: 0,
+        messages: 0,
+        ends,
+        view,
+        number,
+        records,
+        cut,
+    };
+    Runner {
+        bench,
+        stage: 0,
+        events: 0,
+        offset: 0,
+    }
+}
+
+fn desk_long(
+    costs: usize,
+    tables: usize,
+    sent: usize,
+    held: usize,
+    messages: usize,
+    rows: usize,
+    out: usize,
+) -> bool
+    ensures { λ r. ⌜ r ≡ (leb 1024 costs && (leb 8192 tables && (leb 1024 sent && (leb 1024 held && (leb 320 messages && (leb 32 rows && leb 544 out)))))) ⌝ }
+{
+    both(
+        1024 <= costs,
+        both(
+            8192 <= tables,
+            both(
+                1024 <= sent,
+                both(
+                    1024 <= held,
+                    both(320 <= messages, both(32 <= rows, 544 <= out)),
+                ),
+            ),
+        ),
+    )
+}
+
+fn runner_in_range(r: Runner) -> bool
+    ensures { λ b. ⌜ b ≡ runnerInRange r ⌝ }
+{
+    both(r.events <= 61440, r.offset <= 61440)
+}
+
+// The plan ends here.
+fn ended(r: Runner, number: u8, out: &mut [u8]) -> Stepped
+    requires { ⌜ 544 ≤ length (now out) ⌝ }
+    ensures { λ s. ⌜ turn (s .reply) (s .going) (s .used) (s .written) (s .runner) (desk [] [] [] [] [] [] (now (out .exit))) ≡ lastTurn number (lastText number (r .events) (r .offset)) r (desk [] [] [] [] [] [] (now (out .entry))) ⌝ }
+{
+    let written = last_line(out, number, r.events, r.offset);
+    Stepped {
+        runner: r,
+        going: false,
+        used: 0,
+        written,
+        reply: number,
+    }
+}
+
+fn set_up(r: Runner, bench: Bench, stage: usize, used: usize) -> Stepped
+    requires { ⌜ (r .offset ≤ 61440) × (used ≤ 65538) ⌝ }
+    ensures { λ s. ⌜ turn (s .reply) (s .going) (s .used) (s .written) (s .runner) (desk [] [] [] [] [] [] []) ≡ setupTurn used bench stage r (desk [] [] [] [] [] [] []) ⌝ }
+{
+    let runner = Runner {
+        bench,
+        stage,
+        events: r.events,
+        offset: r.offset + used as u32,
+    };
+    Stepped {
+        runner,
+        going: true,
+        used,
+        written: 0,
+        reply: 0,
+    }
+}
+
+fn event_step(
+    r: Runner,
+    costs: &[u32],
+    tables: &mut [u32],
+    sent: &mut [u32],
+    held: &mut [u32],
+    messages: &mut [u32],
+    rows: &mut [u32],
+    out: &mut [u8],
+    event: Event,
+    used: usize,
+) -> Stepped
+    requires { ⌜ (r .offset ≤ 61440) × (r .events ≤ 61440) × (used ≤ 65538) × (32 ≤ length (now rows)) × (544 ≤ length (now out)) ⌝ }
+    ensures { λ s. ⌜ turn (s .reply) (s .going) (s .used) (s .written) (s .runner) (desk (now (costs .entry)) (now (tables .exit)) (now (sent .exit)) (now (held .exit)) (now (messages .exit)) (now (rows .exit)) (now (out .exit))) ≡ fieldTurn [] (Field.Event event) used r (desk (now (costs .entry)) (now (tables .entry)) (now (sent .entry)) (now (held .entry)) (now (messages .entry)) (now (rows .entry)) (now (out .entry))) ⌝ }
+{
+    let bench = setup::open(r, costs, tables, sent, held);
+    let happened = happen(bench, costs, tables, sent, held, messages, rows, out, event);
+    let after = happened.bench;
+    let number = happened.reply;
+    if number == 0 {
+        let runner = Runner {
+            bench: after,
+            stage: 3,
+            events: r.events + 1,
+            offset: r.offset + used as u32,
+        };
+        return Stepped {
+            runner,
+            going: true,
+            used,
+            written: happened.written,
+            reply: 0,
+        };
+    }
+    let runner = Runner {
+        bench: after,
+        stage: 3,
+        events: r.events,
+        offset: r.offset,
+    };
+    ended(runner, number, out)
+}
+
+fn field_step(
+    r: Runner,
+    rest: &[u8],
+    costs: &mut [u32],
+    tables: &mut [u32],
+    sent: &mut [u32],
+    held: &mut [u32],
+    messages: &mut [u32],
+    rows: &mut [u32],
+    out: &mut [u8],
+    field: Field,
+    used: usize,
+) -> Stepped
+    requires { ⌜ (r .offset ≤ 61440) × (r .events ≤ 61440) × (used ≤ 65538) × (1024 ≤ length (now costs)) × (32 ≤ length (now rows)) × (544 ≤ length (now out)) ⌝ }
+    requires { ⌜ fieldFits (r .bench) field ⌝ }
+    ensures { λ s. ⌜ turn (s .reply) (s .going) (s .used) (s .written) (s .runner) (desk (now (costs .exit)) (now (tables .exit)) (now (sent .exit)) (now (held .exit)) (now (messages .exit)) (now (rows .exit)) (now (out .exit))) ≡ fieldTurn (now (rest .entry)) field used r (desk (now (costs .entry)) (now (tables .entry)) (now (sent .entry)) (now (held .entry)) (now (messages .entry)) (now (rows .entry)) (now (out .entry))) ⌝ }
+{
+    let bench = r.bench;
+    match field {
+        Field::Bridges(count) => set_up(r, setup::with_bridges(bench, count), 1, used),
+        Field::Link(first, second) => set_up(r, setup::with_link(bench, first, second), 1, used),
+        Field::View => {
+            setup::store_row(rest, bench, costs);
+            set_up(r, setup::with_view(bench), 2, used)
+        }
+        Field::Event(event) => event_step(
+            r,
+            costs,
+            tables,
+            sent,
+            held,
+            messages,
+            rows,
+            out,
+            event,
+            used,
+        ),
+    }
+}
+
+// One field of a plan, read at the head of what is left of it, and carried out.
+pub fn step(
+    r: Runner,
+    rest: &[u8],
+    costs: &mut [u32],
+    tables: &mut [u32],
+    sent: &mut [u32],
+    held: &mut [u32],
+    messages: &mut [u32],
+    rows: &mut [u32],
+    out: &mut [u8],
+) -> Stepped
+    ensures { λ s. ⌜ turn (s .reply) (s .going) (s .used) (s .written) (s .runner) (desk (now (costs .exit)) (now (tables .exit)) (now (sent .exit)) (now (held .exit)) (now (messages .exit)) (now (rows .exit)) (now (out .exit))) ≡ stepOf r (desk (now (costs .entry)) (now (tables .entry)) (now (sent .entry)) (now (held .entry)) (now (messages .entry)) (now (rows .entry)) (now (out .entry))) (now (rest .entry)) ⌝ }
+{
+    let long = desk_long(
+        costs.len(),
+        tables.len(),
+        sent.len(),
+        held.len(),
+        messages.len(),
+        rows.len(),
+        out.len(),
+    );
+    if !both(runner_in_range(r), long) {
+        return Stepped {
+            runner: r,
+            going: false,
+            used: 0,
+            written: 0,
+            reply: 17,
+        };
+    }
+    let bench = r.bench;
+    let progress = Progress {
+        stage: r.stage,
+        bridges: bench.bridges,
+        links: bench.links,
+        views: bench.views,
+    };
+    let read = plan::fields::read_field(rest, progress);
+    let Read::Field(field, used) = read else {
+        return ended(r, stop_number(read), out);
+    };
+    field_step(
+        r,
+        rest,
+        costs,
+        tables,
+        sent,
+        held,
+        messages,
+        rows,
+        out,
+        field,
+        used,
+    )
+}

@@ -73,7 +73,7 @@ pub(crate) fn flags_in(numbers: &[u8]) -> [bool; 32]
     flags
 }
 
-fn put_three(first: u32, second: u32, third: u32, out: &mut [u32])
+pub(crate) fn put_three(first: u32, second: u32, third: u32, out: &mut [u32])
     requires { ⌜ 3 ≤ length (now out) ⌝ }
     ensures { λ r. ⌜ now (out .exit) ≡ sets (now (out .entry)) 0 (first ∷ second ∷ third ∷ []) ⌝ }
 {
@@ -82,7 +82,7 @@ fn put_three(first: u32, second: u32, third: u32, out: &mut [u32])
     out[2] = third;
 }
 
-fn flag_number(flag: bool) -> u32
+pub(crate) fn flag_number(flag: bool) -> u32
     ensures { λ r. ⌜ r ≡ cond flag 1 0 ⌝ }
 {
     if flag { 1 } else { 0 }

@@ -1,0 +1,155 @@
+-- A bench as numbers in a list, and what each exported call of layer 3 does, for every input: its reply and every list that it may
+-- write. Each is the call of the same name in `bench`; lists too short for the bench or for the answer are refused first.
+-- Assumes nothing.
+use Prim.Native.Nat.{ℕ, _+_, _-_, _*_, _/_, _%_}
+use mathlib.Core.Bool.{Bool, false, cond, _&&_}
+use mathlib.Core.List.{List, [], _∷_}
+use lib.ListN.{length, getD, take, drop}
+use lib.Dec.{eqb, leb, ltb}
+use Rattle.distances.specs.Table.{rewritten}
+use Rattle.agreement.specs.Record.{freshRecord}
+use Rattle.agreement.specs.Call.{Said}
+use Rattle.agreement.specs.declared.Answer.{Answer}
+use Rattle.bench.specs.declared.Bench.{Bench}
+use Rattle.bench.specs.Paths as paths
+use Rattle.bench.specs.State.{State, state}
+use Rattle.bench.specs.Changes.{Changed, Rewritten, Started, freshOf, updateOf, cutOf, restoreOf}
+use Rattle.bench.specs.Flights.{Flown, sendOf, loseOf}
+use Rattle.bench.specs.Deliveries.{Delivered, deliverOf, repeatOf}
+use Rattle.bench.specs.Answers.{Reported, portOf, reportOf, pathOf}
+use Rattle.exports.specs.Numbers.{isSet, listed, recordsIn, recordNumbers, answerNumbers, portNumbers}
+use Rattle.exports.specs.Call.{Told, told, ifLong, withValue, saidTold}
+
+-- ---- a bench in 388 numbers
+
+-- f of each of the n numbers from place k on
+abbrev pub each : {A : Type 0} → ℕ → ℕ → (ℕ → A) → List ℕ → List A
+each n k f xs = listed n (λ i. f (getD xs (k + i) 0))
+
+unfoldable pub benchIn : List ℕ → Bench
+benchIn xs =
+    record {
+      bridges = getD xs 0 0;
+      links = getD xs 1 0;
+      views = getD xs 2 0;
+      messages = getD xs 3 0;
+      ends = each 64 4 (λ x. x % 256) xs;
+      view = each 16 68 (λ x. x % 256) xs;
+      number = each 16 84 (λ x. x % 65536) xs;
+      records = recordsIn (take 256 (drop 100 xs));
+      cut = each 32 356 isSet xs;
+    }
+
+-- a count as a number of 32 bits
+abbrev pub low : ℕ → ℕ
+low x = x % 4294967296
+
+abbrev pub countAt : Bench → ℕ → ℕ
+countAt b k = cond (eqb k 0) (low (b .bridges)) (cond (eqb k 1) (low (b .links)) (cond (eqb k 2) (low (b .views)) (low (b .messages))))
+
+-- the number at place k
+unfoldable pub numberAt : Bench → ℕ → ℕ
+numberAt b k =
+    cond (ltb k 4) (countAt b k)
+    (cond (ltb k 68) (getD (b .ends) (k - 4) 0)
+    (cond (ltb k 84) (getD (b .view) (k - 68) 0)
+    (cond (ltb k 100) (getD (b .number) (k - 84) 0)
+    (cond (ltb k 356) (getD (recordNumbers (getD (b .records) ((k - 100) / 4) freshRecord)) (k % 4) 0)
+    (cond (getD (b .cut) (k - 356) false) 1 0)))))
+
+-- the list with the bench in its first 388 numbers
+unfoldable pub stored : Bench → List ℕ → List ℕ
+stored b xs = rewritten (λ k. ltb k 388) (numberAt b) xs
+
+-- ---- the calls
+
+-- the new bench where the call was not refused
+abbrev pub withBench : ℕ → Bench → List ℕ → List ℕ
+withBench reply b xs = cond (eqb reply 0) (stored b xs) xs
+
+abbrev pub changedTold : List ℕ → Changed → Told
+changedTold xs o = told (o .reply) (withBench (o .reply) (o .bench) xs ∷ [])
+
+abbrev pub rewrittenTold : List ℕ → Rewritten → Told
+rewrittenTold xs o = told (o .reply) (withBench (o .reply) (o .bench) xs ∷ o .sent ∷ o .held ∷ [])
+
+abbrev pub startedTold : List ℕ → Started → Told
+startedTold xs o = told (o .reply) (withBench (o .reply) (o .bench) xs ∷ o .tables ∷ o .sent ∷ o .held ∷ [])
+
+abbrev pub flownTold : List ℕ → Flown → Told
+flownTold xs o = told (o .reply) (withBench (o .reply) (o .bench) xs ∷ o .messages ∷ [])
+
+-- the new bench where there is an answer
+unfoldable pub withAnswered : List Answer → Bench → List ℕ → List ℕ
+withAnswered [] b xs = xs
+withAnswered (a ∷ rest) b xs = stored b xs
+
+-- the answer's numbers go to `out`
+abbrev pub deliveredTold : List ℕ → List ℕ → Delivered → Told
+deliveredTold xs out o =
+    told (o .reply .number)
+    (withAnswered (o .reply .value) (o .bench) xs
+    ∷ withValue answerNumbers out (o .reply .value)
+    ∷ o .sent
+    ∷ o .held
+    ∷ o .messages
+    ∷ [])
+
+abbrev pub reportedTold : Reported → Told
+reportedTold o = told (o .reply) (o .rows ∷ [])
+
+-- 0 and the hops where it is delivered, 1, the last bridge and the hops where it stops
+abbrev pub wayNumbers : paths.Way → List ℕ
+wayNumbers (paths.delivered hops) = 0 ∷ 0 ∷ low hops ∷ []
+wayNumbers (paths.stops last hops) = 1 ∷ low last ∷ low hops ∷ []
+
+-- is there room for a bench
+abbrev pub holdsBench : List ℕ → Bool
+holdsBench xs = leb 388 (length xs)
+
+unfoldable pub netFreshTold : List ℕ → List ℕ → List ℕ → List ℕ → List ℕ → Told
+netFreshTold xs costs tables sent held =
+    ifLong (holdsBench xs) (xs ∷ tables ∷ sent ∷ held ∷ []) (startedTold xs (freshOf (benchIn xs) costs tables sent held))
+
+unfoldable pub netUpdateTold : List ℕ → List ℕ → List ℕ → List ℕ → List ℕ → ℕ → ℕ → Told
+netUpdateTold xs costs tables sent held y t =
+    ifLong (holdsBench xs) (xs ∷ sent ∷ held ∷ []) (rewrittenTold xs (updateOf (state (benchIn xs) costs tables sent held []) y t))
+
+unfoldable pub netCutTold : List ℕ → ℕ → Told
+netCutTold xs l = ifLong (holdsBench xs) (xs ∷ []) (changedTold xs (cutOf (benchIn xs) l))
+
+unfoldable pub netRestoreTold : List ℕ → ℕ → Told
+netRestoreTold xs l = ifLong (holdsBench xs) (xs ∷ []) (changedTold xs (restoreOf (benchIn xs) l))
+
+unfoldable pub netSendTold : List ℕ → List ℕ → ℕ → ℕ → Told
+netSendTold xs messages y l = ifLong (holdsBench xs) (xs ∷ messages ∷ []) (flownTold xs (sendOf (benchIn xs) messages y l))
+
+unfoldable pub netLoseTold : List ℕ → List ℕ → ℕ → Told
+netLoseTold xs messages p = ifLong (holdsBench xs) (xs ∷ messages ∷ []) (flownTold xs (loseOf (benchIn xs) messages p))
+
+-- deliver and repeat, by what each makes of a state
+abbrev pub netDeliveryTold : (State → ℕ → Delivered) → State → List ℕ → List ℕ → ℕ → Told
+netDeliveryTold call s xs out p =
+    ifLong (holdsBench xs && leb 3 (length out)) (xs ∷ out ∷ s .sent ∷ s .held ∷ s .messages ∷ []) (deliveredTold xs out (call s p))
+
+unfoldable pub netDeliverTold : List ℕ → List ℕ → List ℕ → List ℕ → List ℕ → List ℕ → List ℕ → ℕ → Told
+netDeliverTold xs costs tables sent held messages out p =
+    netDeliveryTold deliverOf (state (benchIn xs) costs tables sent held messages) xs out p
+
+unfoldable pub netRepeatTold : List ℕ → List ℕ → List ℕ → List ℕ → List ℕ → List ℕ → List ℕ → ℕ → Told
+netRepeatTold xs costs tables sent held messages out p =
+    netDeliveryTold repeatOf (state (benchIn xs) costs tables sent held messages) xs out p
+
+unfoldable pub netPortTold : List ℕ → List ℕ → List ℕ → List ℕ → List ℕ → ℕ → ℕ → List ℕ → Told
+netPortTold xs costs tables sent held y d out =
+    ifLong (holdsBench xs && leb 1 (length out)) (out ∷ [])
+    (saidTold portNumbers out (portOf (state (benchIn xs) costs tables sent held []) y d))
+
+unfoldable pub netReportTold : List ℕ → List ℕ → List ℕ → List ℕ → List ℕ → ℕ → List ℕ → Told
+netReportTold xs costs tables sent held d rows =
+    ifLong (holdsBench xs) (rows ∷ []) (reportedTold (reportOf (state (benchIn xs) costs tables sent held []) d rows))
+
+unfoldable pub netPathTold : List ℕ → List ℕ → List ℕ → List ℕ → List ℕ → ℕ → ℕ → List ℕ → Told
+netPathTold xs costs tables sent held y d out =
+    ifLong (holdsBench xs && leb 3 (length out)) (out ∷ [])
+    (saidTold wayNumbers out (pathOf (state (benchIn xs) costs tables sent held []) y d))

@@ -1,0 +1,387 @@
+//! The exported calls of layer 3, each behind a safe function over the buffers that are lent to it. They have no `requires`, so any
+//! argument is allowed.
+
+use crate::network::Call;
+
+/// The lengths that the calls need.
+pub const BENCH: usize = 388;
+pub const COSTS: usize = 1024;
+pub const TABLES: usize = 8192;
+pub const LIMITS: usize = 1024;
+pub const MESSAGES: usize = 320;
+pub const ANSWER: usize = 3;
+pub const ROWS: usize = 32;
+
+// A slice passes as a pointer and then a length. Nothing checks these declarations against crates/exports/src/network.rt.
+extern "C" {
+    fn bench_net_fresh(
+        bench: *mut u32,
+        bench_len: usize,
+        costs: *const u32,
+        costs_len: usize,
+        tables: *mut u32,
+        tables_len: usize,
+        sent: *mut u32,
+        sent_len: usize,
+        held: *mut u32,
+        held_len: usize,
+    ) -> u8;
+    fn bench_net_update(
+        bench: *mut u32,
+        bench_len: usize,
+        costs: *const u32,
+        costs_len: usize,
+        tables: *const u32,
+        tables_len: usize,
+        sent: *mut u32,
+        sent_len: usize,
+        held: *mut u32,
+        held_len: usize,
+        bridge: usize,
+        view: usize,
+    ) -> u8;
+    fn bench_net_cut(bench: *mut u32, bench_len: usize, link: usize) -> u8;
+    fn bench_net_restore(bench: *mut u32, bench_len: usize, link: usize) -> u8;
+    fn bench_net_send(
+        bench: *mut u32,
+        bench_len: usize,
+        messages: *mut u32,
+        messages_len: usize,
+        bridge: usize,
+        link: usize,
+    ) -> u8;
+    fn bench_net_lose(bench: *mut u32, bench_len: usize, messages: *mut u32, messages_len: usize, place: usize) -> u8;
+    fn bench_net_deliver(
+        bench: *mut u32,
+        bench_len: usize,
+        costs: *const u32,
+        costs_len: usize,
+        tables: *const u32,
+        tables_len: usize,
+        sent: *mut u32,
+        sent_len: usize,
+        held: *mut u32,
+        held_len: usize,
+        messages: *mut u32,
+        messages_len: usize,
+        place: usize,
+        out: *mut u32,
+        out_len: usize,
+    ) -> u8;
+    fn bench_net_repeat(
+        bench: *mut u32,
+        bench_len: usize,
+        costs: *const u32,
+        costs_len: usize,
+        tables: *const u32,
+        tables_len: usize,
+        sent: *mut u32,
+        sent_len: usize,
+        held: *mut u32,
+        held_len: usize,
+        messages: *const u32,
+        messages_len: usize,
+        place: usize,
+        out: *mut u32,
+        out_len: usize,
+    ) -> u8;
+    fn bench_net_port(
+        bench: *const u32,
+        bench_len: usize,
+        costs: *const u32,
+        costs_len: usize,
+        tables: *const u32,
+        tables_len: usize,
+        sent: *const u32,
+        sent_len: usize,
+        held: *const u32,
+        held_len: usize,
+        bridge: usize,
+        dest: usize,
+        out: *mut u32,
+        out_len: usize,
+    ) -> u8;
+    fn bench_net_report(
+        bench: *const u32,
+        bench_len: usize,
+        costs: *const u32,
+        costs_len: usize,
+        tables: *const u32,
+        tables_len: usize,
+        sent: *const u32,
+        sent_len: usize,
+        held: *const u32,
+        held_len: usize,
+        dest: usize,
+        rows: *mut u32,
+        rows_len: usize,
+    ) -> u8;
+    fn bench_net_path(
+        bench: *const u32,
+        bench_len: usize,
+        costs: *const u32,
+        costs_len: usize,
+        tables: *const u32,
+        tables_len: usize,
+        sent: *const u32,
+        sent_len: usize,
+        held: *const u32,
+        held_len: usize,
+        start: usize,
+        dest: usize,
+        out: *mut u32,
+        out_len: usize,
+    ) -> u8;
+}
+
+/// A buffer between guards, which no call may write.
+#[derive(Clone, Debug)]
+pub struct Buffer {
+    memory: Vec<u32>,
+}
+
+const GUARD: u32 = 0xdead_beef;
+const WIDTH: usize = 8;
+
+impl Buffer {
+    pub fn of(numbers: &[u32]) -> Buffer {
+        let mut memory = vec![GUARD; WIDTH];
+        memory.extend(numbers);
+        memory.extend([GUARD; WIDTH]);
+        Buffer { memory }
+    }
+
+    pub fn numbers(&self) -> &[u32] {
+        &self.memory[WIDTH..self.memory.len() - WIDTH]
+    }
+
+    pub fn numbers_mut(&mut self) -> &mut [u32] {
+        let end = self.memory.len() - WIDTH;
+        &mut self.memory[WIDTH..end]
+    }
+
+    pub fn is_guarded(&self) -> bool {
+        let end = self.memory.len() - WIDTH;
+        self.memory[..WIDTH].iter().chain(&self.memory[end..]).all(|&x| x == GUARD)
+    }
+}
+
+/// All that is lent to the calls. `out` takes answers, ports, paths and report rows.
+#[derive(Clone, Debug)]
+pub struct Lent {
+    pub bench: Buffer,
+    pub costs: Buffer,
+    pub tables: Buffer,
+    pub sent: Buffer,
+    pub held: Buffer,
+    pub messages: Buffer,
+    pub out: Buffer,
+}
+
+impl Lent {
+    pub fn buffers(&self) -> [(&'static str, &Buffer); 7] {
+        [
+            ("bench", &self.bench),
+            ("costs", &self.costs),
+            ("tables", &self.tables),
+            ("sent", &self.sent),
+            ("held", &self.held),
+            ("messages", &self.messages),
+            ("out", &self.out),
+        ]
+    }
+
+    // SAFETY, of each call below: each pointer comes with the length of its buffer, and no two buffers share memory.
+
+    pub fn fresh(&mut self) -> u8 {
+        let (b, c, t) = (self.bench.numbers_mut(), self.costs.numbers(), self.tables.numbers_mut());
+        let (s, h) = (self.sent.numbers_mut(), self.held.numbers_mut());
+        unsafe {
+            bench_net_fresh(
+                b.as_mut_ptr(),
+                b.len(),
+                c.as_ptr(),
+                c.len(),
+                t.as_mut_ptr(),
+                t.len(),
+                s.as_mut_ptr(),
+                s.len(),
+                h.as_mut_ptr(),
+                h.len(),
+            )
+        }
+    }
+
+    pub fn call(&mut self, call: Call) -> u8 {
+        match call {
+            Call::Update(bridge, view) => self.update(bridge, view),
+            Call::Cut(link) => self.cut(link),
+            Call::Restore(link) => self.restore(link),
+            Call::Send(bridge, link) => self.send(bridge, link),
+            Call::Deliver(place) => self.deliver(place),
+            Call::Repeat(place) => self.repeat(place),
+            Call::Lose(place) => self.lose(place),
+            Call::Port(bridge, dest) => self.port(bridge, dest),
+            Call::Report(dest) => self.report(dest),
+            Call::Path(start, dest) => self.path(start, dest),
+        }
+    }
+
+    fn cut(&mut self, link: usize) -> u8 {
+        let b = self.bench.numbers_mut();
+        unsafe { bench_net_cut(b.as_mut_ptr(), b.len(), link) }
+    }
+
+    fn restore(&mut self, link: usize) -> u8 {
+        let b = self.bench.numbers_mut();
+        unsafe { bench_net_restore(b.as_mut_ptr(), b.len(), link) }
+    }
+
+    fn send(&mut self, bridge: usize, link: usize) -> u8 {
+        let (b, m) = (self.bench.numbers_mut(), self.messages.numbers_mut());
+        unsafe { bench_net_send(b.as_mut_ptr(), b.len(), m.as_mut_ptr(), m.len(), bridge, link) }
+    }
+
+    fn lose(&mut self, place: usize) -> u8 {
+        let (b, m) = (self.bench.numbers_mut(), self.messages.numbers_mut());
+        unsafe { bench_net_lose(b.as_mut_ptr(), b.len(), m.as_mut_ptr(), m.len(), place) }
+    }
+
+    fn update(&mut self, bridge: usize, view: usize) -> u8 {
+        let (b, c, t) = (self.bench.numbers_mut(), self.costs.numbers(), self.tables.numbers());
+        let (s, h) = (self.sent.numbers_mut(), self.held.numbers_mut());
+        unsafe {
+            bench_net_update(
+                b.as_mut_ptr(),
+                b.len(),
+                c.as_ptr(),
+                c.len(),
+                t.as_ptr(),
+                t.len(),
+                s.as_mut_ptr(),
+                s.len(),
+                h.as_mut_ptr(),
+                h.len(),
+                bridge,
+                view,
+            )
+        }
+    }
+
+    fn deliver(&mut self, place: usize) -> u8 {
+        let (b, c, t) = (self.bench.numbers_mut(), self.costs.numbers(), self.tables.numbers());
+        let (s, h, m, o) =
+            (self.sent.numbers_mut(), self.held.numbers_mut(), self.messages.numbers_mut(), self.out.numbers_mut());
+        unsafe {
+            bench_net_deliver(
+                b.as_mut_ptr(),
+                b.len(),
+                c.as_ptr(),
+                c.len(),
+                t.as_ptr(),
+                t.len(),
+                s.as_mut_ptr(),
+                s.len(),
+                h.as_mut_ptr(),
+                h.len(),
+                m.as_mut_ptr(),
+                m.len(),
+                place,
+                o.as_mut_ptr(),
+                o.len(),
+            )
+        }
+    }
+
+    fn repeat(&mut self, place: usize) -> u8 {
+        let (b, c, t) = (self.bench.numbers_mut(), self.costs.numbers(), self.tables.numbers());
+        let (s, h, m, o) = (self.sent.numbers_mut(), self.held.numbers_mut(), self.messages.numbers(), self.out.numbers_mut());
+        unsafe {
+            bench_net_repeat(
+                b.as_mut_ptr(),
+                b.len(),
+                c.as_ptr(),
+                c.len(),
+                t.as_ptr(),
+                t.len(),
+                s.as_mut_ptr(),
+                s.len(),
+                h.as_mut_ptr(),
+                h.len(),
+                m.as_ptr(),
+                m.len(),
+                place,
+                o.as_mut_ptr(),
+                o.len(),
+            )
+        }
+    }
+
+    fn port(&mut self, bridge: usize, dest: usize) -> u8 {
+        let (b, c, t) = (self.bench.numbers(), self.costs.numbers(), self.tables.numbers());
+        let (s, h, o) = (self.sent.numbers(), self.held.numbers(), self.out.numbers_mut());
+        unsafe {
+            bench_net_port(
+                b.as_ptr(),
+                b.len(),
+                c.as_ptr(),
+                c.len(),
+                t.as_ptr(),
+                t.len(),
+                s.as_ptr(),
+                s.len(),
+                h.as_ptr(),
+                h.len(),
+                bridge,
+                dest,
+                o.as_mut_ptr(),
+                o.len(),
+            )
+        }
+    }
+
+    fn report(&mut self, dest: usize) -> u8 {
+        let (b, c, t) = (self.bench.numbers(), self.costs.numbers(), self.tables.numbers());
+        let (s, h, o) = (self.sent.numbers(), self.held.numbers(), self.out.numbers_mut());
+        unsafe {
+            bench_net_report(
+                b.as_ptr(),
+                b.len(),
+                c.as_ptr(),
+                c.len(),
+                t.as_ptr(),
+                t.len(),
+                s.as_ptr(),
+                s.len(),
+                h.as_ptr(),
+                h.len(),
+                dest,
+                o.as_mut_ptr(),
+                o.len(),
+            )
+        }
+    }
+
+    fn path(&mut self, start: usize, dest: usize) -> u8 {
+        let (b, c, t) = (self.bench.numbers(), self.costs.numbers(), self.tables.numbers());
+        let (s, h, o) = (self.sent.numbers(), self.held.numbers(), self.out.numbers_mut());
+        unsafe {
+            bench_net_path(
+                b.as_ptr(),
+                b.len(),
+                c.as_ptr(),
+                c.len(),
+                t.as_ptr(),
+                t.len(),
+                s.as_ptr(),
+                s.len(),
+                h.as_ptr(),
+                h.len(),
+                start,
+                dest,
+                o.as_mut_ptr(),
+                o.len(),
+            )
+        }
+    }
+}

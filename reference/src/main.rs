@@ -1,9 +1,11 @@
-//! Reads a plan from standard input and prints what document 01 asks.
+//! Reads a plan from standard input and prints its reports on standard output.
 
-use std::io::{self, Read, Write};
+use std::io::{Read, Write};
 
-fn main() -> io::Result<()> {
-    let mut bytes = Vec::new();
-    io::stdin().lock().read_to_end(&mut bytes)?;
-    io::stdout().lock().write_all(reference::output(&bytes).as_bytes())
+fn main() -> std::io::Result<()> {
+    let mut plan = Vec::new();
+    std::io::stdin().lock().read_to_end(&mut plan)?;
+    let mut out = std::io::stdout().lock();
+    out.write_all(&reference::output(&plan))?;
+    out.flush()
 }

@@ -1,210 +1,169 @@
-//! The network: bridges, link ends with what they remember, and messages in flight.
+//! The network bench with messages in flight ('Events').
 
-use crate::parse::{Refusal, Setup};
-use crate::topology::{Length, Link, View};
-use std::collections::BTreeSet;
+use crate::map::{End, Map};
+use crate::records::{Answer, Bridge, Message, Records};
+use crate::refusal::Refusal;
 
 const MOST_IN_FLIGHT: usize = 64;
-const LAST_NUMBER: u32 = 65_535;
 
-#[derive(Debug)]
-struct Bridge {
-    view: usize,
-    number: u32,
-}
-
-/// What a bridge remembers at its end of a link.
-#[derive(Debug)]
-struct End {
-    highest: u32,
-    received: Option<usize>,
-    discarded: u32,
-    held: Option<usize>,
-    /// The views since the last clearing. The sent limit is the least offer in any of them.
-    told: BTreeSet<usize>,
-}
-
-#[derive(Clone, Debug)]
-struct Message {
-    link: usize,
-    from: usize,
-    view: usize,
-    number: u32,
-    discarded: u32,
-}
-
-#[derive(Debug)]
+/// A network as the last event left it.
 pub struct Network {
-    links: Vec<Link>,
-    views: Vec<View>,
-    bridges: Vec<Bridge>,
-    /// By link, then by side.
-    ends: Vec<[End; 2]>,
-    cut: BTreeSet<usize>,
+    pub map: Map,
+    pub bridges: Vec<Bridge>,
+    /// The records of side 0 and side 1 of each link.
+    pub records: Vec<[Records; 2]>,
+    /// The link ends of each bridge, by rising link number.
+    pub ends: Vec<Vec<End>>,
+    /// Whether each link is cut.
+    pub cut: Vec<bool>,
+    /// Messages in flight, oldest first.
     flight: Vec<Message>,
 }
 
-/// Where a frame got to.
-pub struct Walk {
-    pub last: usize,
-    pub hops: usize,
-}
-
-/// All that an event names is there.
-fn known(there: bool) -> Result<(), Refusal> {
-    there.then_some(()).ok_or(Refusal::NoSuchThing)
+/// 'Tags 4, 5, 9 to 12': the index, if there are more than that many items.
+fn within(index: u8, count: usize) -> Result<usize, Refusal> {
+    let index = usize::from(index);
+    if index < count {
+        Ok(index)
+    } else {
+        Err(Refusal::NoSuch)
+    }
 }
 
 impl Network {
-    pub fn fresh(setup: Setup) -> Network {
-        let end = || End { highest: 0, received: None, discarded: 0, held: None, told: BTreeSet::from([0]) };
-        Network {
-            views: setup.views.iter().map(|costs| View::new(setup.bridges, &setup.links, costs)).collect(),
-            bridges: (0..setup.bridges).map(|_| Bridge { view: 0, number: 1 }).collect(),
-            ends: setup.links.iter().map(|_| [end(), end()]).collect(),
-            links: setup.links,
-            cut: BTreeSet::new(),
-            flight: Vec::new(),
-        }
+    /// 'A fresh network'. The map has at least one view.
+    pub fn fresh(map: Map) -> Network {
+        let bridges = vec![Bridge { view: 0, number: 1 }; map.bridge_count()];
+        let records = (0..map.link_count()).map(|link| [0, 1].map(|side| Records::fresh(&map, End { link, side }))).collect();
+        let ends = (0..map.bridge_count()).map(|bridge| map.ends_of(bridge)).collect();
+        let cut = vec![false; map.link_count()];
+        Network { map, bridges, records, ends, cut, flight: Vec::new() }
     }
 
-    /// The links of a bridge in rising order, each with the side that is this bridge's.
-    fn links_of(&self, bridge: usize) -> impl Iterator<Item = (usize, usize)> + '_ {
-        self.links.iter().enumerate().filter_map(move |(l, link)| Some((l, link.side_of(bridge)?)))
+    /// The bridge of this number, or 10.
+    pub fn bridge(&self, number: u8) -> Result<usize, Refusal> {
+        within(number, self.map.bridge_count())
     }
 
-    /// The offer, in a view, of the bridge at this side of the link.
-    fn offer(&self, link: usize, side: usize, view: usize, destination: usize) -> Length {
-        let view = &self.views[view];
-        let [own, far] = [side, 1 - side].map(|s| view.length(self.links[link].bridges[s], destination));
-        match view.costs[link] {
-            Some(cost) if own < far => own.plus(cost),
-            _ => Length::Never,
-        }
+    fn link(&self, number: u8) -> Result<usize, Refusal> {
+        within(number, self.map.link_count())
     }
 
-    fn sent_limit(&self, link: usize, side: usize, destination: usize) -> Length {
-        let told = &self.ends[link][side].told;
-        told.iter().map(|&view| self.offer(link, side, view, destination)).min().unwrap_or(Length::Never)
-    }
-
-    fn held_limit(&self, link: usize, side: usize, destination: usize) -> Length {
-        let held = self.ends[link][side].held;
-        held.map_or(Length::Never, |view| self.offer(link, 1 - side, view, destination))
-    }
-
-    pub fn update(&mut self, bridge: usize, view: usize) -> Result<(), Refusal> {
-        known(bridge < self.bridges.len() && view < self.views.len())?;
-        let Bridge { view: present, number } = &mut self.bridges[bridge];
-        if *present == view {
+    /// 'Update': nothing changes if the view is the present one.
+    pub fn update(&mut self, bridge: u8, view: u8) -> Result<(), Refusal> {
+        let bridge = self.bridge(bridge)?;
+        let view = within(view, self.map.view_count())?;
+        let own = &mut self.bridges[bridge];
+        if own.view == view {
             return Ok(());
         }
-        if *number == LAST_NUMBER {
-            return Err(Refusal::NumbersUsedUp);
-        }
-        *present = view;
-        *number += 1;
-        let own: Vec<(usize, usize)> = self.links_of(bridge).collect();
-        for (link, side) in own {
-            let end = &mut self.ends[link][side];
-            end.told.insert(view);
-            if end.received == Some(view) {
-                end.held = Some(view);
-                end.discarded = end.highest;
-            }
+        let Some(number) = own.number.checked_add(1) else { return Err(Refusal::NumbersUsedUp) };
+        *own = Bridge { view, number };
+        for &end in &self.ends[bridge] {
+            self.records[end.link][end.side].update(&self.map, end, view);
         }
         Ok(())
     }
 
-    pub fn send(&mut self, bridge: usize, link: usize) -> Result<(), Refusal> {
-        known(bridge < self.bridges.len() && link < self.links.len())?;
-        let from = self.links[link].side_of(bridge).ok_or(Refusal::NotOnLink)?;
-        if self.cut.contains(&link) {
+    /// 'Send'.
+    pub fn send(&mut self, bridge: u8, link: u8) -> Result<(), Refusal> {
+        let bridge = self.bridge(bridge)?;
+        let link = self.link(link)?;
+        let Some(from) = self.map.end_at(bridge, link) else { return Err(Refusal::NotOnLink) };
+        if self.cut[link] {
             return Err(Refusal::LinkCut);
         }
-        if self.flight.len() == MOST_IN_FLIGHT {
+        if self.flight.len() >= MOST_IN_FLIGHT {
             return Err(Refusal::FlightFull);
         }
         let Bridge { view, number } = self.bridges[bridge];
-        self.flight.push(Message { link, from, view, number, discarded: self.ends[link][from].discarded });
+        let discarded = self.records[link][from.side].discarded();
+        self.flight.push(Message { from, view, number, discarded });
         Ok(())
     }
 
-    pub fn deliver(&mut self, place: usize, stays: bool) -> Result<(), Refusal> {
-        let message = self.flight.get(place).ok_or(Refusal::NoMessage)?.clone();
-        if self.cut.contains(&message.link) {
+    /// The message at this place, or 15.
+    fn message(&self, place: u8) -> Result<Message, Refusal> {
+        self.flight.get(usize::from(place)).copied().ok_or(Refusal::NoMessage)
+    }
+
+    /// 'Repeat': delivers the message and leaves it in flight.
+    pub fn repeat(&mut self, place: u8) -> Result<Answer, Refusal> {
+        let message = self.message(place)?;
+        if self.cut[message.from.link] {
             return Err(Refusal::LinkCut);
         }
-        if !stays {
-            self.flight.remove(place);
-        }
-        self.receive(message);
+        let end = message.from.far();
+        let receiver = self.bridges[self.map.bridge_at(end)];
+        Ok(self.records[end.link][end.side].deliver(&self.map, end, receiver, message))
+    }
+
+    /// 'Deliver': delivers the message and takes it out.
+    pub fn deliver(&mut self, place: u8) -> Result<Answer, Refusal> {
+        let answer = self.repeat(place)?;
+        self.lose(place)?;
+        Ok(answer)
+    }
+
+    /// 'Lose': only takes the message out, and later ones move up by one. The link may be cut.
+    pub fn lose(&mut self, place: u8) -> Result<(), Refusal> {
+        self.message(place)?;
+        self.flight.remove(usize::from(place));
         Ok(())
     }
 
-    fn receive(&mut self, message: Message) {
-        let side = 1 - message.from;
-        let receiver = &self.bridges[self.links[message.link].bridges[side]];
-        let end = &mut self.ends[message.link][side];
-        if message.number < end.highest {
-            return;
+    /// 'Cut' if `cut`, otherwise 'restore'. Records and messages in flight are retained.
+    pub fn set_cut(&mut self, link: u8, cut: bool) -> Result<(), Refusal> {
+        let link = self.link(link)?;
+        if self.cut[link] == cut {
+            return Err(Refusal::AlreadySo);
         }
-        end.highest = message.number;
-        end.received = Some(message.view);
-        if message.discarded == receiver.number {
-            end.told = BTreeSet::from([receiver.view]);
-        }
-        if message.view == receiver.view {
-            end.held = Some(message.view);
-            end.discarded = message.number;
-        }
-    }
-
-    pub fn lose(&mut self, place: usize) -> Result<(), Refusal> {
-        if place >= self.flight.len() {
-            return Err(Refusal::NoMessage);
-        }
-        self.flight.remove(place);
+        self.cut[link] = cut;
         Ok(())
     }
+}
 
-    pub fn set_cut(&mut self, link: usize, cut: bool) -> Result<(), Refusal> {
-        known(link < self.links.len())?;
-        let changed = if cut { self.cut.insert(link) } else { self.cut.remove(&link) };
-        changed.then_some(()).ok_or(Refusal::AlreadySo)
-    }
+#[cfg(test)]
+mod tests {
+    use super::*;
 
-    /// The link on which a bridge forwards to a destination.
-    fn port(&self, bridge: usize, destination: usize) -> Option<usize> {
-        let view = &self.views[self.bridges[bridge].view];
-        let length = view.length(bridge, destination);
-        if bridge == destination || length == Length::Never {
-            return None;
+    /// The triangle of 'Known examples'.
+    fn triangle() -> Network {
+        let mut map = Map::default();
+        map.set_bridges(3).unwrap();
+        for ends in [[0, 1], [1, 2], [0, 2]] {
+            map.add_link(ends).unwrap();
         }
-        let (link, side) = self.links_of(bridge).find(|&(l, side)| {
-            let far = view.length(self.links[l].bridges[1 - side], destination);
-            view.costs[l].is_some_and(|cost| far.plus(cost) == length)
-        })?;
-        let agreed = self.held_limit(link, side, destination) <= length;
-        let safe = |(l, side)| self.cut.contains(&l) || length < self.sent_limit(l, side, destination);
-        (!self.cut.contains(&link) && agreed && self.links_of(bridge).all(safe)).then_some(link)
+        map.add_view(&[0, 0, 0, 1, 0, 0, 0, 1, 0, 0, 0, 3]).unwrap();
+        map.add_view(&[0, 0, 0, 0, 0, 0, 0, 1, 0, 0, 0, 3]).unwrap();
+        Network::fresh(map)
     }
 
-    pub fn report(&self, destination: usize) -> Result<Vec<(Length, Option<usize>)>, Refusal> {
-        known(destination < self.bridges.len())?;
-        let row = |(b, bridge): (usize, &Bridge)| (self.views[bridge.view].length(b, destination), self.port(b, destination));
-        Ok(self.bridges.iter().enumerate().map(row).collect())
+    #[test]
+    fn the_number_65535_is_the_last() {
+        let mut network = triangle();
+        network.bridges[1].number = 65_534;
+        assert_eq!(network.update(1, 1), Ok(()));
+        assert_eq!(network.bridges[1].number, 65_535);
+        assert_eq!(network.update(1, 0), Err(Refusal::NumbersUsedUp));
+        assert_eq!(network.update(1, 1), Ok(()));
+        assert_eq!((network.bridges[1].view, network.bridges[1].number), (1, 65_535));
     }
 
-    pub fn walk(&self, start: usize, destination: usize) -> Result<Walk, Refusal> {
-        known(start < self.bridges.len() && destination < self.bridges.len())?;
-        let (mut last, mut hops) = (start, 0);
-        while last != destination && hops < self.bridges.len() - 1 {
-            let Some(link) = self.port(last, destination) else { break };
-            let [a, b] = self.links[link].bridges;
-            last = if a == last { b } else { a };
-            hops += 1;
-        }
-        Ok(Walk { last, hops })
+    #[test]
+    fn answers_of_deliveries() {
+        let mut network = triangle();
+        network.send(1, 1).unwrap();
+        network.send(1, 1).unwrap();
+        assert_eq!(network.repeat(0), Ok(Answer::Agreed));
+        assert_eq!(network.deliver(0), Ok(Answer::Agreed));
+        network.update(1, 1).unwrap();
+        network.send(1, 1).unwrap();
+        assert_eq!(network.repeat(1), Ok(Answer::Noted));
+        // The message of number 1 is now below the highest received number, 2. An equal number is not.
+        assert_eq!(network.repeat(0), Ok(Answer::Stale));
+        assert_eq!(network.deliver(1), Ok(Answer::Noted));
+        assert_eq!(network.deliver(0), Ok(Answer::Stale));
+        assert_eq!(network.deliver(0), Err(Refusal::NoMessage));
     }
 }

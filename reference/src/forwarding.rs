@@ -1,0 +1,69 @@
+//! The forwarding rule and the path ('Forwarding').
+
+use crate::distances::{plus, NONE};
+use crate::map::End;
+use crate::network::Network;
+
+/// Where a path ends.
+#[derive(Clone, Copy, Debug, PartialEq, Eq)]
+pub struct PathEnd {
+    /// The last bridge; the destination if delivered.
+    pub last: usize,
+    /// The number of links crossed.
+    pub hops: usize,
+}
+
+impl Network {
+    /// The distance of a bridge in its own view.
+    pub fn distance(&self, bridge: usize, destination: usize) -> u32 {
+        self.map.distance(self.bridges[bridge].view, destination, bridge)
+    }
+
+    /// The bridge's end of its chosen link. `bridge` is not the destination and its distance is not NONE.
+    fn chosen(&self, bridge: usize, destination: usize) -> Option<End> {
+        let view = self.bridges[bridge].view;
+        let own = self.map.distance(view, destination, bridge);
+        self.ends[bridge].iter().copied().find(|end| {
+            let cost = self.map.cost(view, end.link);
+            let far = self.map.distance(view, destination, self.map.bridge_at(end.far()));
+            cost != 0 && plus(cost, far) == own
+        })
+    }
+
+    /// The forwarding port: the bridge's end of the link on which it forwards for the destination, if it does.
+    pub fn port(&self, bridge: usize, destination: usize) -> Option<End> {
+        let own = self.distance(bridge, destination);
+        if bridge == destination || own == NONE {
+            return None;
+        }
+        let chosen = self.chosen(bridge, destination)?;
+        if self.cut[chosen.link] {
+            return None;
+        }
+        let held = self.records[chosen.link][chosen.side].held_limit(&self.map, chosen, destination);
+        if held <= own && self.below_sent_limits(bridge, destination, own) {
+            Some(chosen)
+        } else {
+            None
+        }
+    }
+
+    /// Whether the distance is below the sent limit of every uncut link of the bridge.
+    fn below_sent_limits(&self, bridge: usize, destination: usize, distance: u32) -> bool {
+        let uncut = self.ends[bridge].iter().filter(|end| !self.cut[end.link]);
+        uncut.into_iter().all(|end| distance < self.records[end.link][end.side].sent_limit(destination))
+    }
+
+    /// Follows forwarding ports until the destination or a bridge that does not forward,
+    /// over at most as many links as there are bridges less one.
+    pub fn path(&self, start: usize, destination: usize) -> PathEnd {
+        let mut last = start;
+        let mut hops = 0;
+        while last != destination && hops + 1 < self.map.bridge_count() {
+            let Some(port) = self.port(last, destination) else { break };
+            last = self.map.bridge_at(port.far());
+            hops += 1;
+        }
+        PathEnd { last, hops }
+    }
+}

@@ -7,7 +7,7 @@ ghost use mathlib.Core.Path.{_≡_};
 ghost use mathlib.Core.Bool.{not, _&&_, _||_};
 ghost use Prim.Native.Nat.{_*_, _≤_, _<_};
 ghost use lib.ListN.{length};
-ghost use lib.Dec.{eqb, leb, ltb};
+ghost use lib.Dec.{eqb, ltb};
 ghost use Rattle.distances.specs.View.{graphOf, costsOf};
 ghost use Rattle.distances.specs.Table.{cell};
 ghost use Rattle.agreement.specs.Record.{heldLimit};
@@ -94,16 +94,14 @@ fn every_sent_allows(
     requires { ⌜ (links ≤ 32) × (2 * links ≤ length (now ends)) × (1024 ≤ length (now sent)) × (dest < 16) ⌝ }
     ensures { λ r. ⌜ r ≡ allBelow (2 * links) (sentAllowsAt (now (ends .entry)) cut (now (sent .entry)) bridge dest own) ⌝ }
 {
-    let mut ok = true;
     let mut e = 0;
     while e < 2 * links {
-        ok = both(
-            ok,
-            allows_by(ends[e], bridge, cut[e / 2], own, sent[16 * e + dest]),
-        );
+        if !allows_by(ends[e], bridge, cut[e / 2], own, sent[16 * e + dest]) {
+            return false;
+        }
         e += 1;
     }
-    ok
+    true
 }
 
 fn held_limit(old: EndRecord, limit: u32) -> u32
@@ -112,13 +110,7 @@ fn held_limit(old: EndRecord, limit: u32) -> u32
     if old.holding { limit } else { NONE }
 }
 
-// Both numbers are distances or limits: the held limit suffices, and the link is up.
-fn opens(cut: bool, limit: u32, own: u32, allowed: bool) -> bool
-    ensures { λ r. ⌜ r ≡ (not cut && (leb limit own && allowed)) ⌝ }
-{
-    both(!cut, both(limit <= own, allowed))
-}
-
+// The tests of the chosen link come before the one that looks at every end.
 fn port_at(
     links: usize,
     ends: &[u8],
@@ -134,15 +126,21 @@ fn port_at(
     requires { ⌜ (links ≤ 32) × (2 * links ≤ length (now ends)) × (1024 ≤ length (now sent)) × (1024 ≤ length (now held)) × (dest < 16) × (end < 2 * links) ⌝ }
     ensures { λ r. ⌜ r ≡ portAt links (now (ends .entry)) cut records (now (sent .entry)) (now (held .entry)) bridge dest own end ⌝ }
 {
-    let allowed = every_sent_allows(links, ends, cut, sent, bridge, dest, own);
     let limit = held_limit(records[end], held[16 * end + dest]);
-    if opens(cut[end / 2], limit, own, allowed) {
+    if cut[end / 2] {
+        return Port::Closed;
+    }
+    if own < limit {
+        return Port::Closed;
+    }
+    if every_sent_allows(links, ends, cut, sent, bridge, dest, own) {
         Port::Open((end / 2) as u8)
     } else {
         Port::Closed
     }
 }
 
+// The tests that need no chosen end come before the search for it.
 pub(crate) fn port_of(
     bridges: usize,
     links: usize,
@@ -161,13 +159,13 @@ pub(crate) fn port_of(
     ensures { λ r. ⌜ r ≡ port (graphOf bridges links (now (ends .entry))) (costsOf (now (costs .entry))) (cell (now (table .entry))) (lentRecords cut records (now (sent .entry)) (now (held .entry))) bridge dest ⌝ }
 {
     let own = table[16 * bridge + dest];
-    let end = chosen_end(bridges, links, ends, costs, table, bridge, dest);
     if bridge == dest {
         return Port::Closed;
     }
     if own == NONE {
         return Port::Closed;
     }
+    let end = chosen_end(bridges, links, ends, costs, table, bridge, dest);
     if 2 * links <= end {
         return Port::Closed;
     }

@@ -4,8 +4,9 @@ use crate::EndRecord;
 use distances::ready::both;
 ghost use mathlib.Core.Path.{_≡_};
 ghost use mathlib.Core.Bool.{_||_};
-ghost use Prim.Native.Nat.{_*_, _≤_, _<_};
+ghost use Prim.Native.Nat.{ℕ, _*_, _≤_, _<_, min};
 ghost use lib.ListN.{getD};
+ghost use lib.Dec.{eqb, ltb};
 ghost use Rattle.distances.specs.Call.{allBelow};
 ghost use Rattle.agreement.specs.Record.{freshRecord};
 ghost use Rattle.agreement.specs.Offer.{opposite};
@@ -38,14 +39,29 @@ pub(crate) fn record_in_range(views: usize, old: EndRecord) -> bool
     either(t == 255, t < views)
 }
 
+// The number of views as a byte: no record has a view beyond 255.
+fn view_bound(views: usize) -> u8
+    ensures { λ r. ⌜ r ≡ min 255 views ⌝ }
+{
+    if views < 255 { views as u8 } else { 255 }
+}
+
+// `record_in_range` on bytes, `bound` being the number of views as one: a loop over records can compare several at a time.
+fn record_passes(bound: u8, view: u8) -> bool
+    ensures { λ r. ⌜ ((views : ℕ) → bound ≡ min 255 views → r ≡ (eqb view 255 || ltb view views)) ⌝ }
+{
+    either(view == 255, view < bound)
+}
+
 fn each_in_range(views: usize, links: usize, records: [EndRecord; 64]) -> bool
     requires { ⌜ links ≤ 32 ⌝ }
     ensures { λ r. ⌜ r ≡ allBelow (2 * links) (λ e. recordInRange views (getD records e freshRecord)) ⌝ }
 {
+    let bound = view_bound(views);
     let mut ok = true;
     let mut e = 0;
     while e < 2 * links {
-        ok = both(ok, record_in_range(views, records[e]));
+        ok = both(ok, record_passes(bound, records[e].view));
         e += 1;
     }
     ok

@@ -40,6 +40,7 @@ pub mod Known
 pub mod EntryChecks
 pub mod EntrySettled
 pub mod FlightSteps
+pub mod FlightTaken
 pub mod FlightRanges
 pub mod ChangeSteps
 pub mod WalkSteps

@@ -2,11 +2,11 @@
 use crate::Bench;
 use distances::ready::both;
 ghost use mathlib.Core.Path.{_≡_};
-ghost use mathlib.Core.Bool.{_&&_};
+ghost use mathlib.Core.Bool.{_&&_, true};
 ghost use Prim.Native.Nat.{_≤_};
 ghost use lib.ListN.{length, getD};
 ghost use lib.Dec.{ltb};
-ghost use Rattle.distances.specs.Call.{inRange, allBelow};
+ghost use Rattle.distances.specs.Call.{costsPass, allBelow};
 ghost use Rattle.bench.specs.State.{part};
 ghost use Rattle.bench.specs.Ranges.{graphInRange, benchInRange, costsInRange, tablesLong, messagePasses, messagesInRange, networkInRange};
 
@@ -45,30 +45,27 @@ pub(crate) fn bench_in_range(bench: Bench) -> bool
     }
 }
 
-fn row_in_range(bridges: usize, links: usize, ends: &[u8], costs: &[u32], t: usize) -> bool
+fn row_in_range(links: usize, costs: &[u32], t: usize) -> bool
     requires { ⌜ (t ≤ 31) × (1024 ≤ length (now costs)) ⌝ }
-    ensures { λ r. ⌜ r ≡ inRange bridges links (now (ends .entry)) (part 32 t (now (costs .entry))) 256 ⌝ }
+    ensures { λ r. ⌜ r ≡ costsPass links (part 32 t (now (costs .entry))) ⌝ }
 {
     let first = 32 * t;
     let past = first + 32;
-    distances::ready::in_range(bridges, links, ends, &costs[first..past], 256)
+    distances::ready::costs_pass(links, &costs[first..past])
 }
 
+// The graph is in range, so only costs are left to test.
 fn costs_in_range(bench: Bench, costs: &[u32]) -> bool
-    requires { ⌜ bench .views ≤ 32 ⌝ }
+    requires { ⌜ (bench .views ≤ 32) × (graphInRange bench ≡ true) ⌝ }
     ensures { λ r. ⌜ r ≡ costsInRange bench (now (costs .entry)) ⌝ }
 {
     if costs.len() < 1024 {
         return false;
     }
-    let ends = bench.ends;
     let mut ok = true;
     let mut t = 0;
     while t < bench.views {
-        ok = both(
-            ok,
-            row_in_range(bench.bridges, bench.links, &ends, costs, t),
-        );
+        ok = both(ok, row_in_range(bench.links, costs, t));
         t += 1;
     }
     ok

@@ -5,12 +5,12 @@ use native.Mathlib.Nat.{not-suc-le-zero}
 use native.Mathlib.Omega.{arith}
 use mathlib.Core.Path.{_≡_, refl, sym, subst}
 use mathlib.Core.Logic.{_⊎_, inl, inr}
-use mathlib.Core.Bool.{Bool, true, false, not}
+use mathlib.Core.Bool.{Bool, true, false, not, and-true}
 use mathlib.Core.List.{List, [], _∷_}
-use borrow.Author.Tests.{ltb-true, leb-true, eqb-true, eqb-false, not-true}
+use borrow.Author.Tests.{ltb-true, leb-true, eqb-true, eqb-false, not-true, le-leb, lt-ltb, ne-eqb}
 use lib.ListN.{length, getD}
-use lib.Dec.{eqb, ltb}
-use Rattle.distances.specs.Call.{every, allBelow, linkPasses, linkInRange, inRange}
+use lib.Dec.{eqb, leb, ltb}
+use Rattle.distances.specs.Call.{every, allBelow, linkPasses, linkInRange, costsPass, inRange}
 use Rattle.distances.specs.View.{InRange, CostsInRange, graphOf, costsOf, maxCost}
 use Rattle.distances.proofs.Booleans.{both-true, true-both, not-both}
 
@@ -61,14 +61,22 @@ each-end P links both e h = go (side e) (both (e / 2) (omega arith))
     go (inr q) b = subst P (sym q) (b .1)
 
 module _ (bridges links : ℕ) (ends costs : List ℕ) (size : ℕ) (ok : inRange bridges links ends costs size ≡ true) where
+  cost-told : (links ≤ length costs) × ((l : ℕ) → l < links → getD costs l 0 ≤ maxCost)
+  unfolding inRange costsPass
+  cost-told =
+      let e = both-true (leb links (length costs)) _ (every-true 6 _ ok) in (
+        leb-true links (length costs) (e .0),
+        λ l h. leb-true (getD costs l 0) maxCost (allBelow-true links _ (e .1) l h),
+      )
+
   pub sizes : (bridges ≤ 16) × (links ≤ 32) × (2 * links ≤ length ends) × (links ≤ length costs) × (256 ≤ size)
   unfolding inRange
   sizes = (
     leb-true bridges 16 (every-true 1 _ ok),
     leb-true links 32 (every-true 2 _ ok),
     leb-true (2 * links) (length ends) (every-true 3 _ ok),
-    leb-true links (length costs) (every-true 4 _ ok),
-    leb-true 256 size (every-true 5 _ ok),
+    cost-told .0,
+    leb-true 256 size (every-true 4 _ ok),
   )
 
   -- what the check tells of a link
@@ -81,14 +89,13 @@ module _ (bridges links : ℕ) (ends costs : List ℕ) (size : ℕ) (ok : inRang
       × (getD costs l 0 ≤ maxCost)
   unfolding inRange linkInRange linkPasses
   link-told l h =
-      let e = allBelow-true links (linkInRange bridges ends costs) (every-true 6 _ ok) l h in
+      let e = allBelow-true links (linkInRange bridges ends) (every-true 5 _ ok) l h in
       let d = both-true (ltb (getD ends (2 * l) 0) bridges) _ e in
-      let k = both-true (ltb (getD ends (2 * l + 1) 0) bridges) _ (d .1) in
-      let m = both-true (not (eqb (getD ends (2 * l) 0) (getD ends (2 * l + 1) 0))) _ (k .1) in (
+      let k = both-true (ltb (getD ends (2 * l + 1) 0) bridges) _ (d .1) in (
         ltb-true (getD ends (2 * l) 0) bridges (d .0),
         ltb-true (getD ends (2 * l + 1) 0) bridges (k .0),
-        eqb-false (getD ends (2 * l) 0) (getD ends (2 * l + 1) 0) (not-true _ (m .0)),
-        leb-true (getD costs l 0) maxCost (m .1),
+        eqb-false (getD ends (2 * l) 0) (getD ends (2 * l + 1) 0) (not-true _ (k .1)),
+        cost-told .1 l h,
       )
 
   pub both-ends : (l : ℕ) → l < links → (getD ends (2 * l) 0 < bridges) × (getD ends (2 * l + 1) 0 < bridges)
@@ -115,3 +122,50 @@ module _ (bridges links : ℕ) (ends costs : List ℕ) (size : ℕ) (ok : inRang
 
   pub costs-in-range : CostsInRange (graphOf bridges links ends) (costsOf costs)
   costs-in-range = record { most = λ l h. link-told l h .3 }
+
+  graph-told :
+      (leb 2 bridges ≡ true)
+      × (leb bridges 16 ≡ true)
+      × (leb links 32 ≡ true)
+      × (leb (2 * links) (length ends) ≡ true)
+      × (leb 256 size ≡ true)
+      × (allBelow links (linkInRange bridges ends) ≡ true)
+  unfolding inRange
+  graph-told = (
+    every-true 0 _ ok,
+    every-true 1 _ ok,
+    every-true 2 _ ok,
+    every-true 3 _ ok,
+    every-true 4 _ ok,
+    every-true 5 _ ok,
+  )
+
+  -- with other costs it is theirs that decide
+  pub other-costs : (row : List ℕ) → inRange bridges links ends row size ≡ costsPass links row
+  unfolding inRange every
+  other-costs row =
+      rw (graph-told .0, graph-told .1, graph-told .2, graph-told .3, graph-told .4, graph-told .5, and-true) refl
+
+-- and what is in the ranges passes the check
+pub in-range-made :
+    (bridges links : ℕ) (ends costs : List ℕ) (size : ℕ) →
+    InRange (graphOf bridges links ends) →
+    CostsInRange (graphOf bridges links ends) (costsOf costs) →
+    2 * links ≤ length ends →
+    links ≤ length costs →
+    256 ≤ size →
+    inRange bridges links ends costs size ≡ true
+unfolding inRange every linkInRange linkPasses costsPass
+in-range-made bridges links ends costs size g c long room wide =
+    true-both (le-leb _ _ (g .least))
+    (true-both (le-leb _ _ (g .most))
+    (true-both (le-leb _ _ (g .links))
+    (true-both (le-leb _ _ long)
+    (true-both (le-leb _ _ wide)
+    (true-both (true-allBelow _ _ link)
+    (true-both (true-both (le-leb _ _ room) (true-allBelow _ _ (λ l h. le-leb _ _ (c .most l h)))) refl))))))
+  where
+    link : (l : ℕ) → l < links → linkInRange bridges ends l ≡ true
+    link l h =
+        let apart : not (eqb (getD ends (2 * l) 0) (getD ends (2 * l + 1) 0)) ≡ true = rw (ne-eqb _ _ (g .differ l h)) in
+        true-both (lt-ltb _ _ (g .first l h)) (true-both (lt-ltb _ _ (g .second l h)) apart)

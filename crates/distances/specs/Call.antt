@@ -25,12 +25,16 @@ unfoldable pub allBelow : ℕ → (ℕ → Bool) → Bool
 allBelow zero test = true
 allBelow (suc n) test = allBelow n test && test n
 
--- a link's two ends are different bridges, and its cost is in the range
-unfoldable pub linkPasses : ℕ → ℕ → ℕ → ℕ → Bool
-linkPasses bridges first second cost = ltb first bridges && (ltb second bridges && (not (eqb first second) && leb cost maxCost))
+-- a link's two ends are different bridges
+unfoldable pub linkPasses : ℕ → ℕ → ℕ → Bool
+linkPasses bridges first second = ltb first bridges && (ltb second bridges && not (eqb first second))
 
-unfoldable pub linkInRange : ℕ → List ℕ → List ℕ → ℕ → Bool
-linkInRange bridges ends costs l = linkPasses bridges (getD ends (2 * l) 0) (getD ends (2 * l + 1) 0) (getD costs l 0)
+unfoldable pub linkInRange : ℕ → List ℕ → ℕ → Bool
+linkInRange bridges ends l = linkPasses bridges (getD ends (2 * l) 0) (getD ends (2 * l + 1) 0)
+
+-- a view gives each of so many links a cost in the range
+unfoldable pub costsPass : ℕ → List ℕ → Bool
+costsPass links costs = leb links (length costs) && allBelow links (λ l. leb (getD costs l 0) maxCost)
 
 -- document 01's ranges and the lengths that the call needs, the table's being `size`
 unfoldable pub inRange : ℕ → ℕ → List ℕ → List ℕ → ℕ → Bool
@@ -40,9 +44,9 @@ inRange bridges links ends costs size =
     ∷ leb bridges 16
     ∷ leb links 32
     ∷ leb (2 * links) (length ends)
-    ∷ leb links (length costs)
     ∷ leb 256 size
-    ∷ allBelow links (linkInRange bridges ends costs)
+    ∷ allBelow links (linkInRange bridges ends)
+    ∷ costsPass links costs
     ∷ [])
 
 -- the reply's number, and the table afterwards

@@ -1,9 +1,12 @@
-// The call's entry check: document 01's ranges, and lent buffers that are long enough.
+// The call's entry check: document 01's ranges, and lent buffers that are long enough. Ends and costs are tested in loops of their own,
+// each over numbers of one width, which the compiler makes vector code of.
 ghost use mathlib.Core.Path.{_≡_};
 ghost use mathlib.Core.Bool.{_&&_};
 ghost use Prim.Native.Nat.{_*_, _≤_};
-ghost use lib.ListN.{length};
-ghost use Rattle.distances.specs.Call.{inRange, allBelow, linkInRange, linkPasses};
+ghost use lib.ListN.{length, getD};
+ghost use lib.Dec.{leb};
+ghost use Rattle.distances.specs.View.{maxCost};
+ghost use Rattle.distances.specs.Call.{inRange, allBelow, linkInRange, linkPasses, costsPass};
 
 pub fn both(a: bool, b: bool) -> bool
     ensures { λ r. ⌜ r ≡ (a && b) ⌝ }
@@ -11,31 +14,46 @@ pub fn both(a: bool, b: bool) -> bool
     if a { b } else { false }
 }
 
-fn link_passes(bridges: usize, first: u8, second: u8, cost: u32) -> bool
-    ensures { λ r. ⌜ r ≡ linkPasses bridges first second cost ⌝ }
+fn link_passes(bridges: u8, first: u8, second: u8) -> bool
+    ensures { λ r. ⌜ r ≡ linkPasses bridges first second ⌝ }
 {
-    let a = first as usize;
-    let b = second as usize;
-    both(
-        a < bridges,
-        both(b < bridges, both(a != b, cost <= 16777215)),
-    )
+    both(first < bridges, both(second < bridges, first != second))
 }
 
-fn links_in_range(bridges: usize, links: usize, ends: &[u8], costs: &[u32]) -> bool
-    requires { ⌜ (links ≤ 32) × (2 * links ≤ length (now ends)) × (links ≤ length (now costs)) ⌝ }
-    ensures { λ r. ⌜ r ≡ allBelow links (linkInRange bridges (now (ends .entry)) (now (costs .entry))) ⌝ }
+fn links_in_range(bridges: u8, links: usize, ends: &[u8]) -> bool
+    requires { ⌜ (links ≤ 32) × (2 * links ≤ length (now ends)) ⌝ }
+    ensures { λ r. ⌜ r ≡ allBelow links (linkInRange bridges (now (ends .entry))) ⌝ }
 {
     let mut ok = true;
     let mut l = 0;
     while l < links {
-        ok = both(
-            ok,
-            link_passes(bridges, ends[2 * l], ends[2 * l + 1], costs[l]),
-        );
+        ok = both(ok, link_passes(bridges, ends[2 * l], ends[2 * l + 1]));
         l += 1;
     }
     ok
+}
+
+fn each_cost_passes(links: usize, costs: &[u32]) -> bool
+    requires { ⌜ links ≤ length (now costs) ⌝ }
+    ensures { λ r. ⌜ r ≡ allBelow links (λ l. leb (getD (now (costs .entry)) l 0) maxCost) ⌝ }
+{
+    let mut ok = true;
+    let mut l = 0;
+    while l < links {
+        ok = both(ok, costs[l] <= 16777215);
+        l += 1;
+    }
+    ok
+}
+
+// Is there a cost for each of so many links, in the range?
+pub fn costs_pass(links: usize, costs: &[u32]) -> bool
+    ensures { λ r. ⌜ r ≡ costsPass links (now (costs .entry)) ⌝ }
+{
+    if costs.len() < links {
+        return false;
+    }
+    each_cost_passes(links, costs)
 }
 
 pub fn in_range(bridges: usize, links: usize, ends: &[u8], costs: &[u32], size: usize) -> bool
@@ -53,11 +71,9 @@ pub fn in_range(bridges: usize, links: usize, ends: &[u8], costs: &[u32], size: 
     if ends.len() < 2 * links {
         return false;
     }
-    if costs.len() < links {
-        return false;
-    }
     if size < 256 {
         return false;
     }
-    links_in_range(bridges, links, ends, costs)
+    let joined = links_in_range(bridges as u8, links, ends);
+    both(joined, costs_pass(links, costs))
 }

@@ -1,8 +1,11 @@
-// A plan read from a descriptor and carried out from its first field to its end. What it prints goes to standard output step by
-// step, so it never stands in memory whole.
+// A plan read from a descriptor and carried out from its first field to its end. What it prints waits in a buffer of fixed size and
+// goes to standard output as that fills, so it never stands in memory whole.
 use libc::STDOUT_FILENO;
 use runner::Runner;
 use runner::Stepped;
+ghost use mathlib.Core.Path.{_≡_};
+ghost use Prim.Native.Nat.{_≤_};
+ghost use lib.ListN.{length};
 
 // Reads a plan and prints all that document 01 asks for it. The buffer has one byte more than the longest plan, so that a longer
 // one is seen.
@@ -16,8 +19,39 @@ pub fn play(fd: i32) {
     carry_out(&plan[..n]);
 }
 
-// One step, and what it prints: at most 544 bytes, by the step's contract. The test spares the proof.
-fn step_and_print(
+// Counts in what a step wrote behind what waits: at most 544 bytes, by the step's contract; the test spares the proof. Where the next
+// step might not find room, all of it is printed.
+fn keep(out: &[u8], waiting: usize, written: usize) -> usize
+    requires { ⌜ (length (now out) ≡ 32768) × (waiting ≤ 32224) ⌝ }
+    ensures { λ r. ⌜ r ≤ 32224 ⌝ }
+{
+    if 544 < written {
+        return waiting;
+    }
+    let full = waiting + written;
+    if full <= 32224 {
+        return full;
+    }
+    io::write_all(STDOUT_FILENO, &out[..full]);
+    0
+}
+
+// The bytes that a step used of those that are left, 0 where the plan goes no further. A step that goes on has used a field, 3 bytes or
+// more: with the two tests the loop ends whatever a step answers.
+fn taken(going: bool, used: usize, left: usize) -> usize
+    ensures { λ r. ⌜ r ≤ left ⌝ }
+{
+    if !going {
+        return 0;
+    }
+    if left < used {
+        return 0;
+    }
+    used
+}
+
+// One step, whose lines go behind what waits.
+fn step_behind(
     r: Runner,
     rest: &[u8],
     costs: &mut [u32],
@@ -26,14 +60,22 @@ fn step_and_print(
     held: &mut [u32],
     messages: &mut [u32],
     rows: &mut [u32],
-) -> Stepped {
-    let mut out = [0u8; 544];
-    let stepped = runner::steps::step(r, rest, costs, tables, sent, held, messages, rows, &mut out);
-    let written = stepped.written;
-    if written <= 544 {
-        io::write_all(STDOUT_FILENO, &out[..written]);
-    }
-    stepped
+    out: &mut [u8],
+    waiting: usize,
+) -> Stepped
+    requires { ⌜ waiting ≤ length (now out) ⌝ }
+{
+    runner::steps::step(
+        r,
+        rest,
+        costs,
+        tables,
+        sent,
+        held,
+        messages,
+        rows,
+        &mut out[waiting..],
+    )
 }
 
 fn carry_out(plan: &[u8]) {
@@ -43,11 +85,13 @@ fn carry_out(plan: &[u8]) {
     let mut held = [0u32; 1024];
     let mut messages = [0u32; 320];
     let mut rows = [0u32; 32];
+    let mut out = [0u8; 32768];
+    let mut waiting = 0;
     let mut r = runner::steps::first();
     let mut at = 0;
     let mut going = true;
     while going {
-        let stepped = step_and_print(
+        let stepped = step_behind(
             r,
             &plan[at..],
             &mut costs,
@@ -56,18 +100,14 @@ fn carry_out(plan: &[u8]) {
             &mut held,
             &mut messages,
             &mut rows,
+            &mut out,
+            waiting,
         );
-        let used = stepped.used;
-        // A step that goes on has used a field, 3 bytes or more of those that are left. Tested here, the loop ends whatever a
-        // step answers.
-        if used == 0 {
-            return;
-        }
-        if plan.len() - at < used {
-            return;
-        }
+        waiting = keep(&out, waiting, stepped.written);
+        let used = taken(stepped.going, stepped.used, plan.len() - at);
         at += used;
-        going = stepped.going;
+        going = used != 0;
         r = stepped.runner;
     }
+    io::write_all(STDOUT_FILENO, &out[..waiting]);
 }

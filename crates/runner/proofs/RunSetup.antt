@@ -6,13 +6,13 @@ use native.Mathlib.Omega.{arith}
 use mathlib.Core.Path.{_≡_, refl, _∙_}
 use mathlib.Core.Bool.{Bool, true, false, not}
 use mathlib.Core.List.{List, [], _++_}
-use borrow.Author.Tests.{le-leb, lt-ltb, ne-eqb, eqb-true, eqb-false}
+use borrow.Author.Tests.{le-leb, eqb-true, eqb-false}
 use lib.ListN.{length, getD, set, take, replicate, length-set, length-replicate, getD-replicate, List·getD-append}
 use lib.Seq.{getD-take, getD-set-same, getD-set-other, getD-append-add, length-take-le}
 use lib.Dec.{eqb}
-use Rattle.distances.specs.Call.{every, linkPasses, linkInRange, inRange}
+use Rattle.distances.specs.Call.{inRange}
 use Rattle.distances.proofs.Booleans.{true-both}
-use Rattle.distances.proofs.Ranges.{true-allBelow}
+use Rattle.distances.proofs.Ranges.{in-range-made}
 use Rattle.bench.specs.State.{part}
 use Rattle.bench.specs.Ranges.{tablesLong}
 use Rattle.bench.specs.Changes.{freshOf}
@@ -173,20 +173,20 @@ module _ (stage : ℕ) (b : Bench) (costs : List ℕ) (s : Begun stage b costs) 
 
   -- the ranges of a view
   range : (row : List ℕ) → stage ≡ 2 → 32 ≤ length row → ((l : ℕ) → l < b .links → getD row l 0 ≤ 16777215) → inRange (b .bridges) (b .links) (b .ends) row 256 ≡ true
-  unfolding inRange every linkInRange linkPasses
   range row e long each =
-      true-both (le-leb _ _ (s .least (omega arith)))
-      (true-both (le-leb _ _ (s .most))
-      (true-both (le-leb _ _ (s .linksMost))
-      (true-both (le-leb (2 * b .links) (length (b .ends)) (omega (arith, s .linksMost, s .endsLong)))
-      (true-both (le-leb (b .links) (length row) (omega (arith, s .linksMost)))
-      (true-both (le-leb 256 256 (omega arith)) (true-both (true-allBelow _ _ link) refl))))))
-    where
-      link : (l : ℕ) → l < b .links → linkInRange (b .bridges) (b .ends) row l ≡ true
-      link l h =
-          let j = s .joins l h in
-          let apart : not (eqb (getD (b .ends) (2 * l) 0) (getD (b .ends) (2 * l + 1) 0)) ≡ true = rw (ne-eqb _ _ (j .differ)) in
-          true-both (lt-ltb _ _ (j .first)) (true-both (lt-ltb _ _ (j .second)) (true-both apart (le-leb _ _ (each l h))))
+      in-range-made (b .bridges) (b .links) (b .ends) row 256
+      record {
+        least = s .least (omega arith);
+        most = s .most;
+        links = s .linksMost;
+        first = λ l h. s .joins l h .first;
+        second = λ l h. s .joins l h .second;
+        differ = λ l h. s .joins l h .differ;
+      }
+      record { most = each }
+      (omega (arith, s .linksMost, s .endsLong))
+      (omega (arith, s .linksMost))
+      (omega arith)
 
   -- so `fresh` accepts them
   lasts : (tables : List ℕ) → stage ≡ 2 → 1024 ≤ length costs → 8192 ≤ length tables → LastingOf b costs tables

@@ -1,20 +1,22 @@
--- `ports::every_sent_allows` meets its contract. The loop's invariant: `ok` says whether every end below `e` passes. Assumes nothing.
+-- `ports::every_sent_allows` meets its contract. The loop's invariant: every end below `e` passes. Assumes nothing.
 use Prim.Native.Nat.{_≤_, _-_, _*_}
 use native.Mathlib.Omega.{arith}
-use mathlib.Core.Path.{_≡_, refl}
+use mathlib.Core.Path.{_≡_, refl, sym, _∙_}
+use mathlib.Core.Bool.{true}
 use borrow.Author.Needs.{needs}
+use borrow.Author.Tests.{not-true, not-false}
 use Rattle.distances.specs.Table.{cell}
 use Rattle.distances.specs.Call.{allBelow}
 use Rattle.agreement.specs.Steps.{sentAllowsAt}
-use Rattle.agreement.proofs.Basics.{all-more}
+use Rattle.agreement.proofs.Basics.{all-more, all-fails}
 use Rattle.agreement.proofs.ports.every_sent_allows.Statement.{statement}
 use Rattle.agreement.proofs.ports.every_sent_allows.Tie as tie
 
 abbrev Inv-loop : tie.InvT-loop
-Inv-loop links ends sent bridge dest own cut ok₀ e₀ ok e = (e ≤ 2 * links) × (ok ≡ allBelow e (sentAllowsAt ends cut sent bridge dest own))
+Inv-loop links ends sent bridge dest own cut e₀ e = (e ≤ 2 * links) × (true ≡ allBelow e (sentAllowsAt ends cut sent bridge dest own))
 
 abbrev μ-loop : tie.MeasureT-loop
-μ-loop links ends sent bridge dest own cut ok₀ e₀ ok e = 2 * links - e
+μ-loop links ends sent bridge dest own cut e₀ e = 2 * links - e
 
 loop-holds : tie.Need-loop-holds Inv-loop μ-loop
 unfolding allBelow
@@ -44,8 +46,9 @@ shared-slice-read-allows-by-2 c = omega arith
 allows-by-requires : tie.Need-allows-by-requires Inv-loop μ-loop
 allows-by-requires c κs = search needs
 
-both-requires : tie.Need-both-requires Inv-loop μ-loop
-both-requires c κs = search needs
+returns : tie.Need-returns Inv-loop μ-loop
+unfolding sentAllowsAt cell
+returns c = all-fails _ _ (c .before .before .before .before .before .loop .e) (omega arith) (sym (c .before .allows-by .ensures) ∙ not-true _ (c .if1 .taken))
 
 add-e : tie.Need-add-e Inv-loop μ-loop
 add-e c = omega arith
@@ -55,10 +58,10 @@ loop-less c = omega arith
 
 loop-again : tie.Need-loop-again Inv-loop μ-loop
 unfolding sentAllowsAt cell
-loop-again c = (omega arith, all-more _ _ (c .both .ensures) (c .before .before .before .before .before .loop .inv .1) (c .before .allows-by .ensures))
+loop-again c = (omega arith, all-more _ _ {ok = true} {t = true} refl (c .before .before .before .before .before .loop .inv .1) (sym (not-false _ (c .if1 .left)) ∙ c .before .allows-by .ensures))
 
-returns : tie.Need-returns Inv-loop μ-loop
-returns c = let e : c .before .loop .e ≡ 2 * c .before .before .before .before .args .links = omega arith in rw e at (c .before .loop .inv .1)
+returns-2 : tie.Need-returns-2 Inv-loop μ-loop
+returns-2 c = let e : c .before .loop .e ≡ 2 * c .before .before .before .before .args .links = omega arith in rw e at (c .before .loop .inv .1)
 
 pub every-sent-allows-spec : {M : Type 1} → statement M
 every-sent-allows-spec =
@@ -75,8 +78,8 @@ every-sent-allows-spec =
     mul-allows-by-2
     shared-slice-read-allows-by-2
     allows-by-requires
-    both-requires
+    returns
     add-e
     loop-less
     loop-again
-    returns)
+    returns-2)

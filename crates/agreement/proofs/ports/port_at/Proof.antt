@@ -1,37 +1,24 @@
--- `ports::port_at` meets its contract. Assumes nothing.
-use Prim.Native.Nat.{_*_, _/_, _<_}
+-- `ports::port_at` meets its contract. Each early return fails its own condition. Assumes nothing.
+use Prim.Native.Nat.{_<_}
 use mathlib.Core.Path.{_≡_, sym, _∙_}
-use mathlib.Core.Bool.{Bool, false, not, _&&_}
 use borrow.Author.Needs.{needs}
+use borrow.Author.Tests.{le-leb, lt-leb}
 use lib.ListN.{length, getD}
-use lib.Dec.{leb}
 use Rattle.distances.specs.Table.{cell}
-use Rattle.distances.specs.Call.{allBelow}
-use Rattle.agreement.specs.Steps.{sentAllowsAt, portAt}
+use Rattle.agreement.specs.Steps.{portAt}
 use Rattle.agreement.specs.Record.{heldLimit, freshRecord}
 use Rattle.agreement.proofs.Basics.{getD-default}
 use Rattle.agreement.proofs.ports.port_at.Statement.{statement}
 use Rattle.agreement.proofs.ports.port_at.Tie as tie
 
--- the test of `portAt`, of the arguments
-abbrev Opens : tie.Start → Bool
-Opens s =
-    let a = s .args in
-    not (getD (a .t3) (a .end / 2) false)
-    && (leb (heldLimit (getD (a .t4) (a .end) freshRecord) (cell (a .held .now) (a .end)) (a .dest)) (a .own)
-    && allBelow (2 * a .links) (sentAllowsAt (a .ends .now) (a .t3) (a .sent .now) (a .bridge) (a .dest) (a .own)))
-
-tested : (c : tie.After-opens) → Opens (c .before .before .before .before .before .before .before .before) ≡ c .opens .result
+-- the held limit of the chosen end
+held-is : (c : tie.After-held-limit) → let a = c .before .before .before .before .before .before .args in
+    c .held-limit .result ≡ heldLimit (getD (a .t4) (a .end) freshRecord) (cell (a .held .now) (a .end)) (a .dest)
 unfolding cell
-tested c =
-    let a = c .before .before .before .before .before .before .before .before .args in
+held-is c =
+    let a = c .before .before .before .before .before .before .args in
     let h : a .end < length (a .t4) = search needs in
-    sym
-    (c .opens .ensures
-    ∙ rw (c .before .held-limit .ensures, c .before .before .before .before .every-sent-allows .ensures, getD-default (a .t4) (a .end) _ freshRecord h))
-
-every-sent-allows-requires : tie.Need-every-sent-allows-requires
-every-sent-allows-requires c κs = search needs
+    c .held-limit .ensures ∙ rw (getD-default (a .t4) (a .end) _ freshRecord h)
 
 mul-held-limit : tie.Need-mul-held-limit
 mul-held-limit c = search needs
@@ -54,28 +41,45 @@ shared-slice-read-held-limit c = search needs
 held-limit-requires : tie.Need-held-limit-requires
 held-limit-requires c κs = search needs
 
-array-read-opens : tie.Need-array-read-opens
-array-read-opens c = search needs
+array-read-if1 : tie.Need-array-read-if1
+array-read-if1 c = search needs
 
-opens-requires : tie.Need-opens-requires
-opens-requires c κs = search needs
+returns : tie.Need-returns
+unfolding portAt
+returns c = rw (c .if1 .taken)
+
+returns-2 : tie.Need-returns-2
+unfolding portAt
+returns-2 c = rw (c .before .if1 .left, lt-leb _ _ (rw (held-is (c .before .before)) at (c .if2 .taken)))
+
+every-sent-allows-requires : tie.Need-every-sent-allows-requires
+every-sent-allows-requires c κs = search needs
 
 cast-t31 : tie.Need-cast-t31
 cast-t31 c = search needs
 
-returns : tie.Need-returns
+returns-3 : tie.Need-returns-3
 unfolding portAt
-returns c = rw (tested (c .before) ∙ c .if1 .taken)
+returns-3 c =
+    rw (
+      c .before .before .before .if1 .left,
+      le-leb _ _ (rw (held-is (c .before .before .before .before)) at (c .before .before .if2 .left)),
+      sym (c .before .every-sent-allows .ensures) ∙ c .if3 .taken,
+    )
 
-returns-2 : tie.Need-returns-2
+returns-4 : tie.Need-returns-4
 unfolding portAt
-returns-2 c = rw (tested (c .before) ∙ c .if1 .left)
+returns-4 c =
+    rw (
+      c .before .before .before .if1 .left,
+      le-leb _ _ (rw (held-is (c .before .before .before .before)) at (c .before .before .if2 .left)),
+      sym (c .before .every-sent-allows .ensures) ∙ c .if3 .left,
+    )
 
 pub port-at-spec : {M : Type 1} → statement M
 port-at-spec =
     tie.close
     (tie.spec
-    every-sent-allows-requires
     mul-held-limit
     array-copy-out-held-limit
     mul-held-limit-2
@@ -83,8 +87,10 @@ port-at-spec =
     mul-held-limit-3
     shared-slice-read-held-limit
     held-limit-requires
-    array-read-opens
-    opens-requires
-    cast-t31
+    array-read-if1
     returns
-    returns-2)
+    returns-2
+    every-sent-allows-requires
+    cast-t31
+    returns-3
+    returns-4)

@@ -19,9 +19,6 @@ mul-own-2 c = search needs
 shared-slice-read-own : tie.Need-shared-slice-read-own
 shared-slice-read-own c = search needs
 
-chosen-end-requires : tie.Need-chosen-end-requires
-chosen-end-requires c κs = search needs
-
 returns : tie.Need-returns
 unfolding port
 returns c = closed-at-destination _ _ _ _ _ _ (c .if1 .taken)
@@ -30,12 +27,15 @@ returns-2 : tie.Need-returns-2
 unfolding port cell
 returns-2 c = closed-without-path _ _ _ _ _ _ (c .if2 .taken)
 
+chosen-end-requires : tie.Need-chosen-end-requires
+chosen-end-requires c κs = search needs
+
 mul-if3 : tie.Need-mul-if3
 mul-if3 c = search needs
 
 returns-3 : tie.Need-returns-3
 unfolding port
-returns-3 c = closed-beyond _ _ _ _ _ _ (rw (c .before .before .before .chosen-end .ensures) at (c .if3 .taken))
+returns-3 c = closed-beyond _ _ _ _ _ _ (rw (c .before .chosen-end .ensures) at (c .if3 .taken))
 
 port-at-requires : tie.Need-port-at-requires
 port-at-requires c κs = search needs
@@ -46,7 +46,7 @@ returns-4 c =
     let a = c .before .before .before .before .before .before .before .before .before .before .before .args in
     c .port-at .ensures
     ∙ port-at-is (a .bridges) (a .links) (a .ends .now) (a .costs .now) (a .table .now) _ _ _ _ (a .bridge) (a .dest) _
-    (c .before .before .before .before .chosen-end .ensures) (c .before .before .before .if1 .left) (c .before .before .if2 .left) (c .before .if3 .left)
+    (c .before .before .chosen-end .ensures) (c .before .before .before .before .if1 .left) (c .before .before .before .if2 .left) (c .before .if3 .left)
 
 pub port-of-spec : {M : Type 1} → statement M
 port-of-spec =
@@ -56,9 +56,9 @@ port-of-spec =
     add-own
     mul-own-2
     shared-slice-read-own
-    chosen-end-requires
     returns
     returns-2
+    chosen-end-requires
     mul-if3
     returns-3
     port-at-requires

@@ -1,7 +1,7 @@
 -- `ready::costs_in_range` meets its contract. The loop's invariant: `ok` says whether the row of every view below `t` passes. Assumes nothing.
 use Prim.Native.Nat.{_≤_, _-_}
 use native.Mathlib.Omega.{arith}
-use mathlib.Core.Path.{_≡_}
+use mathlib.Core.Path.{_≡_, _∙_}
 use borrow.Author.Needs.{needs}
 use borrow.Author.Tests.{le-leb, lt-leb}
 use Rattle.distances.specs.Call.{inRange, allBelow}
@@ -9,15 +9,16 @@ use Rattle.distances.proofs.Ranges.{allBelow-none}
 use Rattle.agreement.proofs.Basics.{all-more}
 use Rattle.bench.specs.Ranges.{costsInRange}
 use Rattle.bench.specs.State.{part}
+use Rattle.bench.proofs.EntryChecks.{row-decides}
 use Rattle.bench.proofs.ready.costs_in_range.Statement.{statement}
 use Rattle.bench.proofs.ready.costs_in_range.Tie as tie
 
 abbrev Inv-loop : tie.InvT-loop
-Inv-loop bench costs ends ok₀ t₀ ok t =
+Inv-loop bench costs ok₀ t₀ ok t =
     (t ≤ bench .views) × (ok ≡ allBelow t (λ k. inRange (bench .bridges) (bench .links) (bench .ends) (part 32 k costs) 256))
 
 abbrev μ-loop : tie.MeasureT-loop
-μ-loop bench costs ends ok₀ t₀ ok t = bench .views - t
+μ-loop bench costs ok₀ t₀ ok t = bench .views - t
 
 returns : tie.Need-returns Inv-loop μ-loop
 unfolding costsInRange
@@ -25,9 +26,6 @@ returns c = rw (lt-leb 1024 _ (c .if1 .taken))
 
 loop-holds : tie.Need-loop-holds Inv-loop μ-loop
 loop-holds c = (omega arith, allBelow-none _)
-
-slice-aggregate-row-in-range : tie.Need-slice-aggregate-row-in-range Inv-loop μ-loop
-slice-aggregate-row-in-range c = search needs
 
 row-in-range-requires : tie.Need-row-in-range-requires Inv-loop μ-loop
 row-in-range-requires c κs = search needs
@@ -44,14 +42,15 @@ loop-less c = omega arith
 loop-again : tie.Need-loop-again Inv-loop μ-loop
 loop-again c = (
   omega arith,
-  all-more _ _ (c .both .ensures) (c .before .before .before .before .before .loop .inv .1) (c .before .row-in-range .ensures),
+  all-more _ _ (c .both .ensures) (c .before .before .before .before .loop .inv .1)
+      (c .before .row-in-range .ensures ∙ row-decides _ (c .before .before .before .before .before .before .before .pre .1) _),
 )
 
 returns-2 : tie.Need-returns-2 Inv-loop μ-loop
 unfolding costsInRange
 returns-2 c =
-    let e : c .before .before .loop .t ≡ c .before .before .before .before .before .before .args .bench .views = omega arith in
-    rw (le-leb 1024 _ (c .before .before .before .before .if1 .left)) (rw e at (c .before .before .loop .inv .1))
+    let e : c .before .before .loop .t ≡ c .before .before .before .before .before .args .bench .views = omega arith in
+    rw (le-leb 1024 _ (c .before .before .before .if1 .left)) (rw e at (c .before .before .loop .inv .1))
 
 pub costs-in-range-spec : {M : Type 1} → statement M
 costs-in-range-spec =
@@ -61,7 +60,6 @@ costs-in-range-spec =
     μ-loop
     returns
     loop-holds
-    slice-aggregate-row-in-range
     row-in-range-requires
     both-requires
     add-t

@@ -12,25 +12,25 @@ mul-first c = search needs
 add-past : tie.Need-add-past
 add-past c = search needs
 
-mul-in-range : tie.Need-mul-in-range
-mul-in-range c = search needs
+mul-costs-pass : tie.Need-mul-costs-pass
+mul-costs-pass c = search needs
 
-sub-in-range : tie.Need-sub-in-range
-sub-in-range c = search needs
+sub-costs-pass : tie.Need-sub-costs-pass
+sub-costs-pass c = search needs
 
-part-in-range-start : tie.Need-part-in-range-start
-part-in-range-start c = search needs
+part-costs-pass-start : tie.Need-part-costs-pass-start
+part-costs-pass-start c = search needs
 
-part-in-range-end : tie.Need-part-in-range-end
-part-in-range-end c = search needs
+part-costs-pass-end : tie.Need-part-costs-pass-end
+part-costs-pass-end c = search needs
 
-in-range-requires : tie.Need-in-range-requires
-in-range-requires c κs = search needs
+costs-pass-requires : tie.Need-costs-pass-requires
+costs-pass-requires c κs = search needs
 
 returns : tie.Need-returns
 returns c =
-    let width : 32 * c .before .before .before .before .args .t + 32 - 32 * c .before .before .before .before .args .t ≡ 32 = omega arith in
-    rw width at (c .in-range .ensures)
+    let width : 32 * c .before .before .before .args .t + 32 - 32 * c .before .before .before .args .t ≡ 32 = omega arith in
+    rw width at (c .costs-pass .ensures)
 
 pub row-in-range-spec : {M : Type 1} → statement M
 row-in-range-spec =
@@ -38,9 +38,9 @@ row-in-range-spec =
     (tie.spec
     mul-first
     add-past
-    mul-in-range
-    sub-in-range
-    part-in-range-start
-    part-in-range-end
-    in-range-requires
+    mul-costs-pass
+    sub-costs-pass
+    part-costs-pass-start
+    part-costs-pass-end
+    costs-pass-requires
     returns)

@@ -1,4 +1,6 @@
 -- `ready::in_range` meets its contract. Each early return cites its own test of the list. Assumes nothing.
+use native.Mathlib.Omega.{arith}
+use mathlib.Core.Path.{_∙_}
 use mathlib.Core.Bool.{and-true}
 use borrow.Author.Tests.{le-leb, lt-leb}
 use borrow.Author.Needs.{needs}
@@ -28,28 +30,34 @@ returns-4 c = refused 3 _ (lt-leb _ _ (c .if4 .taken))
 
 returns-5 : tie.Need-returns-5
 unfolding inRange
-returns-5 c = refused 4 _ (lt-leb _ _ (c .if5 .taken))
+returns-5 c = refused 4 _ (lt-leb 256 _ (c .if5 .taken))
 
-returns-6 : tie.Need-returns-6
-unfolding inRange
-returns-6 c = refused 5 _ (lt-leb 256 _ (c .if6 .taken))
+cast-links-in-range : tie.Need-cast-links-in-range
+cast-links-in-range c = record { fits = omega arith }
 
 links-in-range-requires : tie.Need-links-in-range-requires
 links-in-range-requires c κs = search needs
 
-returns-7 : tie.Need-returns-7
+costs-pass-requires : tie.Need-costs-pass-requires
+costs-pass-requires c κs = search needs
+
+both-requires : tie.Need-both-requires
+both-requires c κs = search needs
+
+returns-6 : tie.Need-returns-6
 unfolding inRange every
-returns-7 c =
-    rw (
-      le-leb 2 _ (c .before .before .before .before .before .before .if1 .left),
-      le-leb _ 16 (c .before .before .before .before .before .if2 .left),
-      le-leb _ 32 (c .before .before .before .before .if3 .left),
-      le-leb _ _ (c .before .before .before .if4 .left),
-      le-leb _ _ (c .before .before .if5 .left),
-      le-leb 256 _ (c .before .if6 .left),
+returns-6 c =
+    c .both .ensures
+    ∙ rw (
+      le-leb 2 _ (c .before .before .before .before .before .before .before .if1 .left),
+      le-leb _ 16 (c .before .before .before .before .before .before .if2 .left),
+      le-leb _ 32 (c .before .before .before .before .before .if3 .left),
+      le-leb _ _ (c .before .before .before .before .if4 .left),
+      le-leb 256 _ (c .before .before .before .if5 .left),
+      c .before .before .links-in-range .ensures,
+      c .before .costs-pass .ensures,
       and-true,
     )
-    (c .links-in-range .ensures)
 
 pub in-range-spec : {M : Type 1} → statement M
 in-range-spec =
@@ -61,6 +69,8 @@ in-range-spec =
     mul-if4
     returns-4
     returns-5
-    returns-6
+    cast-links-in-range
     links-in-range-requires
-    returns-7)
+    costs-pass-requires
+    both-requires
+    returns-6)

@@ -11,12 +11,9 @@ both-requires c κs = search needs
 both-requires-2 : tie.Need-both-requires-2
 both-requires-2 c κs = search needs
 
-both-requires-3 : tie.Need-both-requires-3
-both-requires-3 c κs = search needs
-
 returns : tie.Need-returns
 unfolding linkPasses
-returns c = c .both3 .ensures ∙ rw (c .before .both2 .ensures, c .before .before .both .ensures)
+returns c = c .both2 .ensures ∙ rw (c .before .both .ensures)
 
 pub link-passes-spec : {M : Type 1} → statement M
-link-passes-spec = tie.close (tie.spec both-requires both-requires-2 both-requires-3 returns)
+link-passes-spec = tie.close (tie.spec both-requires both-requires-2 returns)

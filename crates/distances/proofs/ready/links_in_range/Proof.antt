@@ -10,10 +10,10 @@ use Rattle.distances.proofs.ready.links_in_range.Statement.{statement}
 use Rattle.distances.proofs.ready.links_in_range.Tie as tie
 
 abbrev Inv-loop : tie.InvT-loop
-Inv-loop bridges links ends costs ok₀ l₀ ok l = (l ≤ links) × (ok ≡ allBelow l (linkInRange bridges ends costs))
+Inv-loop bridges links ends ok₀ l₀ ok l = (l ≤ links) × (ok ≡ allBelow l (linkInRange bridges ends))
 
 abbrev μ-loop : tie.MeasureT-loop
-μ-loop bridges links ends costs ok₀ l₀ ok l = links - l
+μ-loop bridges links ends ok₀ l₀ ok l = links - l
 
 loop-holds : tie.Need-loop-holds Inv-loop μ-loop
 unfolding allBelow
@@ -34,12 +34,6 @@ add-link-passes c = omega arith
 shared-slice-read-link-passes-2 : tie.Need-shared-slice-read-link-passes-2 Inv-loop μ-loop
 shared-slice-read-link-passes-2 c = omega arith
 
-mul-link-passes-3 : tie.Need-mul-link-passes-3 Inv-loop μ-loop
-mul-link-passes-3 c = omega arith
-
-shared-slice-read-link-passes-3 : tie.Need-shared-slice-read-link-passes-3 Inv-loop μ-loop
-shared-slice-read-link-passes-3 c = omega arith
-
 link-passes-requires : tie.Need-link-passes-requires Inv-loop μ-loop
 link-passes-requires c κs = search needs
 
@@ -57,7 +51,7 @@ unfolding allBelow linkInRange
 loop-again c = (omega arith, rw add-one (cc))
 
 returns : tie.Need-returns Inv-loop μ-loop
-returns c = let e : c .before .loop .l ≡ c .before .before .before .before .args .links = omega arith in rw e at (c .before .loop .inv .1)
+returns c = let e : c .before .loop .l ≡ c .before .before .before .args .links = omega arith in rw e at (c .before .loop .inv .1)
 
 pub links-in-range-spec : {M : Type 1} → statement M
 links-in-range-spec =
@@ -71,8 +65,6 @@ links-in-range-spec =
     mul-link-passes-2
     add-link-passes
     shared-slice-read-link-passes-2
-    mul-link-passes-3
-    shared-slice-read-link-passes-3
     link-passes-requires
     both-requires
     add-l

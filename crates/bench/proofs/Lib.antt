@@ -36,11 +36,13 @@ pub mod TieSteps
 pub mod TieFilled
 pub mod TieFresh
 pub mod TieWhole
+pub mod CallSteps
 pub mod Known
 pub mod EntryChecks
 pub mod EntrySettled
 pub mod FlightSteps
 pub mod FlightTaken
+pub mod FlightAnswers
 pub mod FlightRanges
 pub mod ChangeSteps
 pub mod WalkSteps

@@ -1,0 +1,145 @@
+// What a call decides, by the bench's call on the numbers; then which places of the slice change. None where it is refused.
+use bench::Bench;
+use bench::Changed;
+use bench::Delivered;
+ghost use mathlib.Core.Path.{_≡_};
+ghost use Prim.Native.Nat.{_-_, _*_, _≤_, min};
+ghost use lib.ListN.{length, take, drop};
+ghost use lib.Seq.{sets};
+ghost use Rattle.bench.specs.Changes.{number};
+ghost use Rattle.bench.specs.State.{state};
+ghost use Rattle.bench.specs.Flights.{flown, sendOf, loseOf};
+ghost use Rattle.bench.specs.Deliveries.{reactionSays, delivered, deliverOf, repeatOf};
+ghost use Rattle.messages.specs.Steps.{took, shifted};
+
+// The messages that a call reads of a slice of this length.
+pub(crate) fn room(len: usize) -> usize
+    ensures { λ r. ⌜ r ≡ min len 64 ⌝ }
+{
+    if len < 64 { len } else { 64 }
+}
+
+// A changed bench, and the places from `from` up to `past` of the slice that change.
+pub struct Decision {
+    pub changed: Changed,
+    pub from: usize,
+    pub past: usize,
+}
+
+pub struct Decided {
+    pub delivered: Delivered,
+    pub from: usize,
+    pub past: usize,
+}
+
+// The numbers are lent: the message that is sent is read from them afterwards.
+pub(crate) fn decide_send(
+    bench: Bench,
+    numbers: &mut [u32],
+    len: usize,
+    bridge: usize,
+    link: usize,
+) -> Decision
+    requires { ⌜ length (now numbers) ≡ 320 ⌝ }
+    ensures { λ r. ⌜ (flown (number (r .changed .reply)) (r .changed .bench) (took len (now (numbers .exit))) ≡ sendOf bench (took len (now (numbers .entry))) bridge link) × ((r .from ≤ r .past) × ((r .past ≤ min len 64) × (took len (now (numbers .exit)) ≡ sets (took len (now (numbers .entry))) (5 * r .from) (take (5 * (r .past - r .from)) (drop (5 * r .from) (now (numbers .exit))))))) ⌝ }
+{
+    let before = bench.messages;
+    let changed = bench::messages::send(bench, &mut numbers[..5 * room(len)], bridge, link);
+    let count = changed.bench.messages;
+    if before < count {
+        return Decision {
+            changed,
+            from: before,
+            past: count,
+        };
+    }
+    Decision {
+        changed,
+        from: 0,
+        past: 0,
+    }
+}
+
+// Only the places are told: the slice's messages move up by themselves.
+pub(crate) fn decide_lose(bench: Bench, numbers: [u32; 320], len: usize, place: usize) -> Decision
+    ensures { λ r. ⌜ (flown (number (r .changed .reply)) (r .changed .bench) (shifted (r .from) (r .past) (took len numbers)) ≡ loseOf bench (took len numbers) place) × ((r .from ≤ r .past) × ((r .past ≤ len - 1) × (r .past ≤ 63))) ⌝ }
+{
+    let before = bench.messages;
+    let mut left = numbers;
+    let changed = bench::messages::lose(bench, &mut left[..5 * room(len)], place);
+    let count = changed.bench.messages;
+    if count < before {
+        return Decision {
+            changed,
+            from: place,
+            past: count,
+        };
+    }
+    Decision {
+        changed,
+        from: 0,
+        past: 0,
+    }
+}
+
+pub(crate) fn decide_deliver(
+    bench: Bench,
+    costs: &[u32],
+    tables: &[u32],
+    sent: &mut [u32],
+    held: &mut [u32],
+    numbers: [u32; 320],
+    len: usize,
+    place: usize,
+) -> Decided
+    ensures { λ r. ⌜ (delivered (reactionSays (r .delivered .reply)) (r .delivered .bench) (now (sent .exit)) (now (held .exit)) (shifted (r .from) (r .past) (took len numbers)) ≡ deliverOf (state bench (now (costs .entry)) (now (tables .entry)) (now (sent .entry)) (now (held .entry)) (took len numbers)) place) × ((r .from ≤ r .past) × ((r .past ≤ len - 1) × (r .past ≤ 63))) ⌝ }
+{
+    let before = bench.messages;
+    let mut left = numbers;
+    let delivered = bench::messages::deliver(
+        bench,
+        costs,
+        tables,
+        sent,
+        held,
+        &mut left[..5 * room(len)],
+        place,
+    );
+    let count = delivered.bench.messages;
+    if count < before {
+        return Decided {
+            delivered,
+            from: place,
+            past: count,
+        };
+    }
+    Decided {
+        delivered,
+        from: 0,
+        past: 0,
+    }
+}
+
+pub(crate) fn decide_repeat(
+    bench: Bench,
+    costs: &[u32],
+    tables: &[u32],
+    sent: &mut [u32],
+    held: &mut [u32],
+    numbers: [u32; 320],
+    len: usize,
+    place: usize,
+) -> Delivered
+    ensures { λ r. ⌜ delivered (reactionSays (r .reply)) (r .bench) (now (sent .exit)) (now (held .exit)) (took len numbers) ≡ repeatOf (state bench (now (costs .entry)) (now (tables .entry)) (now (sent .entry)) (now (held .entry)) (took len numbers)) place ⌝ }
+{
+    let all = numbers;
+    bench::messages::repeat(
+        bench,
+        costs,
+        tables,
+        sent,
+        held,
+        &all[..5 * room(len)],
+        place,
+    )
+}

@@ -1,0 +1,117 @@
+// The calls with plain parameters: the messages as 320 numbers, by value. Whoever calls these lends no slice of structs, so that no
+// function above them takes a proof by hand.
+use crate::Message;
+use crate::calls;
+use crate::copies::read_message;
+use crate::copies::write_numbers;
+use bench::Bench;
+use bench::Changed;
+use bench::Delivered;
+ghost use mathlib.Core.Path.{_≡_};
+ghost use Rattle.bench.specs.Changes.{number};
+ghost use Rattle.bench.specs.State.{state};
+ghost use Rattle.bench.specs.Flights.{flown, sendOf, loseOf};
+ghost use Rattle.bench.specs.Deliveries.{reactionSays, delivered, deliverOf, repeatOf};
+ghost use Rattle.messages.specs.Slices.{numbersIn};
+
+pub struct ChangedNumbers {
+    pub changed: Changed,
+    pub numbers: [u32; 320],
+}
+
+pub struct DeliveredNumbers {
+    pub delivered: Delivered,
+    pub numbers: [u32; 320],
+}
+
+// The messages that 320 numbers are.
+pub(crate) fn messages_in(numbers: [u32; 320]) -> [Message; 64]
+    ensures { λ r. ⌜ numbersIn r ≡ numbers ⌝ }
+{
+    let mut ms = [Message {
+        link: 0,
+        direction: 0,
+        view: 0,
+        number: 0,
+        discarded: 0,
+    }; 64];
+    let mut k = 0;
+    while k < 64 {
+        ms[k] = read_message(&numbers, k);
+        k += 1;
+    }
+    ms
+}
+
+// And back.
+pub(crate) fn numbers_from(ms: [Message; 64]) -> [u32; 320]
+    ensures { λ r. ⌜ r ≡ numbersIn ms ⌝ }
+{
+    let mut numbers = [0u32; 320];
+    let mut k = 0;
+    while k < 64 {
+        write_numbers(&mut numbers, k, ms[k]);
+        k += 1;
+    }
+    numbers
+}
+
+// Appends the message of a bridge over a link.
+pub fn send(bench: Bench, numbers: [u32; 320], bridge: usize, link: usize) -> ChangedNumbers
+    ensures { λ r. ⌜ flown (number (r .changed .reply)) (r .changed .bench) (r .numbers) ≡ sendOf bench numbers bridge link ⌝ }
+{
+    let mut ms = messages_in(numbers);
+    let changed = calls::send(bench, &mut ms, bridge, link);
+    ChangedNumbers {
+        changed,
+        numbers: numbers_from(ms),
+    }
+}
+
+// Takes a message out; later ones move up by one.
+pub fn lose(bench: Bench, numbers: [u32; 320], place: usize) -> ChangedNumbers
+    ensures { λ r. ⌜ flown (number (r .changed .reply)) (r .changed .bench) (r .numbers) ≡ loseOf bench numbers place ⌝ }
+{
+    let mut ms = messages_in(numbers);
+    let changed = calls::lose(bench, &mut ms, place);
+    ChangedNumbers {
+        changed,
+        numbers: numbers_from(ms),
+    }
+}
+
+// Delivers a message and takes it out.
+pub fn deliver(
+    bench: Bench,
+    costs: &[u32],
+    tables: &[u32],
+    sent: &mut [u32],
+    held: &mut [u32],
+    numbers: [u32; 320],
+    place: usize,
+) -> DeliveredNumbers
+    ensures { λ r. ⌜ delivered (reactionSays (r .delivered .reply)) (r .delivered .bench) (now (sent .exit)) (now (held .exit)) (r .numbers) ≡ deliverOf (state bench (now (costs .entry)) (now (tables .entry)) (now (sent .entry)) (now (held .entry)) numbers) place ⌝ }
+{
+    let mut ms = messages_in(numbers);
+    let delivered = calls::deliver(bench, costs, tables, sent, held, &mut ms, place);
+    DeliveredNumbers {
+        delivered,
+        numbers: numbers_from(ms),
+    }
+}
+
+// Delivers a message and leaves it in.
+pub fn repeat(
+    bench: Bench,
+    costs: &[u32],
+    tables: &[u32],
+    sent: &mut [u32],
+    held: &mut [u32],
+    numbers: [u32; 320],
+    place: usize,
+) -> Delivered
+    ensures { λ r. ⌜ delivered (reactionSays (r .reply)) (r .bench) (now (sent .exit)) (now (held .exit)) numbers ≡ repeatOf (state bench (now (costs .entry)) (now (tables .entry)) (now (sent .entry)) (now (held .entry)) numbers) place ⌝ }
+{
+    let ms = messages_in(numbers);
+    calls::repeat(bench, costs, tables, sent, held, &ms, place)
+}

@@ -16,6 +16,5 @@ pub mod SlicePlaces
 pub mod LocalArray
 pub mod PlainLaws
 pub mod PlainCalls
-pub mod PlainLimits
 pub mod SliceForms
 pub mod SliceWhole

@@ -2,12 +2,12 @@
 --     flight-in, flight-out                          64 messages are all that a call reads of them
 --     put-begins, put-turns, put-ends                the loop of `messages_in`: all is left to put, a turn, nothing is left
 --     written-begins, written-turns, written-ends    the loop of `numbers_from`: all is left to write, a turn, nothing is left
-use mathlib.Core.Path.{_≡_, refl, sym, _∙_, ap}
-use Prim.Native.Nat.{ℕ, zero, suc, _+_, _*_, _≤_, _<_}
+use mathlib.Core.Path.{_≡_, sym, _∙_, ap}
+use Prim.Native.Nat.{ℕ, suc, _+_, _*_, _≤_, _<_}
 use native.Mathlib.Omega.{arith}
 use mathlib.Core.List.{List, [], _∷_, _++_, append-nil}
-use lib.ListN.{length, getD, set, take, drop}
-use lib.Seq.{sets, take-all, drop-cons, drop-length, sets-eq}
+use lib.ListN.{length, set, take, drop}
+use lib.Seq.{sets, take-all, drop-length, sets-eq}
 use Rattle.messages.specs.declared.Message.{Message}
 use Rattle.messages.specs.Slices.{numbersIn, flight}
 use Rattle.messages.specs.Steps.{messageOf, messageAt, messagesOf, putFrom}

@@ -1,5 +1,5 @@
 -- The messages of a lent slice in memory, as steps of a walk: one is taken out of the row, and it or another is put back. They are `Denote/Index.antt`'s steps at a message, of 20 bytes.
---     none             what `messageAt` says past the end        vals m       a message's machine value        typed      that it has the message's type
+--     mach m           a message's machine value        typed      that it has the message's type
 --     message-out      message i is taken out of the row        message-back, message-put    it is put back, or another in its place
 --     told             a message that a call returned: its machine value is the one that came back
 --     slice-again      a `&mut` slice that is closed at zs, as long as the list on entry, is owned at zs
@@ -28,12 +28,10 @@ use denote.Steps.{only, facts, owned}
 use denote.RattleType.{RattleType}
 use denote.Struct.Laws as LL
 use Rattle.messages.specs.declared.Message.{Message}
-use Rattle.messages.specs.Steps.{messageOf, messageAt}
+use Rattle.messages.specs.Steps.{messageAt}
+use Rattle.messages.proofs.SlicePlaces.{none}
 use Rattle.messages.proofs.Message as S
 use Rattle.messages.proofs.Message.Laws as S′
-
-abbrev pub none : Message
-none = messageOf [] 0
 
 abbrev pub mach : Message → Val
 mach m = LL.tuple-val S.the-type S′.the-laws (S.the-type .to m)

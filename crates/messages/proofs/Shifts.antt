@@ -8,6 +8,7 @@ use lib.Seq.{sets, drop-cons, drop-set-lt}
 use Rattle.messages.specs.declared.Message.{Message}
 use Rattle.messages.specs.Slices.{numbersIn}
 use Rattle.messages.specs.Steps.{messageAt, messageOf, movedUp, messagesOf, putFrom}
+use Rattle.messages.proofs.Flight.{five-more}
 
 -- the message after place k is moved to k: what is left to move is as it was
 pub moved-one : (k past : ℕ) (zs : List Message) → k < past → past < length zs → movedUp (suc k) past (set zs k (messageAt zs (suc k))) ≡ movedUp k past zs
@@ -43,8 +44,7 @@ pub written-one :
 unfolding numbersIn
 written-one ms k count zs h l =
     let left : count - k ≡ suc (count - suc k) = omega arith in
-    let five : 5 * suc k ≡ suc (suc (suc (suc (suc (5 * k))))) = omega arith in
-    ap (λ (p : ℕ). sets (sets zs (5 * k) (numbersIn (messageAt ms k ∷ []))) p (numbersIn (take (count - suc k) (drop (suc k) ms)))) five
+    ap (λ (p : ℕ). sets (sets zs (5 * k) (numbersIn (messageAt ms k ∷ []))) p (numbersIn (take (count - suc k) (drop (suc k) ms)))) (five-more k)
     ∙ sym (ap (λ (n : ℕ). sets zs (5 * k) (numbersIn (take n (drop k ms)))) left ∙ ap (λ (r : List Message). sets zs (5 * k) (numbersIn (take (suc (count - suc k)) r))) (drop-cons ms k (messageOf [] 0) (omega arith)))
 
 pub written-none : (ms : List Message) (k count : ℕ) (zs : List ℕ) → count ≤ k → writtenFrom ms k count zs ≡ zs

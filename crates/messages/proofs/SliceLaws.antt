@@ -1,6 +1,5 @@
--- What the calls cite of a slice of messages and of its numbers: the numbers read, those of messages moved up, those of messages put, and what stays past
--- the first 64. Assumes nothing.
-use mathlib.Core.Path.{_≡_, refl, sym, _∙_, ap, subst}
+-- What the calls cite of a slice of messages and of its numbers: the numbers of messages put, and the numbers read. Assumes nothing.
+use mathlib.Core.Path.{_≡_, refl, sym, _∙_, ap}
 use mathlib.Core.List.{List, [], _∷_}
 use Prim.Native.Nat.{ℕ, zero, suc, _+_, _-_, _*_, _≤_, min}
 use native.Mathlib.Nat.{add-zero}
@@ -9,19 +8,9 @@ use lib.ListN.{length, getD, take, drop, replicate, length-replicate, length-tak
 use lib.Seq.{sets, take-all, take-take, drop-drop, getD-drop}
 use Rattle.messages.specs.declared.Message.{Message}
 use Rattle.messages.specs.Slices.{numbersIn, flight}
-use Rattle.messages.specs.Steps.{took, shifted, messagesOf, movedUp, putFrom}
+use Rattle.messages.specs.Steps.{took, messagesOf, putFrom}
 use Rattle.messages.proofs.Stores.{take-sets}
-use Rattle.messages.proofs.Flight.{numbers-sets, flight-moved, rest-moved, messages-count, rest-put, written-front}
-
--- ---- messages moved up
-
-pub moved-flight : (ys : List Message) (i j : ℕ) → i ≤ j → j ≤ 63 → flight (movedUp i j ys) ≡ shifted i j (flight ys)
-moved-flight ys i j order few =
-    let same : j + 1 - 1 ≡ j = omega arith in
-    subst (λ (k : ℕ). flight (movedUp i k ys) ≡ shifted i k (flight ys)) same (flight-moved (j + 1) i ys (omega arith) (omega arith))
-
-pub moved-rest : (ys : List Message) (i j : ℕ) → i ≤ j → j ≤ 63 → drop 64 (movedUp i j ys) ≡ drop 64 ys
-moved-rest ys i j order few = rest-moved i j ys order (omega arith)
+use Rattle.messages.proofs.Flight.{five-more, numbers-sets, messages-count, written-front}
 
 -- ---- messages put
 
@@ -39,13 +28,10 @@ next-five : (ns : List ℕ) (p n : ℕ) → 5 * p + 5 ≤ length ns
     → take (5 * suc n) (drop (5 * p) ns)
     ≡ getD ns (5 * p) 0 ∷ getD ns (5 * p + 1) 0 ∷ getD ns (5 * p + 2) 0 ∷ getD ns (5 * p + 3) 0 ∷ getD ns (5 * p + 4) 0 ∷ take (5 * n) (drop (5 * suc p) ns)
 next-five ns p n long =
-    ap (λ (k : ℕ). take k (drop (5 * p) ns)) more
+    ap (λ (k : ℕ). take k (drop (5 * p) ns)) (five-more n)
     ∙ firsts (drop (5 * p) ns) (5 * n) (omega (arith, length-drop (5 * p) ns))
     ∙ (λ i. first i ∷ later 1 i ∷ later 2 i ∷ later 3 i ∷ later 4 i ∷ rest i)
   where
-    more : 5 * suc n ≡ suc (suc (suc (suc (suc (5 * n)))))
-    more = omega arith
-
     later : (j : ℕ) → getD (drop (5 * p) ns) j 0 ≡ getD ns (5 * p + j) 0
     later j = getD-drop (5 * p) ns j 0
 
@@ -77,9 +63,6 @@ put-flight ys ns i j order low long =
     ap numbersIn (take-sets 64 (messagesOf ns i (j - i)) ys i (omega (arith, messages-count ns i (j - i))))
     ∙ numbers-sets (messagesOf ns i (j - i)) (take 64 ys) i
     ∙ ap (sets (flight ys) (5 * i)) (numbers-again ns i (j - i) (omega arith))
-
-pub put-rest : (ys : List Message) (ns : List ℕ) (i j : ℕ) → i ≤ j → j ≤ min (length ys) 64 → drop 64 (putFrom ns i j ys) ≡ drop 64 ys
-put-rest ys ns i j order low = rest-put ns i j ys order (omega arith)
 
 -- ---- the numbers read
 

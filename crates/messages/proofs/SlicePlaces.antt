@@ -14,7 +14,8 @@ use Rattle.messages.specs.Steps.{messageOf, messageAt, movedUp, messages
 use Rattle.messages.proofs.Stores.{sets-before, sets-after, sets-within}
 use Rattle.messages.proofs.Flight.{moved-count, messages-count}
 
-abbrev none : Message
+-- what `messageAt` says past the end
+abbrev pub none : Message
 none = messageOf [] 0
 
 -- a place before the stores or past them keeps its message, where at most past - at are stored from `at`

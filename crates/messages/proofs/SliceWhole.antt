@@ -1,5 +1,5 @@
 -- Demand 3 over a slice of messages, by the bench's theorem; and that each call over a slice leads as its contract says. Assumes nothing.
-use Prim.Native.Nat.{ℕ, _*_, _≤_, min}
+use Prim.Native.Nat.{ℕ, _≤_}
 use native.Mathlib.Omega.{arith}
 use mathlib.Core.Path.{_≡_, sym, _∙_, ap, subst}
 use mathlib.Core.List.{List, [], _∷_}
@@ -9,16 +9,16 @@ use Rattle.agreement.specs.Call.{Said}
 use Rattle.agreement.specs.declared.Answer.{Answer}
 use Rattle.bench.specs.Net.{fresh}
 use Rattle.bench.specs.Calls.{Call, send, deliver, repeat, lose, run}
-use Rattle.bench.specs.State.{State, state}
+use Rattle.bench.specs.State.{state}
 use Rattle.bench.specs.Flights.{Flown, flown, sendOf, loseOf}
 use Rattle.bench.specs.Deliveries.{Delivered, delivered, deliverOf, repeatOf}
-use Rattle.bench.specs.Whole.{Represents, Answers, planIn, freshBy, stepBy, runBy}
+use Rattle.bench.specs.Whole.{Represents, Answers, planIn, freshBy, runBy}
 use Rattle.bench.specs.declared.Bench.{Bench}
 use Rattle.bench.proofs.TieWhole.{whole-lists}
 use Rattle.bench.proofs.CallSteps.{withFlown, withDelivered, send-step, lose-step, deliver-step, repeat-step, run-none, run-next}
 use Rattle.messages.specs.declared.Message.{Message}
-use Rattle.messages.specs.Slices.{numbersIn, flight}
-use Rattle.messages.specs.SliceLists.{Kept, kept, numbered, Leads, Lead, Starts, Meets, WholeSlices}
+use Rattle.messages.specs.Slices.{flight}
+use Rattle.messages.specs.SliceLists.{Kept, kept, numbered, Leads, Lead, WholeSlices}
 use Rattle.messages.proofs.Flight.{numbers-length}
 
 -- the calls over the slice and the bench's calls on its numbers end in the same state

@@ -20,13 +20,13 @@ use ghost.Atoms.{Atoms, sem}
 use contract.Monad.{Fun, fact}
 use contract.Running.{givenOf, tables, tablesOf}
 use contract.Lifetimes.{Lfts, Shares}
-use types.Kit.{Given, Item, mean, ‵, raw, some, later, given, ⋆, _⊛_, _$_, _∵_, !, qed, by, move, use0, use1, use2, drop, split, join, pick, learn, fsplit, suffices, check, show, frame, await, updating, now as at-once, done}
+use types.Kit.{Given, Item, mean, ‵, raw, some, later, given, ⋆, _⊛_, _$_, _∵_, !, qed, by, move, use0, use1, use2, use3, drop, split, join, pick, learn, fsplit, suffices, check, show, frame, await, updating, now as at-once, done}
 use types.Run.{look, init, store, forget, stop, hop, fld, from, load, lit, addr, of-opd, and-then, no-more, assigns, land, returns, enter, alloc1, alloc0, params1, pass1, pass0, free1, free0}
 use types.Part.{agg, whole, sub, look-in}
 use sound.WpLaws.{FmC, fmOf, WpFn-mono}
 use denote.Laws.{Is, shows}
-use denote.Plain.{uint-makes, uint-vals, uint-tells}
-use denote.Array.{array-makes, array-vals, array-tells}
+use denote.Plain.{uint-vals, uint-tells}
+use denote.Array.{array-vals, array-tells}
 use denote.Builtin.{u32, usize}
 use denote.Ref.{RefT}
 use denote.Slice.{sliceVal, Room, finally, slice-vals, mut-slice-tells, shr-slice-tells}
@@ -55,13 +55,13 @@ use Rattle.messages.specs.Slices.{flight}
 use Rattle.messages.proofs.Message as T
 use Rattle.messages.proofs.plain.DeliveredNumbers as P
 use Rattle.messages.proofs.plain.DeliveredNumbers.Laws as P′
-use Rattle.messages.proofs.LocalNumbers.{Numbers}
+use Rattle.messages.proofs.LocalNumbers.{Numbers, the-numbers}
 use Rattle.messages.proofs.LocalArray as array
 use Rattle.messages.proofs.LocalArray.{arrayTy, rowOf, at-list}
+use Rattle.messages.proofs.LimitsCall as limits
 use Rattle.messages.proofs.LimitsCall.{Writes}
-use Rattle.messages.proofs.PlainLimits as limits
 use Rattle.messages.proofs.PlainCalls as plainly
-use Rattle.messages.proofs.PlainCalls.{Messages, messages, Taken, GivenBack, MessagesIn, NumbersFrom, messages-typed, numbers-typed, delivered-is}
+use Rattle.messages.proofs.PlainCalls.{Messages, messages, Taken, GivenBack, MessagesIn, NumbersFrom, delivered-is}
 use Rattle.messages.proofs.PlainLaws.{flight-in, flight-out}
 use Rattle.messages.proofs.plain.messages_in.Symbol as messages-in-def
 use Rattle.messages.proofs.plain.messages_in.Symbol.{name as #messages-in}
@@ -167,8 +167,9 @@ module _ {M : Type 1} (𝓤 : URA M) (H : Heap 𝓤) (A : Atoms 𝓤) (W : Given
         split ! $ move ! (1 ∷ []) $
         use1 W (some (λ (ws : Lasting). ‵ (lasts called.ended (limits.with-last 𝓤 H A κs qs c t s e (ν ∷ [])) (args δ) ws) ⊛ raw (fact 𝓤 (Delivers h (c .now) (t .now) (s .now) (e .now) (flight ys) p r (ws .1 .1 .1 .0) (ws .1 .1 .1 .1 .0) (flight (ws .1 .1 .1 .1 .1 .0)))) ⊛ raw (fact 𝓤 (rest 64 (ws .1 .1 .1 .1 .1 .0) ≡ rest 64 ys)))) (id⊢ 𝓤 _) $ pick ! (λ ws.
         split ! $ move ! (1 ∷ []) $ split ! $ heard ! (Delivers h (c .now) (t .now) (s .now) (e .now) (flight ys) p r (ws .1 .1 .1 .0) (ws .1 .1 .1 .1 .0) (flight (ws .1 .1 .1 .1 .1 .0))) (λ f. drop ! $
-        use1 W (given (limits.SameLengths 𝓤 H A κs qs c t s e (ws .1 .1 .1 .0) (ws .1 .1 .1 .1 .0)) (Said (ws .1 .1 .1 .0) (ws .1 .1 .1 .1 .0) ⊛ ‵ (LastMessages δ (ws .1 .1 .1 .1 .1 .0))))
-        (limits.told 𝓤 H A κs qs c t s e W (ws .1 .1 .1 .0) (ws .1 .1 .1 .1 .0) (LastMessages δ (ws .1 .1 .1 .1 .1 .0))) $ learn ! (λ n. split ! $ move ! (1 ∷ []) $ fsplit ! $ move ! (1 ∷ []) $ drop ! $
+        use1 W (given (limits.SameLengths 𝓤 H A κs qs c t s e (ws .1 .1 .1 .0) (ws .1 .1 .1 .1 .0)) (Said (ws .1 .1 .1 .0) (ws .1 .1 .1 .1 .0) ⊛ ‵ (fsep (LastMessages δ (ws .1 .1 .1 .1 .1 .0)) (fsep ftrue ftrue))))
+        (limits.told 𝓤 H A κs qs c t s e W (ws .1 .1 .1 .0) (ws .1 .1 .1 .1 .0) (fsep (LastMessages δ (ws .1 .1 .1 .1 .1 .0)) (fsep ftrue ftrue))) $ learn ! (λ n.
+        split ! $ move ! (1 ∷ []) $ fsplit ! $ move ! (1 ∷ []) $ drop ! $ fsplit ! $ move ! (1 ∷ []) $ drop ! $
         -- [the last messages; Said; the tokens and the result]
         move ! (2 ∷ []) $ split ! $ move ! (1 ∷ []) $ facts ! R.the-row (Is R.the-row) (shows 𝓤 H A R.the-row) r (w ∷ []) (λ is.
         use1 W (‵ (flft (ν ∷ []) fullShare) ⊛ Toks) (limits.tokens 𝓤 H A κs qs c t s e W (ν ∷ []) fullShare) $ split ! $ move ! (1 ∷ 3 ∷ []) $ join ! $ at-once ! $
@@ -189,20 +190,21 @@ module _ {M : Type 1} (𝓤 : URA M) (H : Heap 𝓤) (A : Atoms 𝓤) (W : Given
   exits v x ms f n is =
       qed W (Toks ∷ Said (x .1 .0) (x .1 .1) ∷ Kept ∷ []) ∵
       suffices ! _ (ends-at 𝓤 H A deliver.ended stayed (deliver.clauses 𝓤 H A mem run) W ((κs, qs, tt, a, vals), tt) v (record { delivered = x .0; numbers = ms }) (tt, (tt, (tt, (x .1 .0, (x .1 .1, (tt, (tt, tt))))))) (tt, (tt, (tt, (n .0, (n .1, (tt, (tt, tt)))))))) $ says ! f $
-      move ! (1 ∷ 2 ∷ []) $ join ! $ move ! (1 ∷ 0 ∷ []) $ join ! $ owned ! Numbers (Is Numbers) (array-makes 𝓤 H A W u32 (uint-makes 𝓤 H A W w32) 320) ns _ n-is $ move ! (1 ∷ 0 ∷ []) $
-      use2 W (Toks ⊛ ‵ (limits.All 𝓤 H A κs qs c t s e W h hv h-is p p-fits (finally u32 (s .name) (x .1 .0)) (finally u32 (e .name) (x .1 .1)) (Numbers .own ns (nv ∷ []))))
+      frame ! $ owned ! Numbers (Is Numbers) (array.made the-numbers 𝓤 H A W) ns _ n-is $ move ! (1 ∷ 2 ∷ 0 ∷ []) $
+      use3 W (‵ (limits.All 𝓤 H A κs qs c t s e W h hv h-is p p-fits (finally u32 (s .name) (x .1 .0)) (finally u32 (e .name) (x .1 .1)) (Numbers .own ns (nv ∷ []))))
       (limits.leaves 𝓤 H A κs qs c t s e W h hv h-is p p-fits (x .1 .0) (x .1 .1) (Numbers .own ns (nv ∷ []))) $
-      split ! $ frame ! $ owned ! P.the-row (Is P.the-row) (LL.makes P.the-type P′.the-plain 𝓤 H A) (record { delivered = x .0; numbers = ms }) _ is $ move ! (1 ∷ 0 ∷ []) $ done !
+      owned ! P.the-row (Is P.the-row) (LL.makes P.the-type P′.the-plain 𝓤 H A) (record { delivered = x .0; numbers = ms }) _ is $ move ! (1 ∷ 0 ∷ []) $ done !
 
   module _ (C : Calls 𝓤 H) (Λ : Loops 𝓤 H) (fm : FmC 𝓤 H (W .laws) C) (known-in : Triple 𝓤 (C #messages-in) (MessagesIn 𝓤 H A mem run)) (known-deliver : Triple 𝓤 (C #called) (Deliver 𝓤 H A mem run))
       (known-from : Triple 𝓤 (C #numbers-from) (NumbersFrom 𝓤 H A mem run)) where
     walk : ent 𝓤 (onEntry 𝓤 H A deliver.signature κs qs a vals) (WpFn 𝓤 H C Λ code.function passed Post)
     walk =
         qed W (Toks ∷ ‵ (limits.All 𝓤 H A κs qs c t s e W h hv h-is p p-fits (Writes (κs .1 .1 .0) s) (Writes (κs .1 .1 .1 .0) e) (Numbers .own ns (nv ∷ []))) ∷ []) ∵
-        use2 W (limits.Handed 𝓤 H A κs qs c t s e) (limits.enters 𝓤 H A κs qs c t s e W h hv h-is p p-fits (Numbers .own ns (nv ∷ []))) $ enter ! C Λ code.function passed _ $
+        use2 W (limits.Handed 𝓤 H A κs qs c t s e ⊛ ‵ (Numbers .own ns (nv ∷ []))) (limits.enters 𝓤 H A κs qs c t s e W h hv h-is p p-fits (Numbers .own ns (nv ∷ []))) $
+        split ! $ move ! (1 ∷ []) $ drop ! $ enter ! C Λ code.function passed _ $
         alloc1 ! (λ l₀. alloc1 ! (λ l₁. alloc1 ! (λ l₂. alloc1 ! (λ l₃. alloc1 ! (λ l₄. alloc1 ! (λ l₅. alloc1 ! (λ l₆. alloc1 ! (λ l₇. alloc1 ! (λ l₈. alloc1 ! (λ l₉. alloc1 ! (λ l₁₀. alloc1 ! (λ l₁₁. alloc1 ! (λ l₁₂. alloc1 ! (λ l₁₃. alloc1 ! (λ l₁₄. alloc1 ! (λ l₁₅. alloc1 ! (λ l₁₆. alloc1 ! (λ l₁₇. alloc0 ! $ params1 ! $
         pass1 ! (init ! 32 refl (LL.lawful B.the-type B′.the-laws 𝓤 H A W .typed h _ h-is .0)) $ pass1 ! (init ! 30 refl (tt, (tt, (record { fits = c-room .0 }, tt)))) $ pass1 ! (init ! 28 refl (tt, (tt, (record { fits = t-room .0 }, tt)))) $
-        pass1 ! (init ! 26 refl (tt, (tt, (record { fits = s-room .0 }, tt)))) $ pass1 ! (init ! 24 refl (tt, (tt, (record { fits = e-room .0 }, tt)))) $ pass1 ! (init ! 22 refl (numbers-typed 𝓤 H A W ns _ n-is)) $
+        pass1 ! (init ! 26 refl (tt, (tt, (record { fits = s-room .0 }, tt)))) $ pass1 ! (init ! 24 refl (tt, (tt, (record { fits = e-room .0 }, tt)))) $ pass1 ! (init ! 22 refl (array.typed the-numbers 𝓤 H A W ns _ n-is)) $
         pass1 ! (init ! 20 refl (tt, record { fits = p-fits })) $ pass0 ! $
         -- [_17; …; _16; …; and so on to _0; …; Handed]
         move ! (36 ∷ []) $
@@ -211,8 +213,8 @@ module _ {M : Type 1} (𝓤 : URA M) (H : Heap 𝓤) (A : Atoms 𝓤) (W : Given
         calls-at ! fm (MessagesIn 𝓤 H A mem run) known-in (plainly.to-take 𝓤 H A mem run ns nv) (and-then ! (load ! (from ! (stop !)) (look ! 24 refl)) (no-more !)) (λ v.
         use1 W (later (some (λ (ys : List Message). given (Taken ns v ys) (‵ ftrue)))) (plainly.taken 𝓤 H A mem run W ns nv v) $ await ! tt $ pick ! (λ ys. learn ! (λ g. drop ! $
         -- [Handed; _17; …]
-        land ! (from ! (stop !)) (init ! 15 refl (messages-typed 𝓤 H A W ys _ (g .1))) $
-        assigns ! (of-opd ! (load ! (from ! (stop !)) (look ! 15 refl))) (from ! (stop !)) (init ! 19 refl (messages-typed 𝓤 H A W ys _ (g .1))) $
+        land ! (from ! (stop !)) (init ! 15 refl (array.typed messages 𝓤 H A W ys _ (g .1))) $
+        assigns ! (of-opd ! (load ! (from ! (stop !)) (look ! 15 refl))) (from ! (stop !)) (init ! 19 refl (array.typed messages 𝓤 H A W ys _ (g .1))) $
         assigns ! (addr ! (from ! (fld ! refl (hop ! (look-in ! 27 (sub ! 0 refl (whole !))) (stop !))))) (from ! (stop !)) (init ! 13 refl (tt, tt)) $
         assigns ! (agg ! (and-then ! (load ! (from ! (stop !)) (look ! 13 refl)) (and-then ! (load ! (from ! (fld ! refl (stop !))) (look-in ! 27 (sub ! 1 refl (whole !)))) (no-more !)))) (from ! (stop !)) (init ! 11 refl (tt, (tt, (record { fits = s-room .0 }, tt)))) $
         assigns ! (addr ! (from ! (fld ! refl (hop ! (look-in ! 25 (sub ! 0 refl (whole !))) (stop !))))) (from ! (stop !)) (init ! 9 refl (tt, tt)) $
@@ -223,7 +225,7 @@ module _ {M : Type 1} (𝓤 : URA M) (H : Heap 𝓤) (A : Atoms 𝓤) (W : Given
         move ! (19 ∷ []) $ use1 W (given (length ys ≡ 64) (‵ (rowOf T.the-row 64 ys l₈))) (array.apart messages 𝓤 H A W l₈ ys v (g .1)) $ learn ! (λ z.
         use2 W (later (some (λ (ν : ℕ). some (λ (δ : GName). (raw (Deliver 𝓤 H A mem run .pre (to-deliver l₈ ys ν δ)) ⊛ Kept) ⊛ ‵ (flent (ν ∷ []) (Held T.the-row 64 l₈ 0 δ))))))
         (array.lends messages 𝓤 H A W l₈ (named 0) ys z (limits.Handed 𝓤 H A κs qs c t s e) (λ ν δ. sep 𝓤 (Deliver 𝓤 H A mem run .pre (to-deliver l₈ ys ν δ)) (mean 𝓤 H A Kept))
-        (λ ν δ. limits.hands 𝓤 H A κs qs c t s e W h hv h-is p p-fits (ν ∷ []) fullShare (array.Writes T.the-row 64 (named 0) (ν ∷ []) l₈ δ ys))) $ await ! tt $ pick ! (λ ν. pick ! (λ δ. split ! $ split ! $
+        (λ ν δ. limits.hands-messages 𝓤 H A κs qs c t s e W h hv h-is p p-fits (ν ∷ []) fullShare (array.Writes T.the-row 64 (named 0) (ν ∷ []) l₈ δ ys))) $ await ! tt $ pick ! (λ ν. pick ! (λ δ. split ! $ split ! $
         -- [what is asked; Kept; the lender's part; _17; …]
         calls-at ! fm (Deliver 𝓤 H A mem run) known-deliver (to-deliver l₈ ys ν δ)
         (and-then ! (load ! (from ! (stop !)) (look ! 34 refl)) (and-then ! (load ! (from ! (stop !)) (look ! 32 refl)) (and-then ! (load ! (from ! (stop !)) (look ! 30 refl)) (and-then ! (load ! (from ! (stop !)) (look ! 13 refl)) (and-then ! (load ! (from ! (stop !)) (look ! 9 refl)) (and-then ! (load ! (from ! (stop !)) (look ! 5 refl)) (and-then ! (load ! (from ! (stop !)) (look ! 22 refl)) (no-more !)))))))) (λ w.
@@ -232,12 +234,12 @@ module _ {M : Type 1} (𝓤 : URA M) (H : Heap 𝓤) (A : Atoms 𝓤) (W : Given
         use1 W (some (λ (u : Val). given (Is Messages zs (u ∷ [])) (‵ (fat fullShare (arrayTy T.the-row 64) l₈ 0 u)))) (array.whole messages 𝓤 H A W l₈ zs (f .1)) $ pick ! (λ u. learn ! (λ u-is. move ! (1 ∷ []) $ split ! $ move ! (0 ∷ 1 ∷ 3 ∷ 2 ∷ []) $
         -- [Toks; Said; Kept; _8; _17; …; _16; …; and so on to _9; …; (_8's right to be freed); _7; …]
         land ! (from ! (stop !)) (init ! 20 refl (LL.lawful R.the-type R′.the-laws 𝓤 H A W .typed (x .0) _ (f .0 .1 .1) .0)) $
-        assigns ! (of-opd ! (load ! (from ! (stop !)) (look ! 3 refl))) (from ! (stop !)) (store ! 18 refl (messages-typed 𝓤 H A W zs _ u-is)) $
+        assigns ! (of-opd ! (load ! (from ! (stop !)) (look ! 3 refl))) (from ! (stop !)) (store ! 18 refl (array.typed messages 𝓤 H A W zs _ u-is)) $
         -- `numbers_from`
         use0 W (raw (NumbersFrom 𝓤 H A mem run .pre (plainly.to-give 𝓤 H A mem run zs u))) (plainly.gives 𝓤 H A mem run W zs u u-is) $
         calls-at ! fm (NumbersFrom 𝓤 H A mem run) known-from (plainly.to-give 𝓤 H A mem run zs u) (and-then ! (load ! (from ! (stop !)) (look ! 19 refl)) (no-more !)) (λ m.
         use1 W (later (some (λ (ms : List ℕ). given (GivenBack zs m ms) (‵ ftrue)))) (plainly.gave 𝓤 H A mem run W zs u m) $ await ! tt $ pick ! (λ ms. learn ! (λ k. drop ! $
-        land ! (from ! (stop !)) (init ! 4 refl (numbers-typed 𝓤 H A W ms _ (k .1))) $
+        land ! (from ! (stop !)) (init ! 4 refl (array.typed the-numbers 𝓤 H A W ms _ (k .1))) $
         assigns ! (agg ! (and-then ! (load ! (from ! (stop !)) (look ! 20 refl)) (and-then ! (load ! (from ! (stop !)) (look ! 4 refl)) (no-more !)))) (from ! (stop !))
         (init ! 37 refl (LL.lawful P.the-type P′.the-laws 𝓤 H A W .typed (record { delivered = x .0; numbers = ms }) _ (delivered-is (x .0) w ms m (f .0 .1 .1) (k .1)) .0)) $
         returns ! (look ! 37 refl) $ forget ! 3 refl $ forget ! 4 refl $ forget ! 6 refl $ forget ! 8 refl $ forget ! 10 refl $ forget ! 12 refl $ forget ! 14 refl $ forget ! 16 refl $ forget ! 18 refl $ forget ! 20 refl $ forget ! 23 refl $ forget ! 25 refl $ forget ! 27 refl $ forget ! 29 refl $ forget ! 31 refl $ forget ! 33 refl $ forget ! 35 refl $ forget ! 37 refl $

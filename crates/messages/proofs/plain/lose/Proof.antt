@@ -25,7 +25,7 @@ use sound.WpLaws.{FmC, fmOf, WpFn-mono}
 use denote.RattleType.{owns}
 use denote.Laws.{Is, shows}
 use denote.Plain.{uint-makes, uint-vals, uint-tells}
-use denote.Array.{array-makes, array-vals, array-tells}
+use denote.Array.{array-vals, array-tells}
 use denote.Builtin.{u32, usize}
 use denote.Ref.{RefT}
 use denote.Slice.{sliceVal, finally}
@@ -53,11 +53,11 @@ use Rattle.messages.specs.Slices.{flight}
 use Rattle.messages.proofs.Message as T
 use Rattle.messages.proofs.plain.ChangedNumbers as P
 use Rattle.messages.proofs.plain.ChangedNumbers.Laws as P′
-use Rattle.messages.proofs.LocalNumbers.{Numbers}
+use Rattle.messages.proofs.LocalNumbers.{Numbers, the-numbers}
 use Rattle.messages.proofs.LocalArray as array
 use Rattle.messages.proofs.LocalArray.{arrayTy, rowOf, at-list, Writes}
 use Rattle.messages.proofs.PlainCalls as plainly
-use Rattle.messages.proofs.PlainCalls.{Messages, messages, Taken, GivenBack, MessagesIn, NumbersFrom, messages-typed, numbers-typed, changed-is}
+use Rattle.messages.proofs.PlainCalls.{Messages, messages, Taken, GivenBack, MessagesIn, NumbersFrom, changed-is}
 use Rattle.messages.proofs.PlainLaws.{flight-in, flight-out}
 use Rattle.messages.proofs.plain.messages_in.Symbol as messages-in-def
 use Rattle.messages.proofs.plain.messages_in.Symbol.{name as #messages-in}
@@ -143,7 +143,7 @@ module _ {M : Type 1} (𝓤 : URA M) (H : Heap 𝓤) (A : Atoms 𝓤) (W : Given
       qed W [] ∵
       suffices ! _ (ends-at 𝓤 H A lose.ended stayed (lose.clauses 𝓤 H A mem run) W ((tt, tt, tt, a, vals), tt) v (record { changed = r; numbers = ms }) (tt, (tt, (tt, tt))) (tt, (tt, (tt, tt)))) $ says ! e $
       nothing ! $ frame ! $ nothing ! $ owned ! usize (Is usize) (uint-makes 𝓤 H A W w64) p _ (refl, p-fits) $ fjoin ! $
-      owned ! Numbers (Is Numbers) (array-makes 𝓤 H A W u32 (uint-makes 𝓤 H A W w32) 320) ns _ n-is $ fjoin ! $ owned ! B.the-row (Is B.the-row) (LL.makes B.the-type B′.the-plain 𝓤 H A) h _ h-is $ fjoin ! $
+      owned ! Numbers (Is Numbers) (array.made the-numbers 𝓤 H A W) ns _ n-is $ fjoin ! $ owned ! B.the-row (Is B.the-row) (LL.makes B.the-type B′.the-plain 𝓤 H A) h _ h-is $ fjoin ! $
       owned ! P.the-row (Is P.the-row) (LL.makes P.the-type P′.the-plain 𝓤 H A) (record { changed = r; numbers = ms }) _ is $ move ! (1 ∷ 0 ∷ []) $ done !
 
   module _ (C : Calls 𝓤 H) (Λ : Loops 𝓤 H) (fm : FmC 𝓤 H (W .laws) C) (known-in : Triple 𝓤 (C #messages-in) (MessagesIn 𝓤 H A mem run)) (known-lose : Triple 𝓤 (C #called) (Lose 𝓤 H A mem run))
@@ -152,15 +152,15 @@ module _ {M : Type 1} (𝓤 : URA M) (H : Heap 𝓤) (A : Atoms 𝓤) (W : Given
     walk =
         qed W (‵ ftrue ∷ ‵ (owns (B.the-row ∷ Numbers ∷ usize ∷ []) a vals) ∷ []) ∵ drop ! $ drop ! $ enter ! C Λ code.function (hv ∷ nv ∷ vint w64 p ∷ []) _ $
         alloc1 ! (λ l₀. alloc1 ! (λ l₁. alloc1 ! (λ l₂. alloc1 ! (λ l₃. alloc1 ! (λ l₄. alloc1 ! (λ l₅. alloc1 ! (λ l₆. alloc1 ! (λ l₇. alloc1 ! (λ l₈. alloc1 ! (λ l₉. alloc0 ! $ params1 ! $
-        pass1 ! (init ! 16 refl (LL.lawful B.the-type B′.the-laws 𝓤 H A W .typed h _ h-is .0)) $ pass1 ! (init ! 14 refl (numbers-typed 𝓤 H A W ns _ n-is)) $
+        pass1 ! (init ! 16 refl (LL.lawful B.the-type B′.the-laws 𝓤 H A W .typed h _ h-is .0)) $ pass1 ! (init ! 14 refl (array.typed the-numbers 𝓤 H A W ns _ n-is)) $
         pass1 ! (init ! 12 refl (tt, record { fits = p-fits })) $ pass0 ! $
         -- [_9; …; _8; …; and so on to _0; …]
         -- `messages_in`
         use0 W (raw (MessagesIn 𝓤 H A mem run .pre (plainly.to-take 𝓤 H A mem run ns nv))) (plainly.takes 𝓤 H A mem run W ns nv n-is) $
         calls-at ! fm (MessagesIn 𝓤 H A mem run) known-in (plainly.to-take 𝓤 H A mem run ns nv) (and-then ! (load ! (from ! (stop !)) (look ! 15 refl)) (no-more !)) (λ v.
         use1 W (later (some (λ (ys : List Message). given (Taken ns v ys) (‵ ftrue)))) (plainly.taken 𝓤 H A mem run W ns nv v) $ await ! tt $ pick ! (λ ys. learn ! (λ g. drop ! $
-        land ! (from ! (stop !)) (init ! 6 refl (messages-typed 𝓤 H A W ys _ (g .1))) $
-        assigns ! (of-opd ! (load ! (from ! (stop !)) (look ! 6 refl))) (from ! (stop !)) (init ! 10 refl (messages-typed 𝓤 H A W ys _ (g .1))) $
+        land ! (from ! (stop !)) (init ! 6 refl (array.typed messages 𝓤 H A W ys _ (g .1))) $
+        assigns ! (of-opd ! (load ! (from ! (stop !)) (look ! 6 refl))) (from ! (stop !)) (init ! 10 refl (array.typed messages 𝓤 H A W ys _ (g .1))) $
         assigns ! (addr ! (from ! (stop !))) (from ! (stop !)) (init ! 4 refl (tt, tt)) $
         assigns ! (agg ! (and-then ! (load ! (from ! (stop !)) (look ! 4 refl)) (and-then ! (lit ! tt) (no-more !)))) (from ! (stop !)) (init ! 2 refl (tt, (tt, (record { fits = lit< tt }, tt)))) $
         -- `calls::lose`
@@ -173,12 +173,12 @@ module _ {M : Type 1} (𝓤 : URA M) (H : Heap 𝓤) (A : Atoms 𝓤) (W : Given
         use1 W (some (λ (t : Val). given (Is Messages zs (t ∷ [])) (‵ (fat fullShare (arrayTy T.the-row 64) l₄ 0 t)))) (array.whole messages 𝓤 H A W l₄ zs (e .1)) $ pick ! (λ t. learn ! (λ t-is.
         -- [_4; _9; …; _8; …; _7; …; _6; …; _5; …; (_4's right to be freed); _3; …]
         land ! (from ! (stop !)) (init ! 9 refl (LL.lawful R.the-type R′.the-laws 𝓤 H A W .typed r _ (e .0 .1) .0)) $
-        assigns ! (of-opd ! (load ! (from ! (stop !)) (look ! 0 refl))) (from ! (stop !)) (store ! 7 refl (messages-typed 𝓤 H A W zs _ t-is)) $
+        assigns ! (of-opd ! (load ! (from ! (stop !)) (look ! 0 refl))) (from ! (stop !)) (store ! 7 refl (array.typed messages 𝓤 H A W zs _ t-is)) $
         -- `numbers_from`
         use0 W (raw (NumbersFrom 𝓤 H A mem run .pre (plainly.to-give 𝓤 H A mem run zs t))) (plainly.gives 𝓤 H A mem run W zs t t-is) $
         calls-at ! fm (NumbersFrom 𝓤 H A mem run) known-from (plainly.to-give 𝓤 H A mem run zs t) (and-then ! (load ! (from ! (stop !)) (look ! 8 refl)) (no-more !)) (λ u.
         use1 W (later (some (λ (ms : List ℕ). given (GivenBack zs u ms) (‵ ftrue)))) (plainly.gave 𝓤 H A mem run W zs t u) $ await ! tt $ pick ! (λ ms. learn ! (λ f. drop ! $
-        land ! (from ! (stop !)) (init ! 1 refl (numbers-typed 𝓤 H A W ms _ (f .1))) $
+        land ! (from ! (stop !)) (init ! 1 refl (array.typed the-numbers 𝓤 H A W ms _ (f .1))) $
         assigns ! (agg ! (and-then ! (load ! (from ! (stop !)) (look ! 9 refl)) (and-then ! (load ! (from ! (stop !)) (look ! 1 refl)) (no-more !)))) (from ! (stop !))
         (init ! 18 refl (LL.lawful P.the-type P′.the-laws 𝓤 H A W .typed (record { changed = r; numbers = ms }) _ (changed-is r w ms u (e .0 .1) (f .1)) .0)) $
         returns ! (look ! 18 refl) $ forget ! 0 refl $ forget ! 1 refl $ forget ! 3 refl $ forget ! 5 refl $ forget ! 7 refl $ forget ! 9 refl $ forget ! 12 refl $ forget ! 14 refl $ forget ! 16 refl $ forget ! 18 refl $

@@ -11,4 +11,5 @@ pub mod network_random;
 pub mod network_run;
 pub mod random;
 pub mod random_case;
+pub mod slice_call;
 pub mod view;

@@ -191,6 +191,16 @@ impl Lent {
         ]
     }
 
+    /// The same with one buffer, by its place in `buffers`, of another length: cut off, or with zeros at the end.
+    pub fn resized(&self, which: usize, length: usize) -> Lent {
+        let mut numbers = self.buffers()[which].1.numbers().to_vec();
+        numbers.resize(length, 0);
+        let mut lent = self.clone();
+        let Lent { bench, costs, tables, sent, held, messages, out } = &mut lent;
+        *[bench, costs, tables, sent, held, messages, out][which] = Buffer::of(&numbers);
+        lent
+    }
+
     // SAFETY, of each call below: each pointer comes with the length of its buffer, and no two buffers share memory.
 
     pub fn fresh(&mut self) -> u8 {

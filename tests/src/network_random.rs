@@ -122,6 +122,35 @@ fn disturb_limit(random: &mut Random, limit: &mut u32, passes: u32, loose: bool)
     }
 }
 
+/// Damages one number of a network that is in range. False where there is none of the kind chosen.
+pub fn damage(random: &mut Random, lent: &mut Lent) -> bool {
+    let [bridges, links, views, count] = [0, 1, 2, 3].map(|k| lent.bench.numbers()[k] as usize);
+    let far = [1, 2, 100, u32::MAX - 70_000][random.below(4)];
+    let b = lent.bench.numbers_mut();
+    let m = lent.messages.numbers_mut();
+    let bridge = random.below(bridges);
+    let (link, place) = (random.below(links.max(1)), random.below(count.max(1)));
+    let byte = |least: usize, random: &mut Random| (least + random.below(255 - least)) as u32;
+    match random.below(14) {
+        0 => b[0] = [0, 1, 16 + far][random.below(3)],
+        1 => b[1] = 32 + far,
+        2 => b[2] = [0, 32 + far][random.below(2)],
+        3 => b[3] = 64 + far,
+        4 => b[68 + bridge] = byte(views, random),
+        5 if links > 0 => b[4 + 2 * link + random.below(2)] = byte(bridges, random),
+        6 if links > 0 => b[4 + 2 * link] = b[5 + 2 * link],
+        7 if links > 0 => b[100 + 8 * link + 4 * random.below(2) + 1] = byte(views, random),
+        8 if links > 0 => lent.costs.numbers_mut()[32 * random.below(views) + link] = 16_777_215 + far,
+        9 if count > 0 => m[5 * place] = links as u32 + far - 1,
+        10 if count > 0 => m[5 * place + 1] = 1 + far,
+        11 if count > 0 => m[5 * place + 2] = views as u32 + far - 1,
+        12 if count > 0 => m[5 * place + 3] = 65_535 + far,
+        13 if count > 0 => m[5 * place + 4] = 65_535 + far,
+        _ => return false,
+    }
+    true
+}
+
 /// A number that is mostly below the count, or past it, or far past it.
 fn loose(random: &mut Random, count: usize) -> usize {
     match random.below(4) {

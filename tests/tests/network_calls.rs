@@ -1,9 +1,9 @@
 //! Single calls of layer 3 as compiled: refusals at the entry, document 01's known examples, the limits of its numbers.
 
 use bench_tests::network::{Answer, Call, Plan, Reply, Way};
-use bench_tests::network_call::{Buffer, Lent};
+use bench_tests::network_call::Lent;
 use bench_tests::network_numbers::{compare, expect, is_turned_down, needed, network_in, plan_in, put_fresh};
-use bench_tests::network_random::{lend, random_call, random_plan};
+use bench_tests::network_random::{damage, lend, random_call, random_plan};
 use bench_tests::network_run::{name, Met, Run};
 use bench_tests::random::Random;
 
@@ -37,26 +37,6 @@ fn expect_turned_down(label: &str, lent: &Lent, call: Option<Call>) {
     }
 }
 
-fn resized(buffer: &Buffer, length: usize) -> Buffer {
-    Buffer::of(&buffer.numbers()[..length])
-}
-
-/// The same with one buffer, by its place in `Lent::buffers`, made shorter.
-fn shortened(lent: &Lent, which: usize, length: usize) -> Lent {
-    let mut short = lent.clone();
-    let buffers = [
-        &mut short.bench,
-        &mut short.costs,
-        &mut short.tables,
-        &mut short.sent,
-        &mut short.held,
-        &mut short.messages,
-        &mut short.out,
-    ];
-    *buffers.into_iter().nth(which).expect("a buffer") = resized(lent.buffers()[which].1, length);
-    short
-}
-
 /// The triangle of document 01 with two views, fresh.
 fn known_run(costs: [Vec<u32>; 2]) -> Run {
     let plan = Plan { bridges: 3, links: vec![(0, 1), (1, 2), (0, 2)], views: costs.to_vec() };
@@ -77,7 +57,7 @@ fn short_buffers_are_refused() {
             let (name, buffer) = run.found.buffers()[which];
             for short in [0, length / 2, length.saturating_sub(1)] {
                 if short < length {
-                    expect_turned_down(&format!("{name} of {short}"), &shortened(&run.found, which, short), call);
+                    expect_turned_down(&format!("{name} of {short}"), &run.found.resized(which, short), call);
                 }
             }
             assert!(length <= buffer.numbers().len());
@@ -94,7 +74,7 @@ fn exact_buffers_are_enough() {
         run.call(Call::Send(0, 0)).expect("a send");
         let mut exact = run.found.clone();
         for (which, length) in needed(Some(call)).into_iter().enumerate() {
-            exact = shortened(&exact, which, length);
+            exact = exact.resized(which, length);
         }
         let outcome = expect(&mut run.network, call, &mut run.expected);
         assert_eq!(exact.call(call), outcome.err().unwrap_or(0), "{call:?}");
@@ -103,35 +83,6 @@ fn exact_buffers_are_enough() {
             assert!(f.is_guarded(), "{call:?}: {name}");
         }
     }
-}
-
-/// Damages one number of a network that is in range.
-fn damage(random: &mut Random, lent: &mut Lent) -> &'static str {
-    let [bridges, links, views, count] = [0, 1, 2, 3].map(|k| lent.bench.numbers()[k] as usize);
-    let far = [1, 2, 100, u32::MAX - 70_000][random.below(4)];
-    let b = lent.bench.numbers_mut();
-    let m = lent.messages.numbers_mut();
-    let bridge = random.below(bridges);
-    let (link, place) = (random.below(links.max(1)), random.below(count.max(1)));
-    let byte = |least: usize, random: &mut Random| (least + random.below(255 - least)) as u32;
-    match random.below(14) {
-        0 => b[0] = [0, 1, 16 + far][random.below(3)],
-        1 => b[1] = 32 + far,
-        2 => b[2] = [0, 32 + far][random.below(2)],
-        3 => b[3] = 64 + far,
-        4 => b[68 + bridge] = byte(views, random),
-        5 if links > 0 => b[4 + 2 * link + random.below(2)] = byte(bridges, random),
-        6 if links > 0 => b[4 + 2 * link] = b[5 + 2 * link],
-        7 if links > 0 => b[100 + 8 * link + 4 * random.below(2) + 1] = byte(views, random),
-        8 if links > 0 => lent.costs.numbers_mut()[32 * random.below(views) + link] = 16_777_215 + far,
-        9 if count > 0 => m[5 * place] = links as u32 + far - 1,
-        10 if count > 0 => m[5 * place + 1] = 1 + far,
-        11 if count > 0 => m[5 * place + 2] = views as u32 + far - 1,
-        12 if count > 0 => m[5 * place + 3] = 65_535 + far,
-        13 if count > 0 => m[5 * place + 4] = 65_535 + far,
-        _ => return "nothing",
-    }
-    "damage"
 }
 
 #[test]
@@ -143,7 +94,7 @@ fn numbers_out_of_range_are_refused() {
         let plan = random_plan(&mut random);
         let run = Run::handed_in(&mut random, &plan).expect("a network");
         let mut lent = run.expected.clone();
-        if damage(&mut random, &mut lent) == "nothing" {
+        if !damage(&mut random, &mut lent) {
             continue;
         }
         let call = if random.one_in(11) { None } else { Some(random_call(&mut random, &run.network)) };

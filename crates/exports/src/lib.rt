@@ -3,6 +3,7 @@ mod benches;
 pub mod network;
 mod numbers;
 pub mod records;
+pub mod slices;
 
 ghost use mathlib.Core.Path.{_≡_};
 ghost use Rattle.distances.specs.Call.{outcome, distancesOf};

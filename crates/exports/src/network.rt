@@ -10,7 +10,6 @@ use bench::Reply;
 use bench::Way;
 use bench::answers;
 use bench::changes;
-use bench::messages;
 use distances::ready::both;
 ghost use mathlib.Core.Path.{_≡_};
 ghost use mathlib.Core.List.{[], _∷_};
@@ -32,7 +31,7 @@ fn number_of(reply: Reply) -> u8
 }
 
 // The new bench goes to `numbers` where the call was not refused.
-fn settle(changed: Changed, numbers: &mut [u32]) -> u8
+pub(crate) fn settle(changed: Changed, numbers: &mut [u32]) -> u8
     requires { ⌜ 388 ≤ length (now numbers) ⌝ }
     ensures { λ r. ⌜ (r ≡ number (changed .reply)) × (now (numbers .exit) ≡ withBench (number (changed .reply)) (changed .bench) (now (numbers .entry))) ⌝ }
 {
@@ -45,7 +44,7 @@ fn settle(changed: Changed, numbers: &mut [u32]) -> u8
 }
 
 // The answer goes to `out` too.
-fn settle_delivery(delivered: Delivered, numbers: &mut [u32], out: &mut [u32]) -> u8
+pub(crate) fn settle_delivery(delivered: Delivered, numbers: &mut [u32], out: &mut [u32]) -> u8
     requires { ⌜ (388 ≤ length (now numbers)) × (3 ≤ length (now out)) ⌝ }
     ensures { λ r. ⌜ (r ≡ reactionSays (delivered .reply) .number) × (now (numbers .exit) ≡ withAnswered (reactionSays (delivered .reply) .value) (delivered .bench) (now (numbers .entry))) × (now (out .exit) ≡ withValue answerNumbers (now (out .entry)) (reactionSays (delivered .reply) .value)) ⌝ }
 {
@@ -140,7 +139,7 @@ pub extern "C" fn bench_net_send(
         return 17;
     }
     let old = benches::load(bench);
-    let changed = messages::send(old, messages, bridge, link);
+    let changed = bench::messages::send(old, messages, bridge, link);
     settle(changed, bench)
 }
 
@@ -153,7 +152,7 @@ pub extern "C" fn bench_net_lose(bench: &mut [u32], messages: &mut [u32], place:
         return 17;
     }
     let old = benches::load(bench);
-    let changed = messages::lose(old, messages, place);
+    let changed = bench::messages::lose(old, messages, place);
     settle(changed, bench)
 }
 
@@ -178,7 +177,7 @@ pub extern "C" fn bench_net_deliver(
         return 17;
     }
     let old = benches::load(bench);
-    let delivered = messages::deliver(old, costs, tables, sent, held, messages, place);
+    let delivered = bench::messages::deliver(old, costs, tables, sent, held, messages, place);
     settle_delivery(delivered, bench, out)
 }
 
@@ -203,7 +202,7 @@ pub extern "C" fn bench_net_repeat(
         return 17;
     }
     let old = benches::load(bench);
-    let delivered = messages::repeat(old, costs, tables, sent, held, messages, place);
+    let delivered = bench::messages::repeat(old, costs, tables, sent, held, messages, place);
     settle_delivery(delivered, bench, out)
 }
 

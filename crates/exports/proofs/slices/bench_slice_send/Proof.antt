@@ -1,0 +1,56 @@
+-- `slices::bench_slice_send` meets its contract. Other than 320 numbers of messages, or a list that is too short, are refused first;
+-- else the call's own contract, over the bench and the messages that were read, gives the outcome. Assumes nothing.
+use Rattle.exports.specs.Network.{netSendTold}
+use Rattle.exports.specs.SliceCalls.{sliceSendTold}
+use borrow.Author.Tests.{eq-eqb, ne-eqb, lt-leb, le-leb}
+use borrow.Author.Needs.{needs}
+use Rattle.exports.proofs.slices.bench_slice_send.Statement.{statement}
+use Rattle.exports.proofs.slices.bench_slice_send.Tie as tie
+
+returns : tie.Need-returns
+unfolding sliceSendTold
+returns c = rw (ne-eqb _ _ (c .if1 .taken))
+
+returns-2 : tie.Need-returns-2
+unfolding sliceSendTold netSendTold
+returns-2 c = rw (eq-eqb _ _ (c .before .if1 .left), lt-leb _ _ (c .if2 .taken))
+
+load-requires : tie.Need-load-requires
+load-requires c κs = search needs
+
+array-of-requires : tie.Need-array-of-requires
+array-of-requires c κs = search needs
+
+send-requires : tie.Need-send-requires
+send-requires c κs = search needs
+
+put-array-requires : tie.Need-put-array-requires
+put-array-requires c κs = search needs
+
+settle-requires : tie.Need-settle-requires
+settle-requires c κs = search needs
+
+same-length : tie.Need-same-length
+same-length c = search needs
+
+same-length-2 : tie.Need-same-length-2
+same-length-2 c = search needs
+
+returns-3 : tie.Need-returns-3
+unfolding sliceSendTold netSendTold
+returns-3 c = rw (eq-eqb _ _ (c .before .before .before .before .before .before .before .before .before .before .before .before .before .before .before .before .if1 .left), le-leb _ _ (c .before .before .before .before .before .before .before .before .before .before .before .before .before .before .before .if2 .left), ← c .before .before .before .before .before .before .before .before .before .before .before .array-of .ensures, ← c .before .before .before .before .before .before .before .before .before .before .before .before .before .load .ensures, ← c .before .before .before .before .before .before .before .before .before .before .send .ensures, c .before .before .before .before .before .before .before .put-array .ensures, c .before .before .settle .ensures .0, c .before .before .settle .ensures .1)
+
+pub bench-slice-send-spec : {M : Type 1} → statement M
+bench-slice-send-spec =
+    tie.close
+    (tie.spec
+    returns
+    returns-2
+    load-requires
+    array-of-requires
+    send-requires
+    put-array-requires
+    settle-requires
+    same-length
+    same-length-2
+    returns-3)

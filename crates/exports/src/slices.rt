@@ -1,0 +1,140 @@
+// The calls on messages as a slice of structs, over numbers: each answers and leaves what the call of the same name in `network` does.
+// The messages are exactly 320 numbers, five for each struct; any other list of them is refused with 17.
+use crate::benches;
+use crate::network;
+use messages::plain;
+ghost use mathlib.Core.Path.{_≡_};
+ghost use mathlib.Core.List.{[], _∷_};
+ghost use lib.ListN.{length};
+ghost use Rattle.exports.specs.Call.{told};
+ghost use Rattle.exports.specs.SliceCalls.{sliceSendTold, sliceLoseTold, sliceDeliverTold, sliceRepeatTold};
+
+// The numbers of one list go to another that is as long.
+fn copy(from: &[u32], to: &mut [u32])
+    requires { ⌜ length (now from) ≡ length (now to) ⌝ }
+    ensures { λ _. ⌜ now (to .exit) ≡ now (from .entry) ⌝ }
+{
+    let mut k = 0;
+    while k < from.len() {
+        to[k] = from[k];
+        k += 1;
+    }
+}
+
+fn array_of(numbers: &[u32]) -> [u32; 320]
+    requires { ⌜ length (now numbers) ≡ 320 ⌝ }
+    ensures { λ r. ⌜ r ≡ now (numbers .entry) ⌝ }
+{
+    let mut array = [0u32; 320];
+    copy(numbers, &mut array);
+    array
+}
+
+fn put_array(array: [u32; 320], numbers: &mut [u32])
+    requires { ⌜ length (now numbers) ≡ 320 ⌝ }
+    ensures { λ _. ⌜ now (numbers .exit) ≡ array ⌝ }
+{
+    copy(&array, numbers);
+}
+
+// `messages::calls::send`
+#[no_mangle]
+pub extern "C" fn bench_slice_send(
+    bench: &mut [u32],
+    messages: &mut [u32],
+    bridge: usize,
+    link: usize,
+) -> u8
+    ensures { λ r. ⌜ told r (now (bench .exit) ∷ now (messages .exit) ∷ []) ≡ sliceSendTold (now (bench .entry)) (now (messages .entry)) bridge link ⌝ }
+{
+    if messages.len() != 320 {
+        return 17;
+    }
+    if bench.len() < 388 {
+        return 17;
+    }
+    let old = benches::load(bench);
+    let flown = plain::send(old, array_of(messages), bridge, link);
+    let numbers = flown.numbers;
+    put_array(numbers, messages);
+    let changed = flown.changed;
+    network::settle(changed, bench)
+}
+
+// `messages::calls::lose`
+#[no_mangle]
+pub extern "C" fn bench_slice_lose(bench: &mut [u32], messages: &mut [u32], place: usize) -> u8
+    ensures { λ r. ⌜ told r (now (bench .exit) ∷ now (messages .exit) ∷ []) ≡ sliceLoseTold (now (bench .entry)) (now (messages .entry)) place ⌝ }
+{
+    if messages.len() != 320 {
+        return 17;
+    }
+    if bench.len() < 388 {
+        return 17;
+    }
+    let old = benches::load(bench);
+    let flown = plain::lose(old, array_of(messages), place);
+    let numbers = flown.numbers;
+    put_array(numbers, messages);
+    let changed = flown.changed;
+    network::settle(changed, bench)
+}
+
+// `messages::calls::deliver`, the answer as for `bench_net_deliver`
+#[no_mangle]
+pub extern "C" fn bench_slice_deliver(
+    bench: &mut [u32],
+    costs: &[u32],
+    tables: &[u32],
+    sent: &mut [u32],
+    held: &mut [u32],
+    messages: &mut [u32],
+    place: usize,
+    out: &mut [u32],
+) -> u8
+    ensures { λ r. ⌜ told r (now (bench .exit) ∷ now (out .exit) ∷ now (sent .exit) ∷ now (held .exit) ∷ now (messages .exit) ∷ []) ≡ sliceDeliverTold (now (bench .entry)) (now (costs .entry)) (now (tables .entry)) (now (sent .entry)) (now (held .entry)) (now (messages .entry)) (now (out .entry)) place ⌝ }
+{
+    if messages.len() != 320 {
+        return 17;
+    }
+    if bench.len() < 388 {
+        return 17;
+    }
+    if out.len() < 3 {
+        return 17;
+    }
+    let old = benches::load(bench);
+    let taken = plain::deliver(old, costs, tables, sent, held, array_of(messages), place);
+    let numbers = taken.numbers;
+    put_array(numbers, messages);
+    let delivered = taken.delivered;
+    network::settle_delivery(delivered, bench, out)
+}
+
+// `messages::calls::repeat`, the answer as for `bench_net_deliver`
+#[no_mangle]
+pub extern "C" fn bench_slice_repeat(
+    bench: &mut [u32],
+    costs: &[u32],
+    tables: &[u32],
+    sent: &mut [u32],
+    held: &mut [u32],
+    messages: &[u32],
+    place: usize,
+    out: &mut [u32],
+) -> u8
+    ensures { λ r. ⌜ told r (now (bench .exit) ∷ now (out .exit) ∷ now (sent .exit) ∷ now (held .exit) ∷ now (messages .entry) ∷ []) ≡ sliceRepeatTold (now (bench .entry)) (now (costs .entry)) (now (tables .entry)) (now (sent .entry)) (now (held .entry)) (now (messages .entry)) (now (out .entry)) place ⌝ }
+{
+    if messages.len() != 320 {
+        return 17;
+    }
+    if bench.len() < 388 {
+        return 17;
+    }
+    if out.len() < 3 {
+        return 17;
+    }
+    let old = benches::load(bench);
+    let delivered = plain::repeat(old, costs, tables, sent, held, array_of(messages), place);
+    network::settle_delivery(delivered, bench, out)
+}

@@ -51,7 +51,6 @@ extern "C" {
     ) -> u8;
 }
 
-/// The slice form of each call that has one, by the same arguments.
 impl Lent {
     /// The call over structs; a call that has no such form is made over numbers.
     pub fn slice_call(&mut self, call: Call) -> u8 {

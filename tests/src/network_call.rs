@@ -51,40 +51,6 @@ extern "C" {
         link: usize,
     ) -> u8;
     fn bench_net_lose(bench: *mut u32, bench_len: usize, messages: *mut u32, messages_len: usize, place: usize) -> u8;
-    fn bench_net_deliver(
-        bench: *mut u32,
-        bench_len: usize,
-        costs: *const u32,
-        costs_len: usize,
-        tables: *const u32,
-        tables_len: usize,
-        sent: *mut u32,
-        sent_len: usize,
-        held: *mut u32,
-        held_len: usize,
-        messages: *mut u32,
-        messages_len: usize,
-        place: usize,
-        out: *mut u32,
-        out_len: usize,
-    ) -> u8;
-    fn bench_net_repeat(
-        bench: *mut u32,
-        bench_len: usize,
-        costs: *const u32,
-        costs_len: usize,
-        tables: *const u32,
-        tables_len: usize,
-        sent: *mut u32,
-        sent_len: usize,
-        held: *mut u32,
-        held_len: usize,
-        messages: *const u32,
-        messages_len: usize,
-        place: usize,
-        out: *mut u32,
-        out_len: usize,
-    ) -> u8;
     fn bench_net_port(
         bench: *const u32,
         bench_len: usize,
@@ -132,6 +98,42 @@ extern "C" {
         out: *mut u32,
         out_len: usize,
     ) -> u8;
+}
+
+/// Declares calls with the parameters of deliver, which are those of repeat too, over numbers and over structs. What is only read passes as
+/// what may be written.
+macro_rules! deliveries {
+    ($($name:ident),*) => {
+        extern "C" {
+            $(fn $name(
+                bench: *mut u32,
+                bench_len: usize,
+                costs: *const u32,
+                costs_len: usize,
+                tables: *const u32,
+                tables_len: usize,
+                sent: *mut u32,
+                sent_len: usize,
+                held: *mut u32,
+                held_len: usize,
+                messages: *mut u32,
+                messages_len: usize,
+                place: usize,
+                out: *mut u32,
+                out_len: usize,
+            ) -> u8;)*
+        }
+    };
+}
+deliveries!(bench_net_deliver, bench_net_repeat, bench_slice_deliver, bench_slice_repeat);
+
+/// Which of them.
+#[derive(Clone, Copy)]
+pub(crate) enum Delivery {
+    Deliver,
+    Repeat,
+    SliceDeliver,
+    SliceRepeat,
 }
 
 /// A buffer between guards, which no call may write.
@@ -228,8 +230,8 @@ impl Lent {
             Call::Cut(link) => self.cut(link),
             Call::Restore(link) => self.restore(link),
             Call::Send(bridge, link) => self.send(bridge, link),
-            Call::Deliver(place) => self.deliver(place),
-            Call::Repeat(place) => self.repeat(place),
+            Call::Deliver(place) => self.delivery(Delivery::Deliver, place),
+            Call::Repeat(place) => self.delivery(Delivery::Repeat, place),
             Call::Lose(place) => self.lose(place),
             Call::Port(bridge, dest) => self.port(bridge, dest),
             Call::Report(dest) => self.report(dest),
@@ -278,12 +280,18 @@ impl Lent {
         }
     }
 
-    fn deliver(&mut self, place: usize) -> u8 {
+    pub(crate) fn delivery(&mut self, which: Delivery, place: usize) -> u8 {
+        let exported = match which {
+            Delivery::Deliver => bench_net_deliver,
+            Delivery::Repeat => bench_net_repeat,
+            Delivery::SliceDeliver => bench_slice_deliver,
+            Delivery::SliceRepeat => bench_slice_repeat,
+        };
         let (b, c, t) = (self.bench.numbers_mut(), self.costs.numbers(), self.tables.numbers());
         let (s, h, m, o) =
             (self.sent.numbers_mut(), self.held.numbers_mut(), self.messages.numbers_mut(), self.out.numbers_mut());
         unsafe {
-            bench_net_deliver(
+            exported(
                 b.as_mut_ptr(),
                 b.len(),
                 c.as_ptr(),
@@ -295,30 +303,6 @@ impl Lent {
                 h.as_mut_ptr(),
                 h.len(),
                 m.as_mut_ptr(),
-                m.len(),
-                place,
-                o.as_mut_ptr(),
-                o.len(),
-            )
-        }
-    }
-
-    fn repeat(&mut self, place: usize) -> u8 {
-        let (b, c, t) = (self.bench.numbers_mut(), self.costs.numbers(), self.tables.numbers());
-        let (s, h, m, o) = (self.sent.numbers_mut(), self.held.numbers_mut(), self.messages.numbers(), self.out.numbers_mut());
-        unsafe {
-            bench_net_repeat(
-                b.as_mut_ptr(),
-                b.len(),
-                c.as_ptr(),
-                c.len(),
-                t.as_ptr(),
-                t.len(),
-                s.as_mut_ptr(),
-                s.len(),
-                h.as_mut_ptr(),
-                h.len(),
-                m.as_ptr(),
                 m.len(),
                 place,
                 o.as_mut_ptr(),

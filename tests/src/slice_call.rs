@@ -2,7 +2,7 @@
 //! `requires`, so any argument is allowed.
 
 use crate::network::Call;
-use crate::network_call::Lent;
+use crate::network_call::{Delivery, Lent};
 
 // A slice passes as a pointer and then a length. Nothing checks these declarations against crates/exports/src/slices.rt.
 extern "C" {
@@ -15,40 +15,6 @@ extern "C" {
         link: usize,
     ) -> u8;
     fn bench_slice_lose(bench: *mut u32, bench_len: usize, messages: *mut u32, messages_len: usize, place: usize) -> u8;
-    fn bench_slice_deliver(
-        bench: *mut u32,
-        bench_len: usize,
-        costs: *const u32,
-        costs_len: usize,
-        tables: *const u32,
-        tables_len: usize,
-        sent: *mut u32,
-        sent_len: usize,
-        held: *mut u32,
-        held_len: usize,
-        messages: *mut u32,
-        messages_len: usize,
-        place: usize,
-        out: *mut u32,
-        out_len: usize,
-    ) -> u8;
-    fn bench_slice_repeat(
-        bench: *mut u32,
-        bench_len: usize,
-        costs: *const u32,
-        costs_len: usize,
-        tables: *const u32,
-        tables_len: usize,
-        sent: *mut u32,
-        sent_len: usize,
-        held: *mut u32,
-        held_len: usize,
-        messages: *const u32,
-        messages_len: usize,
-        place: usize,
-        out: *mut u32,
-        out_len: usize,
-    ) -> u8;
 }
 
 impl Lent {
@@ -57,8 +23,8 @@ impl Lent {
         match call {
             Call::Send(bridge, link) => self.slice_send(bridge, link),
             Call::Lose(place) => self.slice_lose(place),
-            Call::Deliver(place) => self.slice_deliver(place),
-            Call::Repeat(place) => self.slice_repeat(place),
+            Call::Deliver(place) => self.delivery(Delivery::SliceDeliver, place),
+            Call::Repeat(place) => self.delivery(Delivery::SliceRepeat, place),
             _ => self.call(call),
         }
     }
@@ -73,54 +39,5 @@ impl Lent {
     fn slice_lose(&mut self, place: usize) -> u8 {
         let (b, m) = (self.bench.numbers_mut(), self.messages.numbers_mut());
         unsafe { bench_slice_lose(b.as_mut_ptr(), b.len(), m.as_mut_ptr(), m.len(), place) }
-    }
-
-    fn slice_deliver(&mut self, place: usize) -> u8 {
-        let (b, c, t) = (self.bench.numbers_mut(), self.costs.numbers(), self.tables.numbers());
-        let (s, h, m, o) =
-            (self.sent.numbers_mut(), self.held.numbers_mut(), self.messages.numbers_mut(), self.out.numbers_mut());
-        unsafe {
-            bench_slice_deliver(
-                b.as_mut_ptr(),
-                b.len(),
-                c.as_ptr(),
-                c.len(),
-                t.as_ptr(),
-                t.len(),
-                s.as_mut_ptr(),
-                s.len(),
-                h.as_mut_ptr(),
-                h.len(),
-                m.as_mut_ptr(),
-                m.len(),
-                place,
-                o.as_mut_ptr(),
-                o.len(),
-            )
-        }
-    }
-
-    fn slice_repeat(&mut self, place: usize) -> u8 {
-        let (b, c, t) = (self.bench.numbers_mut(), self.costs.numbers(), self.tables.numbers());
-        let (s, h, m, o) = (self.sent.numbers_mut(), self.held.numbers_mut(), self.messages.numbers(), self.out.numbers_mut());
-        unsafe {
-            bench_slice_repeat(
-                b.as_mut_ptr(),
-                b.len(),
-                c.as_ptr(),
-                c.len(),
-                t.as_ptr(),
-                t.len(),
-                s.as_mut_ptr(),
-                s.len(),
-                h.as_mut_ptr(),
-                h.len(),
-                m.as_ptr(),
-                m.len(),
-                place,
-                o.as_mut_ptr(),
-                o.len(),
-            )
-        }
     }
 }

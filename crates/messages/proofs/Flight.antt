@@ -1,5 +1,5 @@
 -- The slice's messages and their numbers: what the two writes of the slice, `movedUp` and `putFrom`, make of the numbers of its first 64, and what they leave alone.
---     numbers-…        the numbers of a part, and of a run of stores        message-again    the numbers say the message again
+--     numbers-…        the numbers of a part, and of a run of stores
 --     moved-flight     the messages moved up, in the numbers        moved-rest, put-rest     what lies past the first 64
 --     written-front    what `numbers_of` leaves in the front of a lent table
 -- Assumes nothing.
@@ -7,11 +7,11 @@ use mathlib.Core.Path.{_≡_, refl, sym, _∙_, ap}
 use Prim.Native.Nat.{ℕ, zero, suc, _+_, _-_, _*_, _≤_, min}
 use native.Mathlib.Omega.{arith}
 use mathlib.Core.List.{List, [], _∷_}
-use lib.ListN.{length, getD, set, take, drop, length-take}
+use lib.ListN.{length, set, take, drop, length-take}
 use lib.Seq.{sets, take-at, take-nil, drop-nil, length-take-le, sets-eq}
 use Rattle.messages.specs.declared.Message.{Message}
 use Rattle.messages.specs.Slices.{numbersIn, flight}
-use Rattle.messages.specs.Steps.{shifted, messageOf, messageAt, movedUp, messagesOf, putFrom}
+use Rattle.messages.specs.Steps.{shifted, movedUp, messagesOf, putFrom}
 use Rattle.messages.proofs.Stores.{take-sets, drop-sets, part-of-front}
 
 -- ---- the numbers of a part
@@ -54,23 +54,6 @@ numbers-sets (m ∷ vs) ms i =
     numbers-sets vs (set ms i m) (suc i)
     ∙ ap (λ (r : List ℕ). sets r (5 * suc i) (numbersIn vs)) (numbers-set ms i m)
     ∙ ap (λ (k : ℕ). sets (sets (numbersIn ms) (5 * i) (numbersIn (m ∷ []))) k (numbersIn vs)) (five-more i)
-
--- ---- a message from its numbers
-
-pub message-again : (ms : List Message) (p : ℕ) → messageOf (numbersIn ms) p ≡ messageAt ms p
-unfolding numbersIn
-message-again [] p = refl
-message-again (m ∷ ms) zero = refl
-message-again (m ∷ ms) (suc p) = later ∙ message-again ms p
-  where
-    number : (j : ℕ) → getD (numbersIn (m ∷ ms)) (5 * suc p + j) 0 ≡ getD (numbersIn ms) (5 * p + j) 0
-    number j = let e : 5 * suc p + j ≡ suc (suc (suc (suc (suc (5 * p + j))))) = omega arith in ap (λ (k : ℕ). getD (numbersIn (m ∷ ms)) k 0) e
-
-    first : getD (numbersIn (m ∷ ms)) (5 * suc p) 0 ≡ getD (numbersIn ms) (5 * p) 0
-    first = ap (λ (k : ℕ). getD (numbersIn (m ∷ ms)) k 0) (five-more p)
-
-    later : messageOf (numbersIn (m ∷ ms)) (suc p) ≡ messageOf (numbersIn ms) p
-    later = λ i. record { link = first i; direction = number 1 i; view = number 2 i; number = number 3 i; discarded = number 4 i }
 
 -- ---- messages moved up
 

@@ -12,7 +12,6 @@ pub mod Rows
 pub mod Shifts
 pub mod Stores
 pub mod Flight
-pub mod SlicePlaces
 pub mod LocalArray
 pub mod PlainLaws
 pub mod PlainCalls

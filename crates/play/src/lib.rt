@@ -8,15 +8,18 @@ ghost use Prim.Native.Nat.{_≤_};
 ghost use lib.ListN.{length};
 
 // Reads a plan and prints all that document 01 asks for it. The buffer has one byte more than the longest plan, so that a longer
-// one is seen.
-pub fn play(fd: i32) {
+// one is seen. The reply is the number of bytes that were carried out as a plan, none of one that is too long.
+pub fn play(fd: i32) -> usize
+    ensures { λ r. ⌜ r ≤ 61440 ⌝ }
+{
     let mut plan = [0u8; 61441];
     let n = io::read_full(fd, &mut plan);
     if 61440 < n {
         io::write_all(STDOUT_FILENO, b"refused 18 at 61440\n");
-        return;
+        return 0;
     }
     carry_out(&plan[..n]);
+    n
 }
 
 // Counts in what a step wrote behind what waits: at most 544 bytes, by the step's contract; the test spares the proof. Where the next

@@ -10,7 +10,7 @@ use borrow.Author.Tests.{eqb-false, ltb-true, ltb-false, lt-ltb, le-ltb, le-leb,
 use lib.Dec.{eqb, leb, ltb}
 use lib.ListN.{length, getD}
 use Rattle.distances.specs.Call.{allBelow}
-use Rattle.distances.proofs.Ranges.{allBelow-true}
+use Rattle.distances.proofs.Ranges.{allBelow-true, allBelow-none, allBelow-more}
 
 -- inside a list the default does not matter
 pub getD-default : {A : Type 0} (l : List A) (i : ℕ) (d e : A) → i < length l → getD l i d ≡ getD l i e
@@ -38,8 +38,7 @@ byte-below views bound v byte cut = go (eqb v 255) (ltb v views) refl refl
 -- ---- a test of every number below n
 
 pub all-more : (n : ℕ) (test : ℕ → Bool) {ok t r : Bool} → r ≡ (ok && t) → ok ≡ allBelow n test → t ≡ test n → r ≡ allBelow (n + 1) test
-unfolding allBelow
-all-more n test e d h = e ∙ rw (add-one, d, h)
+all-more n test e d h = e ∙ rw (add-one, allBelow-more, d, h)
 
 -- one that fails
 pub all-fails : (n : ℕ) (test : ℕ → Bool) (k : ℕ) → k < n → test k ≡ false → false ≡ allBelow n test
@@ -50,6 +49,5 @@ all-fails n test k h f = go (allBelow n test) refl
     go false e = refl
 
 pub all-cong : (n : ℕ) (test other : ℕ → Bool) → ((k : ℕ) → k < n → test k ≡ other k) → allBelow n test ≡ allBelow n other
-unfolding allBelow
-all-cong zero test other h = refl
-all-cong (suc n) test other h = rw (all-cong n test other (λ k b. h k (omega arith)), h n (omega arith))
+all-cong zero test other h = sym (allBelow-none test) ∙ allBelow-none other
+all-cong (suc n) test other h = rw (allBelow-more n test, allBelow-more n other, all-cong n test other (λ k b. h k (omega arith)), h n (omega arith))

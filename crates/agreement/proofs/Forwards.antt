@@ -12,7 +12,7 @@ use Rattle.distances.specs.Distance.{present, dist}
 use Rattle.distances.specs.Meaning.{Joins}
 use Rattle.distances.specs.Call.{every}
 use Rattle.distances.proofs.Booleans.{both-true, true-both, otherwise, due, unequal}
-use Rattle.distances.proofs.Ranges.{every-true, allBelow-true, true-allBelow}
+use Rattle.distances.proofs.Ranges.{every-none, every-more, every-true, allBelow-true, true-allBelow}
 use Rattle.distances.proofs.Laws.{next-hop}
 use Rattle.distances.proofs.Joined.{AreEnds, present-cost, cost-present}
 use Rattle.agreement.specs.Offer.{linkOf, farBridge}
@@ -98,9 +98,11 @@ module _ (g : Graph) (f : ℕ → ℕ → ℕ) (r : Records) (y d : ℕ) where
       }
 
   told-conditions : (e : ℕ) → Conditions g f r y d e → every (conditions g f r y d e) ≡ true
-  unfolding every conditions isNotDestination hasPath isUp heldSuffices
+  unfolding conditions isNotDestination hasPath isUp heldSuffices
   told-conditions e a =
-      rw (
+      simp (
+        every-more,
+        every-none,
         ne-eqb y d (a .notDestination),
         ne-eqb (f y d) NONE (a .hasPath),
         a .up,

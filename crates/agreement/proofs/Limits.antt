@@ -12,7 +12,7 @@ use lib.Dec.{eqb, ltb}
 use Rattle.distances.specs.View.{NONE}
 use Rattle.distances.specs.Table.{cell, rewritten, isInRow}
 use Rattle.distances.proofs.Booleans.{both-true, cond-by}
-use Rattle.distances.proofs.Tables.{rewritten-length, rewritten-at, rewritten-is, rewritten-none, rewritten-set, row-of, column-of}
+use Rattle.distances.proofs.Tables.{cell-is, isInRow-is, rewritten-length, rewritten-at, rewritten-is, rewritten-none, rewritten-set, row-of, column-of}
 use Rattle.distances.proofs.Steps.{ltb-more}
 use Rattle.agreement.specs.declared.Agreement.{Agreement}
 use Rattle.agreement.specs.declared.EndRecord.{EndRecord}
@@ -48,9 +48,8 @@ module _ (how : Rewrite) (offers : ℕ → ℕ) (row : List ℕ) where
 -- ---- the table around a row
 
 row-true : (n e p : ℕ) → isInRow n e p ≡ true → (p / 16 ≡ e) × (p % 16 < n)
-unfolding isInRow
 row-true n e p w =
-    let h = both-true (eqb (p / 16) e) (ltb (p % 16) n) w in
+    let h = both-true (eqb (p / 16) e) (ltb (p % 16) n) (rw isInRow-is at w) in
     (eqb-true (p / 16) e (h .0), ltb-true (p % 16) n (h .1))
 
 module _ (n e : ℕ) (f : ℕ → ℕ) (t : List ℕ) where
@@ -72,29 +71,27 @@ module _ (n e : ℕ) (f : ℕ → ℕ) (t : List ℕ) where
 
   -- the end's own limits
   pub cell-same : (d : ℕ) → d < n → n ≤ 16 → 16 * e + 16 ≤ length t → cell (withLimits n e f t) e d ≡ f d
-  unfolding cell isInRow
   cell-same d h most long =
-      withLimits-at (16 * e + d) (omega arith)
-      ∙ rw (row-of e d (omega arith), column-of e d (omega arith), eq-eqb e e refl, lt-ltb d n h)
+      cell-is (withLimits n e f t) e d
+      ∙ withLimits-at (16 * e + d) (omega arith)
+      ∙ rw (isInRow-is, row-of e d (omega arith), column-of e d (omega arith), eq-eqb e e refl, lt-ltb d n h)
 
   -- a number of another row
   pub cell-other : (i d : ℕ) → (i ≡ e → ⊥) → d < 16 → cell (withLimits n e f t) i d ≡ cell t i d
-  unfolding cell isInRow
-  cell-other i d apart h = go (ltb (16 * i + d) (length t)) refl
+  cell-other i d apart h = simp cell-is (go (ltb (16 * i + d) (length t)) refl)
     where
       go : (b : Bool) → ltb (16 * i + d) (length t) ≡ b → getD (withLimits n e f t) (16 * i + d) 0 ≡ getD t (16 * i + d) 0
-      go true w = withLimits-at (16 * i + d) (ltb-true _ _ w) ∙ rw (row-of i d h, ne-eqb i e apart)
+      go true w = withLimits-at (16 * i + d) (ltb-true _ _ w) ∙ rw (isInRow-is, row-of i d h, ne-eqb i e apart)
       go false w =
           let past = ltb-false _ _ w in
           List·getD-eq-default (withLimits n e f t) 0 (rw withLimits-length past) ∙ sym (List·getD-eq-default t 0 past)
 
   -- limits that stay
   pub withLimits-keep : ((d : ℕ) → d < n → f d ≡ cell t e d) → withLimits n e f t ≡ t
-  unfolding cell
   withLimits-keep same = sym (withLimits-is t refl (λ p b. cond-by (isInRow n e p) (λ w. at p (row-true n e p w)) (λ w. refl)))
     where
       at : (p : ℕ) → (p / 16 ≡ e) × (p % 16 < n) → getD t p 0 ≡ f (p % 16)
-      at p h = ap (λ (q : ℕ). getD t q 0) (omega arith) ∙ sym (same (p % 16) (h .1))
+      at p h = ap (λ (q : ℕ). getD t q 0) (omega arith) ∙ sym (cell-is t e (p % 16)) ∙ sym (same (p % 16) (h .1))
 
 pub withLimits-cong : (n e : ℕ) (f g : ℕ → ℕ) (t : List ℕ) → ((d : ℕ) → d < n → f d ≡ g d) → withLimits n e f t ≡ withLimits n e g t
 withLimits-cong n e f g t same =
@@ -137,7 +134,7 @@ module _ (n e : ℕ) (how : Rewrite) (offers : ℕ → ℕ) (t : List ℕ) (most
       row ≡ take 16 (drop (16 * e) t) →
       ys ≡ rewritten (λ d. ltb d n) (rowAfter how offers (λ d. getD row d 0)) row →
       putBack (16 * e) 16 t ys ≡ withLimits n e (rowAfter how offers (cell t e)) t
-  unfolding isInRow rowAfter cell
+  unfolding rowAfter
   row-back-16 row ys part back =
       withLimits-is n e (rowAfter how offers (cell t e)) t (putBack (16 * e) 16 t ys) (back-length (16 * e) 16 t ys long size)
       (λ p b. go p (ltb p (16 * e)) refl (ltb p (16 * e + 16)) refl)
@@ -159,15 +156,15 @@ module _ (n e : ℕ) (how : Rewrite) (offers : ℕ → ℕ) (t : List ℕ) (most
           back-part (16 * e) 16 t ys long size d h
           ∙ ap (λ (l : List ℕ). getD l d 0) back
           ∙ rewritten-at (λ k. ltb k n) (rowAfter how offers (λ k. getD row k 0)) row d (rw row-size h)
-          ∙ rw (row-at d h, row-of e d h, column-of e d h, eq-eqb e e refl)
+          ∙ rw (isInRow-is, cell-is, row-at d h, row-of e d h, column-of e d h, eq-eqb e e refl)
 
       beyond : (d : ℕ) → Holds (16 * e + (16 + d))
-      beyond d = back-after (16 * e) 16 t ys long size d ∙ rw (ne-eqb ((16 * e + (16 + d)) / 16) e (λ z. omega arith))
+      beyond d = back-after (16 * e) 16 t ys long size d ∙ rw (isInRow-is, ne-eqb ((16 * e + (16 + d)) / 16) e (λ z. omega arith))
 
       go : (p : ℕ) (a : Bool) → ltb p (16 * e) ≡ a → (b : Bool) → ltb p (16 * e + 16) ≡ b → Holds p
       go p true w b z =
           let h : p < 16 * e = ltb-true p (16 * e) w in
-          back-front (16 * e) 16 t ys long size p h ∙ rw (ne-eqb (p / 16) e (λ y. omega arith))
+          back-front (16 * e) 16 t ys long size p h ∙ rw (isInRow-is, ne-eqb (p / 16) e (λ y. omega arith))
       go p false w true z =
           let h : 16 * e + (p - 16 * e) ≡ p = omega (arith, ltb-false p (16 * e) w) in
           rw h at (inside (p - 16 * e) (omega (arith, ltb-true p (16 * e + 16) z)))

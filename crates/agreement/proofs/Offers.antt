@@ -1,7 +1,7 @@
 -- Offers: in plain numbers, and, where the lent table holds the distances, the offers of the view. Assumes nothing.
 use Prim.Native.Nat.{ℕ, _+_, _*_, _/_, _≤_, _<_}
 use native.Mathlib.Omega.{arith}
-use mathlib.Core.Path.{_≡_, refl}
+use mathlib.Core.Path.{_≡_, refl, sym, fun-ext}
 use mathlib.Core.Bool.{Bool, true, false, cond, _&&_}
 use borrow.Author.Tests.{ltb-true}
 use lib.ListN.{getD}
@@ -12,6 +12,7 @@ use Rattle.distances.specs.Distance.{present, dist}
 use Rattle.distances.proofs.Booleans.{both-true}
 use Rattle.distances.proofs.Ranges.{at-bridge, graph-in-range, costs-in-range}
 use Rattle.distances.proofs.Laws.{dist-bound, dist-le-none}
+use Rattle.distances.proofs.Joined.{present-is}
 use Rattle.agreement.specs.Offer.{opposite, offer}
 use Rattle.agreement.specs.Limits.{limitOf}
 use Rattle.agreement.specs.Call.{Lent, lentGraph, lentInRange, lentOffer}
@@ -21,8 +22,8 @@ pub lent-offer :
     (v : Lent) (e d : ℕ) →
     lentOffer v e d
     ≡ limitOf (getD (v .costs) (e / 2) 0) (cell (v .table) (getD (v .ends) e 0) d) (cell (v .table) (getD (v .ends) (opposite e) 0) d)
-unfolding lentOffer offer limitOf present
-lent-offer v e d = refl
+unfolding lentOffer offer limitOf
+lent-offer v e d = rw present-is
 
 -- the whole row of end e, o being that end, a its opposite and l its link
 pub lent-offers :
@@ -31,8 +32,7 @@ pub lent-offers :
     a ≡ opposite e →
     l ≡ e / 2 →
     (λ d. limitOf (getD (v .costs) l 0) (cell (v .table) (getD (v .ends) o 0) d) (cell (v .table) (getD (v .ends) a 0) d)) ≡ lentOffer v e
-unfolding lentOffer offer limitOf present
-lent-offers v e o a l p q r = rw (p, q, r)
+lent-offers v e o a l p q r = fun-ext (λ d. rw (p, q, r) (sym (lent-offer v e d)))
 
 -- the table holds the view's distances
 abbrev pub HoldsDistances : Lent → Type 0

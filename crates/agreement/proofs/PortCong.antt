@@ -7,8 +7,8 @@ use mathlib.Core.Bool.{Bool, true, false, cond, _&&_}
 use borrow.Author.Tests.{ltb-true}
 use lib.Dec.{ltb}
 use Rattle.distances.specs.View.{Graph, Costs, InRange}
-use Rattle.distances.specs.Distance.{present}
 use Rattle.distances.specs.Call.{every}
+use Rattle.distances.proofs.Joined.{present-same}
 use Rattle.agreement.specs.Offer.{linkOf, opposite, farBridge}
 use Rattle.agreement.specs.Forwarding.{Records, reaches, chosenEnd, hasPath, isUp, heldSuffices, sentAllows, everySentAllows, conditions, portFrom, port}
 use Rattle.agreement.specs.declared.Port.the-variants.{Closed, Open}
@@ -35,9 +35,10 @@ module _
     (low : y < g .bridges)
     (same : Alike g c k f h r q d) where
   reaches-same : (e : ℕ) → e < 2 * g .links → reaches g c f y d e ≡ reaches g k h y d e
-  unfolding reaches present
+  unfolding reaches
   reaches-same e he =
       rw (
+        present-same c k (linkOf e) (same .costs (linkOf e) (omega arith)),
         same .costs (linkOf e) (omega arith),
         same .distances (farBridge g e) (bridge-in-range g inside (opposite e) (opposite-below e _ he)),
         same .distances y low,

@@ -10,7 +10,7 @@ use Rattle.distances.specs.View.{Graph, NONE, graphOf, costsOf}
 use Rattle.distances.specs.Table.{cell}
 use Rattle.distances.specs.Call.{every}
 use Rattle.distances.proofs.Booleans.{not-both}
-use Rattle.distances.proofs.Ranges.{refused}
+use Rattle.distances.proofs.Ranges.{every-none, every-more, refused}
 use Rattle.agreement.specs.Forwarding.{
   Records,
   chosenEnd,
@@ -48,15 +48,17 @@ module _ (g : Graph) (f : ℕ → ℕ → ℕ) (r : Records) (y d e : ℕ) where
   unfolding portFrom
   closed-beyond h = rw (le-ltb e (2 * g .links) h)
 
--- an end is chosen, and the first two conditions hold
+-- an end is chosen, and the first two conditions hold; `own` is the bridge's distance
 pub port-at-is :
-    (bridges links : ℕ) (ends costs table : List ℕ) (cut : List Bool) (records : List EndRecord) (sent held : List ℕ) (y d e : ℕ) →
+    (bridges links : ℕ) (ends costs table : List ℕ) (cut : List Bool) (records : List EndRecord) (sent held : List ℕ) (y d own e : ℕ) →
+    own ≡ cell table y d →
     e ≡ chosenEnd (graphOf bridges links ends) (costsOf costs) (cell table) y d →
     (y ≡ d → ⊥) →
-    (cell table y d ≡ NONE → ⊥) →
+    (own ≡ NONE → ⊥) →
     e < 2 * links →
-    portAt links ends cut records sent held y d (cell table y d) e
+    portAt links ends cut records sent held y d own e
     ≡ port (graphOf bridges links ends) (costsOf costs) (cell table) (lentRecords cut records sent held) y d
-unfolding portAt port portFrom conditions every isNotDestination hasPath isUp heldSuffices everySentAllows sentAllows sentAllowsAt
-port-at-is bridges links ends costs table cut records sent held y d e chosen apart path h =
-    rw (sym chosen, lt-ltb e (2 * links) h, ne-eqb y d apart, ne-eqb (cell table y d) NONE path, and-true)
+unfolding portAt port portFrom conditions isNotDestination hasPath isUp heldSuffices everySentAllows sentAllows sentAllowsAt
+port-at-is bridges links ends costs table cut records sent held y d own e is chosen apart path h =
+    rw is
+    (simp (sym chosen, every-more, every-none, lt-ltb e (2 * links) h, ne-eqb y d apart, ne-eqb (cell table y d) NONE (rw is at path), and-true))

@@ -1,6 +1,6 @@
 -- The laws of `joinedBelow`, the least by at most one link: what it says of the links that join two bridges. Assumes nothing.
 use Prim.Native.Nat.{ℕ, zero, suc, _+_, _*_, _<_, _≤_, min}
-use mathlib.Core.Bool.{Bool, true, false, cond, _&&_, or-comm, or-true}
+use mathlib.Core.Bool.{Bool, true, false, cond, _&&_, not, or-comm, or-true}
 use mathlib.Core.Path.{_≡_, refl, sym, ap}
 use mathlib.Core.Logic.{_⊎_, inl, inr}
 use native.Mathlib.Nat.{le-refl, le-of-suc-le-suc, not-suc-le-zero, eq-or-lt-of-le, min-eq-left, min-eq-right}
@@ -14,6 +14,10 @@ use Rattle.distances.specs.Distance.{present, joins, crossing, unjoined,
 use Rattle.distances.proofs.Booleans.{both-true, one-true, unequal}
 
 -- a link is present where its cost is not 0, and only there
+pub present-is : (c : Costs) (l : ℕ) → present c l ≡ not (eqb (c l) 0)
+unfolding present
+present-is c l = refl
+
 pub present-cost : (c : Costs) (l : ℕ) → present c l ≡ true → c l ≡ 0 → ⊥
 unfolding present
 present-cost c l = unequal (c l) 0

@@ -5,7 +5,7 @@ use native.Mathlib.Nat.{not-suc-le-zero}
 use native.Mathlib.Omega.{arith}
 use mathlib.Core.Path.{_≡_, refl, sym, subst}
 use mathlib.Core.Logic.{_⊎_, inl, inr}
-use mathlib.Core.Bool.{Bool, true, false, not, and-true}
+use mathlib.Core.Bool.{Bool, true, false, _&&_, not, and-true}
 use mathlib.Core.List.{List, [], _∷_}
 use borrow.Author.Tests.{ltb-true, leb-true, eqb-true, eqb-false, not-true, le-leb, lt-ltb, ne-eqb}
 use lib.ListN.{length, getD}
@@ -13,6 +13,15 @@ use lib.Dec.{eqb, leb, ltb}
 use Rattle.distances.specs.Call.{every, allBelow, linkPasses, linkInRange, costsPass, inRange}
 use Rattle.distances.specs.View.{InRange, CostsInRange, graphOf, costsOf, maxCost}
 use Rattle.distances.proofs.Booleans.{both-true, true-both, not-both}
+
+-- of no tests every one holds; of one test more, that one and the others
+pub every-none : every [] ≡ true
+unfolding every
+every-none = refl
+
+pub every-more : (b : Bool) (bs : List Bool) → every (b ∷ bs) ≡ (b && every bs)
+unfolding every
+every-more b bs = refl
 
 pub refused : (i : ℕ) (bs : List Bool) → getD bs i true ≡ false → false ≡ every bs
 unfolding every
@@ -38,6 +47,11 @@ allBelow-true (suc n) test e l h = go (eqb l n) refl (allBelow-true n test (both
 pub allBelow-none : (test : ℕ → Bool) → true ≡ allBelow 0 test
 unfolding allBelow
 allBelow-none test = refl
+
+-- below one number more: the test holds of that number too
+pub allBelow-more : (n : ℕ) (test : ℕ → Bool) → allBelow (suc n) test ≡ (allBelow n test && test n)
+unfolding allBelow
+allBelow-more n test = refl
 
 pub true-allBelow : (n : ℕ) (test : ℕ → Bool) → ((i : ℕ) → i < n → test i ≡ true) → allBelow n test ≡ true
 unfolding allBelow

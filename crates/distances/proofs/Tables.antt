@@ -3,14 +3,26 @@ use Prim.Native.Nat.{ℕ, zero, suc, _+_, _*_, _/_, _%_, _≤_, _<_}
 use native.Mathlib.Nat.{zero-add, suc-add, add-suc, add-zero, not-suc-le-zero, le-of-suc-le-suc}
 use native.Mathlib.Omega.{arith}
 use mathlib.Core.Path.{_≡_, refl, sym, _∙_, ap}
-use mathlib.Core.Bool.{Bool, true, false, cond}
+use mathlib.Core.Bool.{Bool, true, false, cond, _&&_}
 use mathlib.Core.List.{List, [], _∷_}
 use borrow.Author.Tests.{ltb-true, lt-ltb, eqb-true, eqb-false}
 use lib.ListN.{length, getD, set, length-set, take, drop}
 use lib.Seq.{ext-getD, getD-set-same, getD-set-other, getD-take, getD-drop}
 use lib.Dec.{eqb, ltb}
-use Rattle.distances.specs.Table.{cell, rewrittenFrom, rewritten, isPair, withPairs}
+use Rattle.distances.specs.Table.{cell, rewrittenFrom, rewritten, isInRow, isPair, withPairs}
 use Rattle.distances.proofs.Booleans.{cond-by, both-true, true-both}
+
+-- ---- places
+
+-- the place where a cell stands
+pub cell-is : (t : List ℕ) (i j : ℕ) → cell t i j ≡ getD t (16 * i + j) 0
+unfolding cell
+cell-is t i j = refl
+
+-- what tells that a place is in a row: its row, and its column
+pub isInRow-is : (n i p : ℕ) → isInRow n i p ≡ (eqb (p / 16) i && ltb (p % 16) n)
+unfolding isInRow
+isInRow-is n i p = refl
 
 -- ---- a list rewritten
 

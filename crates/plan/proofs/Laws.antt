@@ -11,7 +11,7 @@ use lib.Dec.{eqb, leb, ltb}
 use Rattle.distances.specs.Call.{allBelow}
 use Rattle.distances.specs.Refusal.{check, refusal}
 use Rattle.distances.proofs.Booleans.{both-true, one-true}
-use Rattle.distances.proofs.Ranges.{allBelow-true}
+use Rattle.distances.proofs.Ranges.{allBelow-true, allBelow-none, allBelow-more}
 use Rattle.plan.specs.Fields.{byte, tag, valueLength, size, lengthFor, costIn, eventBy, fieldOf}
 use Rattle.plan.specs.Reading.{outOfOrder, headerChecks, costsFit, bridgeChecks, linkChecks, viewChecks, valueChecks, fieldRefusal, readOf, readReply}
 use Rattle.plan.specs.declared.Progress.{Progress}
@@ -47,9 +47,9 @@ Told rest p (Field.Event v) = 2 ≤ p .stage
 
 -- the tests of all costs, as the tests below a bound
 fits-below : (rest : List ℕ) (k : ℕ) → costsFit rest k ≡ allBelow k (λ l. leb (costIn rest l) 16777215)
-unfolding costsFit allBelow
-fits-below rest zero = refl
-fits-below rest (suc k) = rw (fits-below rest k)
+unfolding costsFit
+fits-below rest zero = allBelow-none _
+fits-below rest (suc k) = rw (fits-below rest k, allBelow-more)
 
 -- a view's stage is 1 or 2
 view-stage : (s : ℕ) → not (eqb s 1 || eqb s 2) ≡ false → (1 ≤ s) × (s ≤ 2)

@@ -5,8 +5,9 @@ use mathlib.Core.Path.{_≡_, refl, sym, _∙_}
 use mathlib.Core.Bool.{true}
 use borrow.Author.Needs.{needs}
 use borrow.Author.Tests.{not-true, not-false}
-use Rattle.distances.specs.Table.{cell}
 use Rattle.distances.specs.Call.{allBelow}
+use Rattle.distances.proofs.Tables.{cell-is}
+use Rattle.distances.proofs.Ranges.{allBelow-none}
 use Rattle.agreement.specs.Steps.{sentAllowsAt}
 use Rattle.agreement.proofs.Basics.{all-more, all-fails}
 use Rattle.agreement.proofs.ports.every_sent_allows.Statement.{statement}
@@ -19,8 +20,7 @@ abbrev μ-loop : tie.MeasureT-loop
 μ-loop links ends sent bridge dest own cut e₀ e = 2 * links - e
 
 loop-holds : tie.Need-loop-holds Inv-loop μ-loop
-unfolding allBelow
-loop-holds c = (omega arith, refl)
+loop-holds c = (omega arith, allBelow-none _)
 
 mul-loop : tie.Need-mul-loop Inv-loop μ-loop
 mul-loop c = omega arith
@@ -47,8 +47,8 @@ allows-by-requires : tie.Need-allows-by-requires Inv-loop μ-loop
 allows-by-requires c κs = search needs
 
 returns : tie.Need-returns Inv-loop μ-loop
-unfolding sentAllowsAt cell
-returns c = all-fails _ _ (c .before .before .before .before .before .loop .e) (omega arith) (sym (c .before .allows-by .ensures) ∙ not-true _ (c .if1 .taken))
+unfolding sentAllowsAt
+returns c = all-fails _ _ (c .before .before .before .before .before .loop .e) (omega arith) (rw cell-is (sym (c .before .allows-by .ensures) ∙ not-true _ (c .if1 .taken)))
 
 add-e : tie.Need-add-e Inv-loop μ-loop
 add-e c = omega arith
@@ -57,8 +57,8 @@ loop-less : tie.Need-loop-less Inv-loop μ-loop
 loop-less c = omega arith
 
 loop-again : tie.Need-loop-again Inv-loop μ-loop
-unfolding sentAllowsAt cell
-loop-again c = (omega arith, all-more _ _ {ok = true} {t = true} refl (c .before .before .before .before .before .loop .inv .1) (sym (not-false _ (c .if1 .left)) ∙ c .before .allows-by .ensures))
+unfolding sentAllowsAt
+loop-again c = (omega arith, all-more _ _ {ok = true} {t = true} refl (c .before .before .before .before .before .loop .inv .1) (rw cell-is (sym (not-false _ (c .if1 .left)) ∙ c .before .allows-by .ensures)))
 
 returns-2 : tie.Need-returns-2 Inv-loop μ-loop
 returns-2 c = let e : c .before .loop .e ≡ 2 * c .before .before .before .before .args .links = omega arith in rw e at (c .before .loop .inv .1)

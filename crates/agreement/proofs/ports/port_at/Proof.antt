@@ -5,6 +5,7 @@ use borrow.Author.Needs.{needs}
 use borrow.Author.Tests.{le-leb, lt-leb}
 use lib.ListN.{length, getD}
 use Rattle.distances.specs.Table.{cell}
+use Rattle.distances.proofs.Tables.{cell-is}
 use Rattle.agreement.specs.Steps.{portAt}
 use Rattle.agreement.specs.Record.{heldLimit, freshRecord}
 use Rattle.agreement.proofs.Basics.{getD-default}
@@ -14,11 +15,10 @@ use Rattle.agreement.proofs.ports.port_at.Tie as tie
 -- the held limit of the chosen end
 held-is : (c : tie.After-held-limit) → let a = c .before .before .before .before .before .before .args in
     c .held-limit .result ≡ heldLimit (getD (a .t4) (a .end) freshRecord) (cell (a .held .now) (a .end)) (a .dest)
-unfolding cell
 held-is c =
     let a = c .before .before .before .before .before .before .args in
     let h : a .end < length (a .t4) = search needs in
-    c .held-limit .ensures ∙ rw (getD-default (a .t4) (a .end) _ freshRecord h)
+    c .held-limit .ensures ∙ rw (getD-default (a .t4) (a .end) _ freshRecord h, cell-is)
 
 mul-held-limit : tie.Need-mul-held-limit
 mul-held-limit c = search needs

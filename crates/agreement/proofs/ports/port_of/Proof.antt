@@ -1,7 +1,7 @@
 -- `ports::port_of` meets its contract. Each early return fails its own condition. Assumes nothing.
-use mathlib.Core.Path.{_∙_}
+use mathlib.Core.Path.{sym, _∙_}
 use borrow.Author.Needs.{needs}
-use Rattle.distances.specs.Table.{cell}
+use Rattle.distances.proofs.Tables.{cell-is}
 use Rattle.agreement.specs.Forwarding.{port}
 use Rattle.agreement.proofs.PortSteps.{port-at-is, closed-at-destination, closed-without-path, closed-beyond}
 use Rattle.agreement.proofs.ports.port_of.Statement.{statement}
@@ -24,8 +24,8 @@ unfolding port
 returns c = closed-at-destination _ _ _ _ _ _ (c .if1 .taken)
 
 returns-2 : tie.Need-returns-2
-unfolding port cell
-returns-2 c = closed-without-path _ _ _ _ _ _ (c .if2 .taken)
+unfolding port
+returns-2 c = closed-without-path _ _ _ _ _ _ (cell-is _ _ _ ∙ c .if2 .taken)
 
 chosen-end-requires : tie.Need-chosen-end-requires
 chosen-end-requires c κs = search needs
@@ -41,12 +41,11 @@ port-at-requires : tie.Need-port-at-requires
 port-at-requires c κs = search needs
 
 returns-4 : tie.Need-returns-4
-unfolding cell
 returns-4 c =
     let a = c .before .before .before .before .before .before .before .before .before .before .before .args in
     c .port-at .ensures
-    ∙ port-at-is (a .bridges) (a .links) (a .ends .now) (a .costs .now) (a .table .now) _ _ _ _ (a .bridge) (a .dest) _
-    (c .before .before .chosen-end .ensures) (c .before .before .before .before .if1 .left) (c .before .before .before .if2 .left) (c .before .if3 .left)
+    ∙ port-at-is (a .bridges) (a .links) (a .ends .now) (a .costs .now) (a .table .now) _ _ _ _ (a .bridge) (a .dest) _ _
+    (sym (cell-is _ _ _)) (c .before .before .chosen-end .ensures) (c .before .before .before .before .if1 .left) (c .before .before .before .if2 .left) (c .before .if3 .left)
 
 pub port-of-spec : {M : Type 1} → statement M
 port-of-spec =

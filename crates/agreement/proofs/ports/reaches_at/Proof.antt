@@ -2,8 +2,8 @@
 use native.Mathlib.Omega.{arith}
 use mathlib.Core.Path.{_∙_}
 use borrow.Author.Needs.{needs}
-use Rattle.distances.specs.Table.{cell}
-use Rattle.distances.specs.Distance.{present}
+use Rattle.distances.proofs.Tables.{cell-is}
+use Rattle.distances.proofs.Joined.{present-is}
 use Rattle.agreement.specs.Steps.{reachesBy}
 use Rattle.agreement.specs.Forwarding.{reaches}
 use Rattle.agreement.proofs.Entry.{BothEnds, both-ends-ready}
@@ -62,8 +62,8 @@ reaches-by-requires : tie.Need-reaches-by-requires
 reaches-by-requires c κs = search needs
 
 returns : tie.Need-returns
-unfolding reaches reachesBy present cell
-returns c = c .reaches-by .ensures ∙ rw (c .before .before .before .before .before .before .opposite-end .ensures)
+unfolding reaches reachesBy
+returns c = c .reaches-by .ensures ∙ simp (present-is, cell-is, c .before .before .before .before .before .before .opposite-end .ensures)
 
 pub reaches-at-spec : {M : Type 1} → statement M
 reaches-at-spec =

@@ -1,10 +1,11 @@
 -- `ready::each_in_range` meets its contract. The loop's invariant: `ok` says whether every record below `e` passes. Assumes nothing.
 use Prim.Native.Nat.{_≤_, _<_, _-_, _*_}
 use native.Mathlib.Omega.{arith}
-use mathlib.Core.Path.{_∙_, _≡_, refl}
+use mathlib.Core.Path.{_∙_, _≡_}
 use borrow.Author.Needs.{needs}
 use lib.ListN.{length, getD}
 use Rattle.distances.specs.Call.{allBelow}
+use Rattle.distances.proofs.Ranges.{allBelow-none}
 use Rattle.agreement.specs.Ranges.{recordInRange}
 use Rattle.agreement.specs.Record.{freshRecord}
 use Rattle.agreement.proofs.Basics.{getD-default, all-more}
@@ -21,8 +22,7 @@ view-bound-requires : tie.Need-view-bound-requires Inv-loop μ-loop
 view-bound-requires c κs = search needs
 
 loop-holds : tie.Need-loop-holds Inv-loop μ-loop
-unfolding allBelow
-loop-holds c = (omega arith, refl)
+loop-holds c = (omega arith, allBelow-none _)
 
 mul-loop : tie.Need-mul-loop Inv-loop μ-loop
 mul-loop c = omega arith

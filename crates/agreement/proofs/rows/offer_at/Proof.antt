@@ -1,7 +1,7 @@
 -- `rows::offer_at` meets its contract. The bridges at both ends are below 16, since the view is ready. Assumes nothing.
 use native.Mathlib.Omega.{arith}
 use borrow.Author.Needs.{needs}
-use Rattle.distances.specs.Table.{cell}
+use Rattle.distances.proofs.Tables.{cell-is}
 use Rattle.agreement.proofs.Entry.{BothEnds, both-ends-ready}
 use Rattle.agreement.proofs.Offers.{lent-offer}
 use Rattle.agreement.proofs.rows.offer_at.Statement.{statement}
@@ -62,8 +62,7 @@ limit-of-requires : tie.Need-limit-of-requires
 limit-of-requires c κs = search needs
 
 returns : tie.Need-returns
-unfolding cell
-returns c = rw (lent-offer, ← c .before .before .before .before .before .before .opposite-end .ensures) (c .limit-of .ensures)
+returns c = simp (lent-offer, cell-is, ← c .before .before .before .before .before .before .opposite-end .ensures) (c .limit-of .ensures)
 
 pub offer-at-spec : {M : Type 1} → statement M
 offer-at-spec =

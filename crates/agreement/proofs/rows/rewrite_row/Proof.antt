@@ -6,6 +6,7 @@ use borrow.Author.Needs.{needs}
 use lib.ListN.{length, length-set, getD}
 use lib.Dec.{ltb}
 use Rattle.distances.specs.Table.{cell, rewritten}
+use Rattle.distances.proofs.Tables.{cell-is}
 use Rattle.agreement.specs.Limits.{rowAfter, limitOf}
 use Rattle.agreement.proofs.Limits.{front-none, front-more}
 use Rattle.agreement.proofs.rows.rewrite_row.Statement.{statement}
@@ -72,13 +73,12 @@ loop-less : tie.Need-loop-less Inv-loop μ-loop
 loop-less c = omega arith
 
 loop-again : tie.Need-loop-again Inv-loop μ-loop
-unfolding cell
 loop-again c =
     let row = c .before .before .before .before .before .before .before .before .before .args .row .now in
     let at = c .before .before .before .before .before .before .loop in (
       omega arith,
       simp length-set (omega arith),
-      front-more _ _ row _ _ _ (at .inv .2) (omega arith) (c .limit-after .ensures ∙ rw (c .before .limit-of .ensures)),
+      front-more _ _ row _ _ _ (at .inv .2) (omega arith) (c .limit-after .ensures ∙ simp (c .before .limit-of .ensures, cell-is)),
     )
 
 same-length : tie.Need-same-length Inv-loop μ-loop

@@ -1,15 +1,24 @@
--- What `stepBy` and `runBy` are, call by call, for whoever makes the calls on messages in another form. Assumes nothing.
+-- What `stepBy`, `runBy` and `freshBy` are, call by call, for whoever makes the calls in another form. Assumes nothing.
 use Prim.Native.Nat.{ℕ}
 use mathlib.Core.Path.{_≡_, refl}
 use mathlib.Core.List.{List, [], _∷_}
-use Rattle.bench.specs.Calls.{Call, send, deliver, repeat, lose}
+use Rattle.bench.specs.Calls.{Call, change, update, cut, restore, send, deliver, repeat, lose, port, report, path}
 use Rattle.bench.specs.State.{State, state}
+use Rattle.bench.specs.Changes.{Changed, Rewritten, cutOf, restoreOf, updateOf, freshOf}
 use Rattle.bench.specs.Flights.{Flown, sendOf, loseOf}
 use Rattle.bench.specs.Deliveries.{Delivered, deliverOf, repeatOf}
 use Rattle.bench.specs.Whole.{stepBy, runBy, freshBy}
 use Rattle.bench.specs.declared.Bench.{Bench}
 
--- the state with what a call on the messages alone has made of it
+-- the state with what a call on the bench alone has made of it
+abbrev pub withChanged : State → Changed → State
+withChanged s o = state (o .bench) (s .costs) (s .tables) (s .sent) (s .held) (s .messages)
+
+-- with what an update has made of it
+abbrev pub withRewritten : State → Rewritten → State
+withRewritten s o = state (o .bench) (s .costs) (s .tables) (o .sent) (o .held) (s .messages)
+
+-- with what a call on the messages alone has made of it
 abbrev pub withFlown : State → Flown → State
 withFlown s o = state (o .bench) (s .costs) (s .tables) (s .sent) (s .held) (o .messages)
 
@@ -18,6 +27,18 @@ abbrev pub withDelivered : State → Delivered → State
 withDelivered s o = state (o .bench) (s .costs) (s .tables) (o .sent) (o .held) (o .messages)
 
 module _ (s : State) where
+  pub update-step : (y t : ℕ) → stepBy s (change (update y t)) ≡ withRewritten s (updateOf s y t)
+  unfolding stepBy
+  update-step y t = refl
+
+  pub cut-step : (l : ℕ) → stepBy s (change (cut l)) ≡ withChanged s (cutOf (s .bench) l)
+  unfolding stepBy
+  cut-step l = refl
+
+  pub restore-step : (l : ℕ) → stepBy s (change (restore l)) ≡ withChanged s (restoreOf (s .bench) l)
+  unfolding stepBy
+  restore-step l = refl
+
   pub send-step : (y l : ℕ) → stepBy s (send y l) ≡ withFlown s (sendOf (s .bench) (s .messages) y l)
   unfolding stepBy
   send-step y l = refl
@@ -34,6 +55,28 @@ module _ (s : State) where
   unfolding stepBy
   repeat-step p = refl
 
+  pub report-step : (d : ℕ) → stepBy s (report d) ≡ s
+  unfolding stepBy
+  report-step d = refl
+
+  pub path-step : (y d : ℕ) → stepBy s (path y d) ≡ s
+  unfolding stepBy
+  path-step y d = refl
+
+  -- no call changes the costs or the views' distances
+  pub step-lasting : (c : Call) → (stepBy s c .costs ≡ s .costs) × (stepBy s c .tables ≡ s .tables)
+  unfolding stepBy
+  step-lasting (change (update y t)) = (refl, refl)
+  step-lasting (change (cut l)) = (refl, refl)
+  step-lasting (change (restore l)) = (refl, refl)
+  step-lasting (send y l) = (refl, refl)
+  step-lasting (deliver p) = (refl, refl)
+  step-lasting (repeat p) = (refl, refl)
+  step-lasting (lose p) = (refl, refl)
+  step-lasting (port y d) = (refl, refl)
+  step-lasting (report d) = (refl, refl)
+  step-lasting (path y d) = (refl, refl)
+
   pub run-none : runBy s [] ≡ s
   unfolding runBy
   run-none = refl
@@ -42,7 +85,9 @@ module _ (s : State) where
   unfolding runBy
   run-next c cs = refl
 
--- `fresh` leaves the messages as they were lent
-pub fresh-messages : (b : Bench) (costs tables sent held messages : List ℕ) → freshBy b costs tables sent held messages .messages ≡ messages
+pub fresh-leaves :
+    (b : Bench) (costs tables sent held messages : List ℕ) →
+    let o = freshOf b costs tables sent held in
+    freshBy b costs tables sent held messages ≡ state (o .bench) costs (o .tables) (o .sent) (o .held) messages
 unfolding freshBy
-fresh-messages b costs tables sent held messages = refl
+fresh-leaves b costs tables sent held messages = refl

@@ -1,10 +1,12 @@
--- What a call comes to by the checks that it makes: 17 out of range, else the table's number, else what it does. Assumes nothing.
+-- What a call comes to by the checks that it makes: 17 out of range, else the table's number, else what it does; and what its reply tells.
+-- Assumes nothing.
 use Prim.Native.Nat.{ℕ, _<_}
 use native.Mathlib.Omega.{arith}
-use mathlib.Core.Path.{_≡_}
-use mathlib.Core.Bool.{Bool, true, false}
+use mathlib.Core.Path.{_≡_, refl, sym, _∙_}
+use mathlib.Core.Bool.{Bool, true, false, cond}
 use mathlib.Core.List.{List, _∷_}
-use borrow.Author.Tests.{ne-eqb}
+use borrow.Author.Tests.{ne-eqb, eqb-true}
+use lib.Dec.{eqb}
 use Rattle.distances.proofs.Booleans.{below}
 use Rattle.bench.specs.Net.{Network}
 use Rattle.bench.specs.Calls.{Call, Check, refusal, refuse, noSuchLink}
@@ -23,6 +25,26 @@ module _ {A : Type 0} (ok : Bool) (n : Network) (c : Call) (refused : ℕ → A)
 
     pub goes-on : k ≡ 0 → done ≡ settled (refusalOf ok n c) refused done
     goes-on none = rw (refusal-ready ok n c e, ← same, none)
+
+-- a call that is settled by the number k, and its reply's number
+module _
+    {A : Type 0}
+    (reply : A → ℕ)
+    (k : ℕ)
+    (refused : ℕ → A)
+    (done : A)
+    (says : (j : ℕ) → reply (refused j) ≡ j)
+    (zero : k ≡ 0 → reply done ≡ 0) where
+  pub reply-is : reply (settled k refused done) ≡ k
+  reply-is = go (eqb k 0) refl
+    where
+      go : (b : Bool) → eqb k 0 ≡ b → reply (cond b done (refused k)) ≡ k
+      go true e = zero (eqb-true k 0 e) ∙ sym (eqb-true k 0 e)
+      go false e = says k
+
+  -- other than 0: it was refused
+  pub reply-some : (reply (settled k refused done) ≡ 0 → ⊥) → settled k refused done ≡ refused k
+  reply-some some = rw (ne-eqb k 0 (λ e. some (reply-is ∙ e)))
 
 -- the link of a call that the table lets pass
 pub link-listed : (n : Network) (l : ℕ) (cs : List Check) → refusal (noSuchLink n l ∷ cs) ≡ 0 → l < n .plan .graph .links

@@ -37,6 +37,9 @@ pub mod TieFilled
 pub mod TieFresh
 pub mod TieWhole
 pub mod CallSteps
+pub mod CallReads
+pub mod CallKept
+pub mod AnswerRanges
 pub mod Known
 pub mod EntryChecks
 pub mod EntrySettled

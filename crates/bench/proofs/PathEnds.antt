@@ -14,7 +14,7 @@ use Rattle.bench.proofs.Hops.{hop-in-range}
 use Rattle.bench.proofs.NoRing.{rank, rank-falls}
 
 -- a path crosses no more links than it may
-onward-short : (next : ℕ → Hop) (d left h y : ℕ) → hops (onward next d left h y) ≤ h + left
+pub onward-short : (next : ℕ → Hop) (d left h y : ℕ) → hops (onward next d left h y) ≤ h + left
 unfolding onward follow
 onward-short next d zero h y = go (eqb y d)
   where

@@ -4,12 +4,12 @@ use native.Mathlib.Omega.{arith}
 use mathlib.Core.Path.{_≡_, refl, sym, _∙_}
 use mathlib.Core.Bool.{Bool, true, false, cond, _&&_}
 use mathlib.Core.List.{List}
-use borrow.Author.Tests.{leb-true}
+use borrow.Author.Tests.{leb-true, le-leb}
 use lib.ListN.{length, getD, replicate, getD-replicate}
 use lib.Dec.{leb}
 use Rattle.distances.specs.View.{graphOf}
 use Rattle.distances.specs.Table.{cell}
-use Rattle.distances.proofs.Booleans.{both-true}
+use Rattle.distances.proofs.Booleans.{both-true, true-both}
 use Rattle.distances.proofs.Laws.{dist-cong}
 use Rattle.agreement.specs.Record.{freshRecord}
 use Rattle.agreement.specs.Ranges.{recordInRange}
@@ -22,7 +22,7 @@ use Rattle.bench.specs.Ranges.{graphInRange, costsInRange, tablesLong}
 use Rattle.bench.specs.Changes.{filledTables, Limits, limits, startedEnds, freshBench, started, freshOf}
 use Rattle.bench.specs.Whole.{Represents, Typed, freshBy, planIn}
 use Rattle.bench.specs.declared.Bench.{Bench}
-use Rattle.bench.proofs.TieRanges.{LastingOf, StateReady, lasting-told, few, cost-at, lent-in-range, lent-offer-in, ready}
+use Rattle.bench.proofs.TieRanges.{LastingOf, StateReady, lasting-told, graph-kept, costs-kept, few, cost-at, lent-in-range, lent-offer-in, ready}
 use Rattle.bench.proofs.TieFilled.{Filled, filled-all, Begun, begun-all}
 
 module _ (b : Bench) (costs tables sent held : List ℕ) where
@@ -62,6 +62,14 @@ module _ (b : Bench) (costs tables sent held : List ℕ) where
         sentLong = leb-true _ _ (limit .0);
         heldLong = leb-true _ _ (limit .1);
       }
+
+  -- where that is so, it is accepted
+  pub fresh-accepts : LastingOf b costs tables → 1024 ≤ length sent → 1024 ≤ length held → freshOf b costs tables sent held .reply ≡ 0
+  unfolding freshOf tablesLong
+  fresh-accepts lasting first second =
+      rw (true-both (graph-kept b costs tables lasting)
+      (true-both (costs-kept b costs tables lasting)
+      (true-both (le-leb _ _ (lasting .tablesLong)) (true-both (le-leb _ _ first) (le-leb _ _ second)))))
 
   pub fresh-lasting : freshOf b costs tables sent held .reply ≡ 0 → LastingOf b costs tables
   fresh-lasting e = fresh-told (fresh-passes e) .lasting

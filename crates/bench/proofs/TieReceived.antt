@@ -1,4 +1,4 @@
--- The network still stands in the state when an end receives a message. Assumes nothing.
+-- Layer 2 takes a message in range at an end of a state in range, and the network still stands in the state. Assumes nothing.
 use Prim.Native.Nat.{ℕ, _+_, _*_, _≤_, _<_}
 use native.Mathlib.Omega.{arith}
 use mathlib.Core.Path.{_≡_, sym}
@@ -22,21 +22,17 @@ use Rattle.agreement.proofs.Outcomes.{deliver-accepted}
 use Rattle.bench.specs.Net.{Network, Message, offerIn}
 use Rattle.bench.specs.Calls as calls
 use Rattle.bench.specs.State.{State, state, lentView}
-use Rattle.bench.specs.Deliveries.{Delivered, withRecords, receivedAt}
+use Rattle.bench.specs.Deliveries.{withRecords, receivedAt}
 use Rattle.bench.specs.Whole.{Represents, Typed}
-use Rattle.bench.proofs.TieRanges.{StateReady, told, ready, few, are-bridges, lent-in-range, lent-offer-in, getD-stored}
+use Rattle.bench.proofs.CallSteps.{withDelivered}
+use Rattle.bench.proofs.TieRanges.{StateReady, ready, few, are-bridges, lent-in-range, lent-offer-in, getD-stored}
 use Rattle.bench.proofs.TieChecks.{MessageTold}
 use Rattle.bench.proofs.TieRows.{row-at}
-
--- the state after a delivery
-abbrev pub deliveredTo : State → Delivered → State
-deliveredTo s o = state (o .bench) (s .costs) (s .tables) (o .sent) (o .held) (o .messages)
 
 -- a message x at end e
 module _
     (s : State)
-    (n : Network)
-    (r : Represents s n)
+    (before : StateReady s)
     (e : ℕ)
     (he : e < 2 * s .bench .links)
     (x : Message)
@@ -59,9 +55,6 @@ module _
 
   abbrev lentThere : Lent
   lentThere = lentView (s .bench) (s .costs) (s .tables) view
-
-  before : StateReady s
-  before = told s (r .inRange)
 
   is-bridge : bridge < s .bench .bridges
   is-bridge = are-bridges (s .bench) (s .costs) (s .tables) (before .lasting) e he
@@ -91,105 +84,110 @@ module _
       ≡ outcome (says (answer view old (x .agreement))) new sentNow heldNow
   outcome-is = deliver-accepted lentThere e (s .sent) (s .held) (s .bench .views) view old number (x .agreement) taken
 
-  abbrev after : State
-  after = state (withRecords (s .bench) (set (s .bench .records) e new)) (s .costs) (s .tables) sentNow heldNow (s .messages)
-
-  -- a record afterwards
-  record-at : (k : ℕ) → getD (set (s .bench .records) e new) k freshRecord ≡ cond (eqb k e) new (getD (s .bench .records) k freshRecord)
-  record-at k = getD-stored (s .bench .records) e new k freshRecord (omega (arith, small, r .typed .records))
-
-  each-record :
-      (P : EndRecord → Type 0) (k : ℕ) →
-      P new →
-      P (getD (s .bench .records) k freshRecord) →
-      P (getD (set (s .bench .records) e new) k freshRecord)
-  each-record P k now same = rw (record-at k) (go (eqb k e))
-    where
-      go : (b : Bool) → P (cond b new (getD (s .bench .records) k freshRecord))
-      go true = now
-      go false = same
-
-  after-ready : StateReady after
-  after-ready =
-      record {
-        lasting = before .lasting;
-        sentLong = rw withLimits-length (before .sentLong);
-        heldLong = rw withLimits-length (before .heldLong);
-        count = before .count;
-        view = before .view;
-        records = λ k hk.
-            each-record (λ z. recordInRange (s .bench .views) z ≡ true) k
-            (recorded-passes (s .bench .views) view old (x .agreement) (before .records e he) (inside .view))
-            (before .records k hk);
-        messagesLong = before .messagesLong;
-        message = before .message;
-      }
-
-  after-typed : Typed (after .bench)
-  after-typed =
-      record {
-        views = r .typed .views;
-        numbers = r .typed .numbers;
-        records = rw length-set (r .typed .records);
-        cuts = r .typed .cuts;
-        number = r .typed .number;
-        received = λ k hk.
-            each-record (λ z. z .received < 65536) k
-            (recorded-by view old (x .agreement) (λ z. z .received < 65536) (r .typed .received e he) (inside .number) (inside .number))
-            (r .typed .received k hk);
-        discarded = λ k hk.
-            each-record (λ z. z .discarded < 65536) k
-            (recorded-by view old (x .agreement) (λ z. z .discarded < 65536) (r .typed .discarded e he) (inside .number) (r .typed .discarded e he))
-            (r .typed .discarded k hk);
-      }
-
-  -- what the network has there
-  same-bridge : n .plan .graph .bridgeAt e ≡ bridge
-  same-bridge = rw (r .plan)
-
-  same-view : n .view (n .plan .graph .bridgeAt e) ≡ view
-  same-view = rw same-bridge (r .view bridge is-bridge)
-
-  same-number : n .number (n .plan .graph .bridgeAt e) ≡ number
-  same-number = rw same-bridge (r .number bridge is-bridge)
-
-  same-offer : (k d : ℕ) → k < 2 * s .bench .links → d < s .bench .bridges → offerIn (n .plan) view k d ≡ lentOffer lentThere k d
-  same-offer k d hk hd =
-      rw (r .plan)
-      (sym
-      (lent-offer-in (s .bench) (s .costs) (s .tables) (before .lasting) view is-view
-      (λ i j hi hj. rw (r .plan) at (r .distances view i j is-view hi hj))
-      k d hk hd))
-
-  -- the row of e is in the tables
-  row-fits : (l : List ℕ) → 1024 ≤ length l → 16 * e + 16 ≤ length l
-  row-fits l long = omega (arith, small)
-
-  after-represents : Represents after (calls.receivedAt n e x)
-  unfolding calls.receivedAt
-  after-represents =
-      record {
-        inRange = ready after after-ready;
-        typed = after-typed;
-        plan = r .plan;
-        distances = r .distances;
-        view = r .view;
-        number = r .number;
-        cut = r .cut;
-        ends = λ k hk. rw (record-at k, same-view, r .ends e he, r .ends k hk);
-        sent =
-            λ k d hk hd. row-at (s .bench .bridges) e (s .sent) _ (n .records .sent) _ k d (small .0) (row-fits (s .sent) (before .sentLong)) hd
-            (rw (same-number, same-view, r .ends e he)
-            (sent-delivered-same _ _ _ _ d (same-offer e d he hd) (r .sent e d he hd) number old (x .agreement)))
-            (r .sent k d hk hd);
-        held =
-            λ k d hk hd. row-at (s .bench .bridges) e (s .held) _ (n .records .held) _ k d (small .0) (row-fits (s .held) (before .heldLong)) hd
-            (rw (same-view, r .ends e he)
-            (held-delivered-same _ _ _ _ d (same-offer (opposite e) d (opposite-below e _ he) hd) (r .held e d he hd) view old (x .agreement)))
-            (r .held k d hk hd);
-        messages = r .messages;
-      }
-
-  pub received-represents : Represents (deliveredTo s (receivedAt s e (x .agreement))) (calls.receivedAt n e x)
+  pub received-taken : receivedAt s e (x .agreement) .reply .number ≡ 0
   unfolding receivedAt
-  received-represents = rw outcome-is after-represents
+  received-taken = rw outcome-is
+
+  module _ (n : Network) (r : Represents s n) where
+    abbrev after : State
+    after = state (withRecords (s .bench) (set (s .bench .records) e new)) (s .costs) (s .tables) sentNow heldNow (s .messages)
+
+    -- a record afterwards
+    record-at : (k : ℕ) → getD (set (s .bench .records) e new) k freshRecord ≡ cond (eqb k e) new (getD (s .bench .records) k freshRecord)
+    record-at k = getD-stored (s .bench .records) e new k freshRecord (omega (arith, small, r .typed .records))
+
+    each-record :
+        (P : EndRecord → Type 0) (k : ℕ) →
+        P new →
+        P (getD (s .bench .records) k freshRecord) →
+        P (getD (set (s .bench .records) e new) k freshRecord)
+    each-record P k now same = rw (record-at k) (go (eqb k e))
+      where
+        go : (b : Bool) → P (cond b new (getD (s .bench .records) k freshRecord))
+        go true = now
+        go false = same
+
+    after-ready : StateReady after
+    after-ready =
+        record {
+          lasting = before .lasting;
+          sentLong = rw withLimits-length (before .sentLong);
+          heldLong = rw withLimits-length (before .heldLong);
+          count = before .count;
+          view = before .view;
+          records = λ k hk.
+              each-record (λ z. recordInRange (s .bench .views) z ≡ true) k
+              (recorded-passes (s .bench .views) view old (x .agreement) (before .records e he) (inside .view))
+              (before .records k hk);
+          messagesLong = before .messagesLong;
+          message = before .message;
+        }
+
+    after-typed : Typed (after .bench)
+    after-typed =
+        record {
+          views = r .typed .views;
+          numbers = r .typed .numbers;
+          records = rw length-set (r .typed .records);
+          cuts = r .typed .cuts;
+          number = r .typed .number;
+          received = λ k hk.
+              each-record (λ z. z .received < 65536) k
+              (recorded-by view old (x .agreement) (λ z. z .received < 65536) (r .typed .received e he) (inside .number) (inside .number))
+              (r .typed .received k hk);
+          discarded = λ k hk.
+              each-record (λ z. z .discarded < 65536) k
+              (recorded-by view old (x .agreement) (λ z. z .discarded < 65536) (r .typed .discarded e he) (inside .number) (r .typed .discarded e he))
+              (r .typed .discarded k hk);
+        }
+
+    -- what the network has there
+    same-bridge : n .plan .graph .bridgeAt e ≡ bridge
+    same-bridge = rw (r .plan)
+
+    same-view : n .view (n .plan .graph .bridgeAt e) ≡ view
+    same-view = rw same-bridge (r .view bridge is-bridge)
+
+    same-number : n .number (n .plan .graph .bridgeAt e) ≡ number
+    same-number = rw same-bridge (r .number bridge is-bridge)
+
+    same-offer : (k d : ℕ) → k < 2 * s .bench .links → d < s .bench .bridges → offerIn (n .plan) view k d ≡ lentOffer lentThere k d
+    same-offer k d hk hd =
+        rw (r .plan)
+        (sym
+        (lent-offer-in (s .bench) (s .costs) (s .tables) (before .lasting) view is-view
+        (λ i j hi hj. rw (r .plan) at (r .distances view i j is-view hi hj))
+        k d hk hd))
+
+    -- the row of e is in the tables
+    row-fits : (l : List ℕ) → 1024 ≤ length l → 16 * e + 16 ≤ length l
+    row-fits l long = omega (arith, small)
+
+    after-represents : Represents after (calls.receivedAt n e x)
+    unfolding calls.receivedAt
+    after-represents =
+        record {
+          inRange = ready after after-ready;
+          typed = after-typed;
+          plan = r .plan;
+          distances = r .distances;
+          view = r .view;
+          number = r .number;
+          cut = r .cut;
+          ends = λ k hk. rw (record-at k, same-view, r .ends e he, r .ends k hk);
+          sent =
+              λ k d hk hd. row-at (s .bench .bridges) e (s .sent) _ (n .records .sent) _ k d (small .0) (row-fits (s .sent) (before .sentLong)) hd
+              (rw (same-number, same-view, r .ends e he)
+              (sent-delivered-same _ _ _ _ d (same-offer e d he hd) (r .sent e d he hd) number old (x .agreement)))
+              (r .sent k d hk hd);
+          held =
+              λ k d hk hd. row-at (s .bench .bridges) e (s .held) _ (n .records .held) _ k d (small .0) (row-fits (s .held) (before .heldLong)) hd
+              (rw (same-view, r .ends e he)
+              (held-delivered-same _ _ _ _ d (same-offer (opposite e) d (opposite-below e _ he) hd) (r .held e d he hd) view old (x .agreement)))
+              (r .held k d hk hd);
+          messages = r .messages;
+        }
+
+    pub received-represents : Represents (withDelivered s (receivedAt s e (x .agreement))) (calls.receivedAt n e x)
+    unfolding receivedAt
+    received-represents = rw outcome-is after-represents

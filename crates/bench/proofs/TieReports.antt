@@ -1,8 +1,8 @@
 -- The report in a state is the network's, and so are all answers. Assumes nothing.
 use Prim.Native.Nat.{ℕ, zero, suc, _+_, _*_, _≤_, _<_}
 use native.Mathlib.Omega.{arith}
-use mathlib.Core.Path.{_≡_, refl, sym, _∙_, ap}
-use mathlib.Core.Bool.{Bool, true, false, cond, _&&_}
+use mathlib.Core.Path.{_≡_, refl, _∙_, ap}
+use mathlib.Core.Bool.{Bool, true, false, _&&_}
 use mathlib.Core.List.{List}
 use lib.ListN.{length, getD, set, length-set}
 use lib.Seq.{getD-set-same, getD-set-other}
@@ -14,20 +14,13 @@ use Rattle.bench.specs.Net.{Network}
 use Rattle.bench.specs.Calls.{refuse, checks, report}
 use Rattle.bench.specs.Ports.{ownDistance}
 use Rattle.bench.specs.State.{State, network, part}
-use Rattle.bench.specs.Changes.{refusalOf, settled, stateInRange}
+use Rattle.bench.specs.Changes.{refusalOf, stateInRange}
 use Rattle.bench.specs.Answers.{report as leaving, linkNumber, reportedRow, reported, reportOf}
 use Rattle.bench.specs.Whole.{Represents, Reports, Answers}
+use Rattle.bench.proofs.EntrySettled.{reply-is}
 use Rattle.bench.proofs.TieRanges.{told, network-ready, few}
 use Rattle.bench.proofs.TieChecks.{refusal-same}
 use Rattle.bench.proofs.TieAnswers.{listed, port-same, port-answered, path-answered}
-
--- the reply of a settled call is its number
-reply-is : (k : ℕ) (a b : List ℕ) → settled k (λ j. leaving j a) (leaving 0 b) .reply ≡ k
-reply-is k a b = go (eqb k 0) refl
-  where
-    go : (t : Bool) → eqb k 0 ≡ t → cond t (leaving 0 b) (leaving k a) .reply ≡ k
-    go true e = sym (eqb-true k 0 e)
-    go false e = refl
 
 module _ (s : State) (n : Network) (r : Represents s n) where
   own-distance :
@@ -104,7 +97,7 @@ module _ (s : State) (n : Network) (r : Represents s n) where
 
   report-replied : (d : ℕ) (rows : List ℕ) → 32 ≤ length rows → reportOf s d rows .reply ≡ refuse n (report d)
   unfolding reportOf
-  report-replied d rows long = reply-is _ _ _ ∙ report-asked d rows long
+  report-replied d rows long = reply-is (λ o. o .reply) _ (λ k. leaving k rows) (leaving 0 _) (λ k. refl) (λ e. refl) ∙ report-asked d rows long
 
   report-answered :
       (d : ℕ) (rows : List ℕ) →

@@ -95,21 +95,18 @@ across-below g are l y h = go (eqb (g .bridgeAt (2 * l)) y)
     go false = are (2 * l) (omega arith)
 
 pub hop-leads :
-    (b : Bench) (costs tables sent held : List ℕ) →
-    Ready b costs tables →
+    (s : State) →
+    Ready (s .bench) (s .costs) (s .tables) →
     (d y l z : ℕ) →
-    hopIn (state b costs tables sent held []) d y ≡ crosses l z →
-    z < b .bridges
+    hopIn s d y ≡ crosses l z →
+    z < s .bench .bridges
 unfolding hopIn hopBy
-hop-leads b costs tables sent held ready d y l z = go (portIn s y d) refl
+hop-leads s ready d y l z = go (portIn s y d) refl
   where
-    s : State
-    s = state b costs tables sent held []
-
     g : Graph
-    g = graphOf (b .bridges) (b .links) (b .ends)
+    g = graphOf (s .bench .bridges) (s .bench .links) (s .bench .ends)
 
-    go : (p : Port) → portIn s y d ≡ p → hopBy g y p ≡ crosses l z → z < b .bridges
+    go : (p : Port) → portIn s y d ≡ p → hopBy g y p ≡ crosses l z → z < s .bench .bridges
     go Closed at e = absurd (let o : _≡_ {A = ℕ} 0 1 = cc in omega arith)
     go (Open k) at e =
         let same : across g k y ≡ z = cc in

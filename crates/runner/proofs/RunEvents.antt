@@ -1,7 +1,7 @@
 -- From the first event on: the state at the end is what the calls make of the state now. Assumes nothing.
 use Prim.Native.Nat.{ℕ, zero, suc}
 use native.Mathlib.Omega.{arith}
-use mathlib.Core.Path.{_≡_, refl, subst}
+use mathlib.Core.Path.{_≡_, refl, sym, subst, _∙_}
 use mathlib.Core.Bool.{Bool, true, false, cond}
 use mathlib.Core.List.{List, [], _∷_, _++_}
 use borrow.Author.Tests.{ne-eqb}
@@ -10,6 +10,7 @@ use lib.Dec.{eqb}
 use Rattle.bench.specs.Calls.{Call}
 use Rattle.bench.specs.State.{State}
 use Rattle.bench.specs.Whole.{runBy}
+use Rattle.bench.proofs.CallSteps.{run-none, run-next}
 use Rattle.plan.specs.Reading.{readReply}
 use Rattle.plan.specs.declared.Event.{Event}
 use Rattle.plan.specs.declared.Field.{Field}
@@ -41,12 +42,12 @@ Follows fuel = (r : Runner) (k : Desk) (rest : List ℕ) → r .stage ≡ 3 → 
 pub event-ran :
     (fuel : ℕ) → Follows fuel → (s : State) (e : Event) (used : ℕ) (r : Runner) (k : Desk) (rest : List ℕ) →
     Ran s (endAfter fuel rest (eventTurn s e used r k)) (callsAfter fuel rest (callOf e ∷ []) (eventTurn s e used r k))
-unfolding eventTurn runBy
+unfolding eventTurn
 event-ran fuel follows s e used r k rest = go (eqb (replyOf s (k .rows) e) 0) refl
   where
     go : (b : Bool) → eqb (replyOf s (k .rows) e) 0 ≡ b → Ran s (endAfter fuel rest (eventTurn s e used r k)) (callsAfter fuel rest (callOf e ∷ []) (eventTurn s e used r k))
-    go true q = let n = follows _ _ (drop used rest) refl in rw q (record { state = n .state; stage = n .stage })
-    go false q = rw q (record { state = refl; stage = refl })
+    go true q = let n = follows _ _ (drop used rest) refl in rw q (record { state = n .state ∙ sym (run-next s (callOf e) _); stage = n .stage })
+    go false q = rw q (record { state = sym (run-none s); stage = refl })
 
 -- at stage 3 none but an event is read, and the network stands already
 opened-on : (r : Runner) (k : Desk) → r .stage ≡ 3 → opened r k ≡ stateOn (r .bench) k
@@ -54,13 +55,13 @@ unfolding opened
 opened-on r k e = rw (ne-eqb (r .stage) 2 (omega arith))
 
 pub follows : (fuel : ℕ) → Follows fuel
-unfolding calls leaves runBy lastTurn fieldTurn
-follows zero r k rest h = record { state = refl; stage = h }
+unfolding calls leaves lastTurn fieldTurn
+follows zero r k rest h = record { state = sym (run-none (stateOn (r .bench) k)); stage = h }
 follows (suc fuel) r k rest h = go (follows fuel) (step-is r k rest)
   where
     go : Follows fuel → Step r k rest → Ran (stateOn (r .bench) k) (endAfter fuel rest (stepOf r k rest)) (callsAfter fuel rest (callRead (readReply rest (progressOf r))) (stepOf r k rest))
-    go next (refused e) = rw e (record { state = refl; stage = h })
-    go next (ended number d e) = rw e (record { state = refl; stage = h })
+    go next (refused e) = rw e (record { state = sym (run-none (stateOn (r .bench) k)); stage = h })
+    go next (ended number d e) = rw e (record { state = sym (run-none (stateOn (r .bench) k)); stage = h })
     go next (carried f used long d e) = field f d e (field-told rest (progressOf r) d)
       where
         field : (f : Field) → readReply rest (progressOf r) ≡ Read.Field f used → stepOf r k rest ≡ fieldTurn rest f used r k → Told rest (progressOf r) f →

@@ -1,43 +1,28 @@
 -- The setup of a plan: after any of its fields the bridge count, the ends of the links and the costs of the views are in range, so that
 -- `fresh` accepts what stands where the first event comes. Assumes nothing.
-use Prim.Native.Nat.{ℕ, zero, suc, _+_, _*_, _≤_, _<_}
+use Prim.Native.Nat.{ℕ, _+_, _*_, _≤_, _<_}
 use native.Mathlib.Nat.{not-suc-le-zero}
 use native.Mathlib.Omega.{arith}
 use mathlib.Core.Path.{_≡_, refl, _∙_}
-use mathlib.Core.Bool.{Bool, true, false, not}
-use mathlib.Core.List.{List, [], _++_}
-use borrow.Author.Tests.{le-leb, eqb-true, eqb-false}
+use mathlib.Core.Bool.{Bool, true, false}
+use mathlib.Core.List.{List, _++_}
+use borrow.Author.Tests.{eqb-true, eqb-false}
 use lib.ListN.{length, getD, set, take, replicate, length-set, length-replicate, getD-replicate, List·getD-append}
 use lib.Seq.{getD-take, getD-set-same, getD-set-other, getD-append-add, length-take-le}
 use lib.Dec.{eqb}
 use Rattle.distances.specs.Call.{inRange}
-use Rattle.distances.proofs.Booleans.{true-both}
 use Rattle.distances.proofs.Ranges.{in-range-made}
 use Rattle.bench.specs.State.{part}
-use Rattle.bench.specs.Ranges.{tablesLong}
 use Rattle.bench.specs.Changes.{freshOf}
 use Rattle.bench.specs.declared.Bench.{Bench}
-use Rattle.bench.proofs.TieRanges.{part-at, part-length, LastingOf, graph-kept, costs-kept}
+use Rattle.bench.proofs.TieRanges.{part-at, part-length, LastingOf}
+use Rattle.bench.proofs.TieFresh.{fresh-accepts}
 use Rattle.plan.specs.Fields.{costIn}
-use Rattle.plan.specs.Reading.{withCosts, costsReply}
+use Rattle.plan.specs.Reading.{costsReply}
+use Rattle.plan.proofs.CostRows.{row-length, row-cost}
 use Rattle.plan.proofs.Laws.{ViewRead}
 use Rattle.runner.specs.Turns.{withBridges, withLink, withView, withRow}
 use Rattle.runner.specs.Plans.{firstRunner, firstDesk}
-
--- a row with the costs of the first k links
-costs-length : (rest : List ℕ) (k : ℕ) (row : List ℕ) → length (withCosts rest k row) ≡ length row
-unfolding withCosts
-costs-length rest zero row = refl
-costs-length rest (suc k) row = length-set (withCosts rest k row) k (costIn rest k) ∙ costs-length rest k row
-
-costs-at : (rest : List ℕ) (k : ℕ) (row : List ℕ) (l : ℕ) → l < k → k ≤ length row → getD (withCosts rest k row) l 0 ≡ costIn rest l
-unfolding withCosts
-costs-at rest zero row l h g = absurd (not-suc-le-zero h)
-costs-at rest (suc k) row l h g = go (eqb l k) refl (costs-at rest k row l)
-  where
-    go : (q : Bool) → eqb l k ≡ q → (l < k → k ≤ length row → getD (withCosts rest k row) l 0 ≡ costIn rest l) → getD (withCosts rest (suc k) row) l 0 ≡ costIn rest l
-    go true q next = rw (eqb-true l k q) (getD-set-same (withCosts rest k row) k (costIn rest k) 0 (omega (arith, costs-length rest k row)))
-    go false q next = getD-set-other (withCosts rest k row) k l (costIn rest k) 0 (eqb-false l k q) ∙ next (omega (arith, eqb-false l k q)) (omega arith)
 
 -- the costs with one more row: the rows before it are as they were, and it holds what was read
 row-old : (rest : List ℕ) (b : Bench) (costs : List ℕ) (i : ℕ) → i < 32 * b .views → 32 * b .views ≤ length costs → getD (withRow rest b costs) i 0 ≡ getD costs i 0
@@ -51,14 +36,13 @@ past xs ys n l e = rw e at (getD-append-add xs ys l 0)
 
 row-new : (rest : List ℕ) (b : Bench) (costs : List ℕ) (l : ℕ) → 32 * b .views + 32 ≤ length costs → b .links ≤ 32 → l < b .links →
     getD (withRow rest b costs) (32 * b .views + l) 0 ≡ costIn rest l
-unfolding withRow costsReply
+unfolding withRow
 row-new rest b costs l long most h =
+    let row : List ℕ = part 32 (b .views) costs in
     let size = part-length 32 (b .views) costs long in
-    let few = true-both (le-leb (b .links) 32 most) (le-leb 32 (length (part 32 (b .views) costs)) (omega arith)) in
     past (take (32 * b .views) costs) _ (32 * b .views) l (length-take-le (32 * b .views) costs (omega arith))
-    ∙ rw few
-    (List·getD-append (withCosts rest (b .links) (part 32 (b .views) costs)) _ 0 l (omega (arith, costs-length rest (b .links) (part 32 (b .views) costs)))
-    ∙ costs-at rest (b .links) (part 32 (b .views) costs) l h (omega arith))
+    ∙ List·getD-append (costsReply rest (b .links) row .row) _ 0 l (omega (arith, row-length rest (b .links) row))
+    ∙ row-cost rest (b .links) row most (omega arith) l h
 
 -- the ends of a link are two bridges
 pub record Joins (bridges a b : ℕ) : Type 0 where
@@ -188,7 +172,7 @@ module _ (stage : ℕ) (b : Bench) (costs : List ℕ) (s : Begun stage b costs) 
       (omega (arith, s .linksMost))
       (omega arith)
 
-  -- so `fresh` accepts them
+  -- what no call changes
   lasts : (tables : List ℕ) → stage ≡ 2 → 1024 ≤ length costs → 8192 ≤ length tables → LastingOf b costs tables
   lasts tables e long room =
       record {
@@ -204,9 +188,7 @@ module _ (stage : ℕ) (b : Bench) (costs : List ℕ) (s : Begun stage b costs) 
         tablesLong = room;
       }
 
-  pub fresh-accepts : (tables sent held : List ℕ) → stage ≡ 2 → 1024 ≤ length costs → 8192 ≤ length tables → 1024 ≤ length sent → 1024 ≤ length held →
+  -- so `fresh` accepts them
+  pub begun-accepted : (tables sent held : List ℕ) → stage ≡ 2 → 1024 ≤ length costs → 8192 ≤ length tables → 1024 ≤ length sent → 1024 ≤ length held →
       freshOf b costs tables sent held .reply ≡ 0
-  unfolding freshOf tablesLong
-  fresh-accepts tables sent held e long room first second =
-      let l = lasts tables e long room in
-      rw (true-both (graph-kept b costs tables l) (true-both (costs-kept b costs tables l) (true-both (le-leb 8192 (length tables) room) (true-both (le-leb 1024 (length sent) first) (le-leb 1024 (length held) second)))))
+  begun-accepted tables sent held e long room = fresh-accepts b costs tables sent held (lasts tables e long room)

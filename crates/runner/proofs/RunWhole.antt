@@ -13,7 +13,8 @@ use Rattle.distances.proofs.Booleans.{both-true}
 use Rattle.bench.specs.Calls.{Call}
 use Rattle.bench.specs.Changes.{freshOf}
 use Rattle.bench.specs.State.{State}
-use Rattle.bench.specs.Whole.{runBy, freshBy}
+use Rattle.bench.specs.Whole.{runBy}
+use Rattle.bench.proofs.CallSteps.{fresh-leaves}
 use Rattle.bench.proofs.TieWhole.{whole-lists}
 use Rattle.plan.specs.Reading.{readReply}
 use Rattle.plan.specs.declared.Event.{Event}
@@ -28,7 +29,7 @@ use Rattle.runner.specs.Whole.{Place, place, stateAt, freshAt, calls, le
 use Rattle.runner.specs.declared.Runner.{Runner}
 use Rattle.runner.proofs.RunSteps.{Step, refused, ended, carried, step-is}
 use Rattle.runner.proofs.RunEvents.{endAfter, callsAfter, event-ran, follows}
-use Rattle.runner.proofs.RunSetup.{Begun, begun-first, bridges-begun, link-begun, view-begun, fresh-accepts}
+use Rattle.runner.proofs.RunSetup.{Begun, begun-first, bridges-begun, link-begun, view-begun, begun-accepted}
 
 -- the buffers of a desk that is long enough
 record Long (k : Desk) : Type 0 where
@@ -55,8 +56,8 @@ long-told k e =
     }
 
 opened-fresh : (r : Runner) (k : Desk) → r .stage ≡ 2 → opened r k ≡ freshAt (place r k)
-unfolding opened freshBy
-opened-fresh r k e = rw (eq-eqb (r .stage) 2 e)
+unfolding opened
+opened-fresh r k e = rw (eq-eqb (r .stage) 2 e, fresh-leaves)
 
 -- an event came, and all but demand 3 itself
 record Opens (p : Place) (end : Place) (cs : List Call) : Type 0 where
@@ -78,7 +79,7 @@ first-event fuel v used r k rest s ready long =
     let two : r .stage ≡ 2 = omega (arith, s .early) in
     let e = event-ran fuel (follows fuel) (opened r k) v used r k rest in
     record {
-      accepted = fresh-accepts _ _ _ s (k .tables) (k .sent) (k .held) two (long .costs) (long .tables) (long .sent) (long .held);
+      accepted = begun-accepted _ _ _ s (k .tables) (k .sent) (k .held) two (long .costs) (long .tables) (long .sent) (long .held);
       room = long .messages;
       stage = e .stage;
       ran = e .state ∙ ap (λ (x : State). runBy x (callsAfter fuel rest (callOf v ∷ []) (eventTurn (opened r k) v used r k))) (opened-fresh r k two);

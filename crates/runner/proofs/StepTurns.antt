@@ -1,7 +1,7 @@
 -- The turns of a step, from what its calls ensure: a setup, an event, the plan's end; and what the checks of a step tell. Assumes nothing.
 use Prim.Native.Nat.{ℕ, _+_, _≤_, _<_}
 use native.Mathlib.Omega.{arith}
-use mathlib.Core.Path.{_≡_, refl, sym, _∙_, ap}
+use mathlib.Core.Path.{_≡_, sym, _∙_, ap}
 use mathlib.Core.Bool.{Bool, true, false, cond, _&&_}
 use mathlib.Core.List.{List, []}
 use borrow.Author.Tests.{leb-true, eq-eqb, ne-eqb}
@@ -10,17 +10,16 @@ use lib.Dec.{eqb, leb}
 use Rattle.distances.proofs.Booleans.{both-true}
 use Rattle.bench.specs.State.{State, state}
 use Rattle.bench.specs.Changes.{freshOf}
-use Rattle.bench.specs.Whole.{stepBy}
 use Rattle.bench.specs.declared.Bench.{Bench}
+use Rattle.bench.proofs.CallSteps.{step-lasting}
 use Rattle.plan.specs.Fields.{byte}
 use Rattle.plan.specs.Reading.{readReply}
 use Rattle.plan.specs.declared.Event.{Event}
-use Rattle.plan.specs.declared.Event.the-variants.{Update, Send, Deliver, Repeat, Lose, Cut, Restore, Report, Path}
 use Rattle.plan.specs.declared.Field.{Field}
 use Rattle.plan.specs.declared.Read.{Read}
 use Rattle.plan.proofs.Laws.{Told, field-size, field-told}
 use Rattle.runner.specs.Desk.{Desk, desk, deskLong, stateOn, progressOf}
-use Rattle.runner.specs.Events.{Happening, happenedOf, replyOf, stateAfter}
+use Rattle.runner.specs.Events.{Happening, callOf, happenedOf, replyOf}
 use Rattle.runner.specs.Turns.{Turn, turn, lastTurn, lastText, setupTurn, Opened, openedAs, opened, openedOf, eventTurn, fieldTurn, readTurn, stepOf, stopNumber, runnerInRange, fieldFits}
 use Rattle.runner.specs.declared.Runner.{Runner}
 use Rattle.runner.proofs.StepRefused.{refused-state, refused-rows}
@@ -68,19 +67,6 @@ opened-state r k {b} {tables} {sent} {held} = go (eqb (r .stage) 2)
     go true e = ap (λ (o : Opened). state (o .bench) (k .costs) (o .tables) (o .sent) (o .held) (k .messages)) e
     go false e = ap (λ (o : Opened). state (o .bench) (k .costs) (o .tables) (o .sent) (o .held) (k .messages)) e
 
--- no event changes the costs or the views' distances
-lasting : (s : State) (e : Event) → (stateAfter s e .costs ≡ s .costs) × (stateAfter s e .tables ≡ s .tables)
-unfolding stepBy
-lasting s (Update y t) = (refl, refl)
-lasting s (Send y l) = (refl, refl)
-lasting s (Deliver p) = (refl, refl)
-lasting s (Repeat p) = (refl, refl)
-lasting s (Lose p) = (refl, refl)
-lasting s (Cut l) = (refl, refl)
-lasting s (Restore l) = (refl, refl)
-lasting s (Report d) = (refl, refl)
-lasting s (Path y d) = (refl, refl)
-
 -- what happened, carried into a turn
 module _ (s : State) (e : Event) (used : ℕ) (r : Runner) (k : Desk) (h : Happening) (same : h ≡ happenedOf s (k .rows) (k .out) e) where
   same-reply : h .reply ≡ replyOf s (k .rows) e
@@ -94,7 +80,7 @@ module _ (s : State) (e : Event) (used : ℕ) (r : Runner) (k : Desk) (h : Happe
       (desk (s .costs) (s .tables) (h .sent) (h .held) (h .messages) (h .rows) (h .out))
       ≡ eventTurn s e used r k
   unfolding happenedOf eventTurn
-  accepted-turn none = rw (same, eq-eqb _ 0 (sym same-reply ∙ none), lasting s e .0, lasting s e .1)
+  accepted-turn none = rw (same, eq-eqb _ 0 (sym same-reply ∙ none), step-lasting s (callOf e) .0, step-lasting s (callOf e) .1)
 
   pub refused-turn :
       (h .reply ≡ 0 → ⊥) →

@@ -60,7 +60,7 @@ loop-again c =
     let hop = sym (c .before .before .before .hop-at .ensures) ∙ ap hopSays (c .before .next .given .1) in
     let low = c .before .before .before .before .before .if1 .taken in (
       c .before .before .before .before .before .before .before .loop .inv .0 ∙ onward-more _ _ _ _ _ _ _ low (c .before .before .before .before .if2 .left) hop,
-      hop-leads _ _ _ _ _ (c .before .before .before .before .before .before .before .before .before .before .before .before .pre .0) _ _ _ _ hop,
+      hop-leads _ (c .before .before .before .before .before .before .before .before .before .before .before .before .pre .0) _ _ _ _ hop,
       omega arith,
     )
 

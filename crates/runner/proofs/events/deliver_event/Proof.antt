@@ -2,8 +2,8 @@
 use mathlib.Core.List.{[]}
 use mathlib.Core.Path.{ap, _∙_, refl}
 use borrow.Author.Needs.{needs}
-use Rattle.bench.specs.Whole.{stepBy}
 use Rattle.bench.specs.Deliveries.{Delivered}
+use Rattle.bench.proofs.CallSteps.{deliver-step}
 use Rattle.runner.specs.Events.{happening, replyOf, rowsAfter, textOf}
 use Rattle.runner.proofs.EventSteps.{quiet}
 use Rattle.runner.proofs.events.deliver_event.Statement.{statement}
@@ -25,10 +25,10 @@ same-length-3 : tie.Need-same-length-3
 same-length-3 c = search needs
 
 returns : tie.Need-returns
-unfolding replyOf rowsAfter textOf stepBy
+unfolding replyOf rowsAfter textOf
 returns c = rw (c .reaction-number .ensures)
     (ap (λ (o : Delivered). happening (o .reply .number) (o .bench) (o .sent) (o .held) (o .messages) [] [] 0) (c .before .before .before .before .before .before .before .before .deliver .ensures)
-    ∙ quiet _ [] [] _ refl)
+    ∙ quiet _ [] [] _ (deliver-step _ _) refl)
 
 pub deliver-event-spec : {M : Type 1} → statement M
 deliver-event-spec =

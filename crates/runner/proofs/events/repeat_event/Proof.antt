@@ -2,8 +2,8 @@
 use mathlib.Core.List.{[]}
 use mathlib.Core.Path.{ap, _∙_, refl}
 use borrow.Author.Needs.{needs}
-use Rattle.bench.specs.Whole.{stepBy}
 use Rattle.bench.specs.Deliveries.{Delivered}
+use Rattle.bench.proofs.CallSteps.{repeat-step}
 use Rattle.runner.specs.Events.{happening, replyOf, rowsAfter, textOf}
 use Rattle.runner.proofs.EventSteps.{quiet}
 use Rattle.runner.proofs.events.repeat_event.Statement.{statement}
@@ -22,10 +22,10 @@ same-length-2 : tie.Need-same-length-2
 same-length-2 c = search needs
 
 returns : tie.Need-returns
-unfolding replyOf rowsAfter textOf stepBy
+unfolding replyOf rowsAfter textOf
 returns c = rw (c .reaction-number .ensures)
     (ap (λ (o : Delivered). happening (o .reply .number) (o .bench) (o .sent) (o .held) (o .messages) [] [] 0) (c .before .before .before .before .before .before .repeat .ensures)
-    ∙ quiet _ [] [] _ refl)
+    ∙ quiet _ [] [] _ (repeat-step _ _) refl)
 
 pub repeat-event-spec : {M : Type 1} → statement M
 repeat-event-spec =

@@ -2,8 +2,8 @@
 use mathlib.Core.List.{[]}
 use mathlib.Core.Path.{ap, _∙_, refl}
 use borrow.Author.Needs.{needs}
-use Rattle.bench.specs.Whole.{stepBy}
 use Rattle.bench.specs.Changes.{Rewritten}
+use Rattle.bench.proofs.CallSteps.{update-step}
 use Rattle.runner.specs.Events.{happening, replyOf, rowsAfter, textOf}
 use Rattle.runner.proofs.EventSteps.{quiet}
 use Rattle.runner.proofs.events.update_event.Statement.{statement}
@@ -22,9 +22,9 @@ same-length-2 : tie.Need-same-length-2
 same-length-2 c = search needs
 
 returns : tie.Need-returns
-unfolding replyOf rowsAfter textOf stepBy
+unfolding replyOf rowsAfter textOf
 returns c = rw (c .number-of .ensures)
-    (ap (λ (o : Rewritten). happening (o .reply) (o .bench) (o .sent) (o .held) [] [] [] 0) (c .before .before .before .before .before .before .update .ensures) ∙ quiet _ [] [] _ refl)
+    (ap (λ (o : Rewritten). happening (o .reply) (o .bench) (o .sent) (o .held) [] [] [] 0) (c .before .before .before .before .before .before .update .ensures) ∙ quiet _ [] [] _ (update-step _ _ _) refl)
 
 pub update-event-spec : {M : Type 1} → statement M
 update-event-spec =

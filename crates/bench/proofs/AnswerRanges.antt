@@ -1,0 +1,81 @@
+-- What an accepted report or path tells: there are at most 16 bridges, the path has fewer hops than there are bridges, and where it stops
+-- is a bridge. Assumes nothing.
+use Prim.Native.Nat.{ℕ, zero, suc, _-_, _≤_, _<_}
+use native.Mathlib.Omega.{arith}
+use mathlib.Core.Path.{_≡_, refl, sym, ap, subst, _∙_}
+use mathlib.Core.Bool.{Bool, true, false, cond, _&&_}
+use mathlib.Core.List.{List}
+use lib.ListN.{length}
+use lib.Dec.{eqb, leb}
+use Rattle.distances.proofs.Booleans.{both-true}
+use Rattle.agreement.specs.Call.{Said, says}
+use Rattle.bench.specs.Calls as calls
+use Rattle.bench.specs.Calls.{refuse, checks}
+use Rattle.bench.specs.Ports.{Hop, stays, crosses}
+use Rattle.bench.specs.Paths.{Way, delivered, stops, follow, onward, hops}
+use Rattle.bench.specs.State.{State, network}
+use Rattle.bench.specs.Changes.{refusalOf, stateInRange}
+use Rattle.bench.specs.Deliveries.{refusedBy}
+use Rattle.bench.specs.Answers.{report, reported, reportOf, hopIn, pathOf}
+use Rattle.bench.specs.Steps.{Ready}
+use Rattle.bench.proofs.EntrySettled.{reply-is}
+use Rattle.bench.proofs.FlightCalls.{refusal-none, said-same}
+use Rattle.bench.proofs.FlightRanges.{network-told}
+use Rattle.bench.proofs.PathEnds.{onward-short}
+use Rattle.bench.proofs.WalkSteps.{hop-leads, bridge-listed}
+
+-- a way that stops, at a bridge
+abbrev pub StopsBelow : ℕ → Way → Type 0
+StopsBelow bridges (delivered h) = Unit {0}
+StopsBelow bridges (stops b h) = b < bridges
+
+module _ (next : ℕ → Hop) (bridges : ℕ) (leads : (y l z : ℕ) → next y ≡ crosses l z → z < bridges) (d : ℕ) where
+  onward-below : (left h y : ℕ) → y < bridges → StopsBelow bridges (onward next d left h y)
+  unfolding onward follow
+  onward-below zero h y low = go (eqb y d)
+    where
+      go : (b : Bool) → StopsBelow bridges (cond b (delivered h) (stops y h))
+      go true = tt
+      go false = low
+  onward-below (suc left) h y low = go (onward-below left (suc h)) (eqb y d) (next y) refl
+    where
+      go :
+          ((z : ℕ) → z < bridges → StopsBelow bridges (onward next d left (suc h) z)) →
+          (b : Bool) (p : Hop) →
+          next y ≡ p →
+          StopsBelow bridges (cond b (delivered h) (follow y h (onward next d left (suc h)) p))
+      go rest true p e = tt
+      go rest false stays e = low
+      go rest false (crosses l z) e = rest z (leads y l z e)
+
+pub record PathTold (bridges : ℕ) (w : Way) : Type 0 where
+  pub few : bridges ≤ 16
+  pub short : hops w ≤ bridges - 1
+  pub last : StopsBelow bridges w
+
+module _ (s : State) where
+  pub path-told : (y d : ℕ) (w : Way) → pathOf s y d ≡ says w → PathTold (s .bench .bridges) w
+  unfolding pathOf refuse checks
+  path-told y d w e =
+      let k : ℕ = refusalOf (stateInRange s) (network s) (calls.path y d) in
+      let bridges : ℕ = s .bench .bridges in
+      let way : Way = onward (hopIn s d) d (bridges - 1) 0 y in
+      let none : k ≡ 0 = sym (reply-is (λ o. o .number) k refusedBy (says way) (λ j. refl) (λ z. refl)) ∙ ap (λ (o : Said Way). o .number) e in
+      let pass = refusal-none (stateInRange s) (network s) (calls.path y d) none in
+      let ready : Ready (s .bench) (s .costs) (s .tables) = network-told _ _ _ _ _ (pass .0) in
+      let start : y < bridges = bridge-listed (network s) y _ (pass .1) in
+      subst (PathTold bridges) (said-same way w (rw none at e))
+      (record {
+        few = ready .fewBridges;
+        short = omega (arith, onward-short (hopIn s d) d (bridges - 1) 0 y);
+        last = onward-below (hopIn s d) bridges (hop-leads s ready d) d (bridges - 1) 0 y start;
+      })
+
+  pub report-few : (d : ℕ) (rows : List ℕ) → reportOf s d rows .reply ≡ 0 → s .bench .bridges ≤ 16
+  unfolding reportOf
+  report-few d rows e =
+      let ok : Bool = stateInRange s && leb 32 (length rows) in
+      let k : ℕ = refusalOf ok (network s) (calls.report d) in
+      let none : k ≡ 0 = sym (reply-is (λ o. o .reply) k (λ j. report j rows) (report 0 (reported s d (s .bench .bridges) rows)) (λ j. refl) (λ z. refl)) ∙ e in
+      let ready = network-told _ (s .costs) (s .tables) _ _ (both-true (stateInRange s) _ (refusal-none ok (network s) (calls.report d) none .0) .0) in
+      ready .fewBridges

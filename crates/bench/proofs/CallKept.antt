@@ -1,0 +1,122 @@
+-- A call that is answered with another number than 0 leaves the state as it was, and a report the lent rows. Assumes nothing.
+use Prim.Native.Nat.{ℕ, _<_}
+use native.Mathlib.Omega.{arith}
+use mathlib.Core.Path.{_≡_, refl, ap}
+use mathlib.Core.Bool.{Bool, true, false, cond, _&&_}
+use mathlib.Core.List.{List, [], _∷_}
+use lib.ListN.{length, getD}
+use lib.Dec.{eqb, leb}
+use Rattle.agreement.specs.Offer.{opposite}
+use Rattle.bench.specs.Net.{sender}
+use Rattle.bench.specs.Calls.{Call, Check, change, update, cut, restore, send, deliver, repeat, lose, refuse, checks, noMessage}
+use Rattle.bench.specs.Calls as calls
+use Rattle.bench.specs.State.{State, network, networkOf, messageFrom}
+use Rattle.bench.specs.Ranges.{benchInRange, messagesInRange}
+use Rattle.bench.specs.Changes.{Changed, changed, Rewritten, rewritten, refusalOf, settled, stateInRange, updateOf, cutOf, restoreOf}
+use Rattle.bench.specs.Flights.{Flown, flown, sendOf, loseOf}
+use Rattle.bench.specs.Deliveries.{Delivered, received, deliveryReady, deliveryRefused, deliverOf, repeatOf}
+use Rattle.bench.specs.Answers.{Reported, report, reportOf}
+use Rattle.bench.specs.Whole.{stepBy}
+use Rattle.bench.proofs.Accepted.{place-listed}
+use Rattle.bench.proofs.CallSteps.{withChanged, withRewritten, withFlown, withDelivered}
+use Rattle.bench.proofs.EntrySettled.{reply-some}
+use Rattle.bench.proofs.FlightCalls.{refusal-none}
+use Rattle.bench.proofs.TieChecks.{message-told}
+use Rattle.bench.proofs.TieFlights.{messages-length}
+use Rattle.bench.proofs.TieRanges.{told}
+use Rattle.bench.proofs.TieReceived.{received-taken}
+
+-- an accepted update, moved or not
+either-accepted : (b : Bool) (x y : Rewritten) → x .reply ≡ 0 → y .reply ≡ 0 → cond b x y .reply ≡ 0
+either-accepted true x y first second = first
+either-accepted false x y first second = second
+
+module _ (s : State) where
+  -- ---- the bench alone, and update
+
+  changed-kept :
+      (k : ℕ) (done : Changed) →
+      done .reply ≡ 0 →
+      let o : Changed = settled k (λ j. changed j (s .bench)) done in
+      (o .reply ≡ 0 → ⊥) →
+      withChanged s o ≡ s
+  changed-kept k done zero some = ap (withChanged s) (reply-some (λ o. o .reply) k (λ j. changed j (s .bench)) done (λ j. refl) (λ e. zero) some)
+
+  abbrev benchNumber : Call → ℕ
+  benchNumber c = refusalOf (benchInRange (s .bench)) (networkOf (s .bench) []) c
+
+  pub cut-kept : (l : ℕ) → (cutOf (s .bench) l .reply ≡ 0 → ⊥) → stepBy s (change (cut l)) ≡ s
+  unfolding stepBy cutOf
+  cut-kept l = changed-kept (benchNumber (change (cut l))) _ refl
+
+  pub restore-kept : (l : ℕ) → (restoreOf (s .bench) l .reply ≡ 0 → ⊥) → stepBy s (change (restore l)) ≡ s
+  unfolding stepBy restoreOf
+  restore-kept l = changed-kept (benchNumber (change (restore l))) _ refl
+
+  pub update-kept : (y t : ℕ) → (updateOf s y t .reply ≡ 0 → ⊥) → stepBy s (change (update y t)) ≡ s
+  unfolding stepBy updateOf
+  update-kept y t some =
+      ap (withRewritten s)
+      (reply-some (λ o. o .reply) (refusalOf (stateInRange s) (network s) (change (update y t))) (λ k. rewritten k (s .bench) (s .sent) (s .held)) _ (λ k. refl)
+      (λ e. either-accepted (eqb (getD (s .bench .view) y 0) t) _ _ refl refl)
+      some)
+
+  -- ---- the messages alone
+
+  flown-kept :
+      (k : ℕ) (done : Flown) →
+      done .reply ≡ 0 →
+      let o : Flown = settled k (λ j. flown j (s .bench) (s .messages)) done in
+      (o .reply ≡ 0 → ⊥) →
+      withFlown s o ≡ s
+  flown-kept k done zero some = ap (withFlown s) (reply-some (λ o. o .reply) k (λ j. flown j (s .bench) (s .messages)) done (λ j. refl) (λ e. zero) some)
+
+  abbrev flightNumber : Call → ℕ
+  flightNumber c = refusalOf (benchInRange (s .bench) && messagesInRange (s .bench) (s .messages)) (networkOf (s .bench) (s .messages)) c
+
+  pub send-kept : (y l : ℕ) → (sendOf (s .bench) (s .messages) y l .reply ≡ 0 → ⊥) → stepBy s (send y l) ≡ s
+  unfolding stepBy sendOf
+  send-kept y l = flown-kept (flightNumber (send y l)) _ refl
+
+  pub lose-kept : (p : ℕ) → (loseOf (s .bench) (s .messages) p .reply ≡ 0 → ⊥) → stepBy s (lose p) ≡ s
+  unfolding stepBy loseOf
+  lose-kept p = flown-kept (flightNumber (lose p)) _ refl
+
+  -- ---- deliveries
+
+  -- layer 2 takes the message at a place that the table lets pass
+  placed-taken :
+      (p : ℕ) (c : Call) (cs : List Check) →
+      checks (network s) c ≡ noMessage (network s) p ∷ cs →
+      refusalOf (deliveryReady s) (network s) c ≡ 0 →
+      received s p .reply .number ≡ 0
+  unfolding refuse
+  placed-taken p c cs asks none =
+      let h = refusal-none (deliveryReady s) (network s) c none in
+      let low : p < s .bench .messages = rw messages-length at (place-listed (network s) p cs (rw asks at (h .1))) in
+      let inside = message-told _ _ (messageFrom (s .messages) p) (told s (h .0) .message p low) in
+      received-taken s (told s (h .0)) (opposite (sender (messageFrom (s .messages) p))) (omega (arith, inside .link, inside .direction)) _ inside
+
+  delivered-kept :
+      (c : Call) (done : Delivered) →
+      (refusalOf (deliveryReady s) (network s) c ≡ 0 → done .reply .number ≡ 0) →
+      let o : Delivered = settled (refusalOf (deliveryReady s) (network s) c) (deliveryRefused s) done in
+      (o .reply .number ≡ 0 → ⊥) →
+      withDelivered s o ≡ s
+  delivered-kept c done zero some = ap (withDelivered s) (reply-some (λ o. o .reply .number) _ (deliveryRefused s) done (λ j. refl) zero some)
+
+  pub deliver-kept : (p : ℕ) → (deliverOf s p .reply .number ≡ 0 → ⊥) → stepBy s (deliver p) ≡ s
+  unfolding stepBy deliverOf checks
+  deliver-kept p = delivered-kept (deliver p) _ (placed-taken p (deliver p) _ refl)
+
+  pub repeat-kept : (p : ℕ) → (repeatOf s p .reply .number ≡ 0 → ⊥) → stepBy s (repeat p) ≡ s
+  unfolding stepBy repeatOf checks
+  repeat-kept p = delivered-kept (repeat p) _ (placed-taken p (repeat p) _ refl)
+
+  -- ---- a report
+
+  pub report-kept : (d : ℕ) (rows : List ℕ) → (reportOf s d rows .reply ≡ 0 → ⊥) → reportOf s d rows .rows ≡ rows
+  unfolding reportOf
+  report-kept d rows some =
+      ap (λ (o : Reported). o .rows)
+      (reply-some (λ o. o .reply) (refusalOf (stateInRange s && leb 32 (length rows)) (network s) (calls.report d)) (λ k. report k rows) _ (λ k. refl) (λ e. refl) some)

@@ -1,0 +1,30 @@
+-- What a call does not read: an update, a report and a path come to the same whatever messages are lent. Assumes nothing.
+use Prim.Native.Nat.{ℕ, zero, suc}
+use mathlib.Core.Path.{_≡_, refl}
+use mathlib.Core.List.{List}
+use Rattle.bench.specs.Calls.{checks, changeChecks, noSuchBridge, noSuchView, noNumberLeft}
+use Rattle.bench.specs.State.{State, state}
+use Rattle.bench.specs.Changes.{refusalOf, updateOf}
+use Rattle.bench.specs.Answers.{portIn, reportedRow, reported, reportOf, hopIn, pathOf}
+
+module _ (s : State) (m : List ℕ) where
+  -- with other messages
+  abbrev other : State
+  other = state (s .bench) (s .costs) (s .tables) (s .sent) (s .held) m
+
+  pub update-reads : (y t : ℕ) → updateOf other y t ≡ updateOf s y t
+  unfolding updateOf refusalOf checks changeChecks noSuchBridge noSuchView noNumberLeft
+  update-reads y t = refl
+
+  reported-reads : (d k : ℕ) (rows : List ℕ) → reported other d k rows ≡ reported s d k rows
+  unfolding reported reportedRow portIn
+  reported-reads d zero rows = refl
+  reported-reads d (suc k) rows = rw (reported-reads d k rows)
+
+  pub report-reads : (d : ℕ) (rows : List ℕ) → reportOf other d rows ≡ reportOf s d rows
+  unfolding reportOf refusalOf checks noSuchBridge
+  report-reads d rows = rw (reported-reads d (s .bench .bridges) rows)
+
+  pub path-reads : (y d : ℕ) → pathOf other y d ≡ pathOf s y d
+  unfolding pathOf refusalOf checks noSuchBridge hopIn portIn
+  path-reads y d = refl

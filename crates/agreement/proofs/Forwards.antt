@@ -1,7 +1,7 @@
--- The forwarding port says what document 01 does: it is open on the link of end e if and only if e is the chosen end and every
+-- The forwarding port says what document 01 does: it is open on the link of end e if and only if that link is the chosen one and every
 -- condition holds. The bridge is y, the destination d, f the distances and c the costs of y's view. Assumes nothing.
 use Prim.Native.Nat.{ℕ, _+_, _*_, _≤_, _<_}
-use mathlib.Core.Path.{_≡_, refl, ap, _∙_}
+use mathlib.Core.Path.{_≡_, refl, sym, ap, _∙_}
 use mathlib.Core.Logic.{inl, inr}
 use mathlib.Core.Bool.{Bool, true, false, cond, _&&_, not}
 use native.Mathlib.Omega.{arith}
@@ -18,7 +18,8 @@ use Rattle.distances.proofs.Joined.{AreEnds, present-cost, cost-present}
 use Rattle.agreement.specs.Offer.{linkOf, farBridge}
 use Rattle.agreement.specs.Record.{heldLimit}
 use Rattle.agreement.specs.Forwarding.{Records, reaches, chosenEnd, isNotDestination, hasPath, isUp, heldSuffices, sentAllows, everySentAllows, conditions, portFrom, port}
-use Rattle.agreement.specs.Rule.{Reaches, IsChosen, Conditions, Forwards, PortFollowsRule}
+use Rattle.agreement.specs.Rule.{Reaches, IsChosen, Conditions, Forwards, EndsDiffer, PortFollowsRule}
+use Rattle.agreement.specs.declared.Port.{Port}
 use Rattle.agreement.specs.declared.Port.the-variants.{Closed, Open}
 use Rattle.agreement.proofs.Firsts.{first-passes, first-at-most}
 
@@ -41,7 +42,7 @@ module _ (g : Graph) (c : Costs) (f : ℕ → ℕ → ℕ) (y d : ℕ) where
       (eq-eqb (c (linkOf e) + f (farBridge g e) d) (f y d) (r .sum))
 
   -- the chosen end reaches the distance, and there is one where some end does
-  pub chosen-reaches : chosenEnd g c f y d < 2 * g .links → Reaches g c f y d (chosenEnd g c f y d)
+  chosen-reaches : chosenEnd g c f y d < 2 * g .links → Reaches g c f y d (chosenEnd g c f y d)
   unfolding chosenEnd
   chosen-reaches h = reaches-told (chosenEnd g c f y d) (first-passes (reaches g c f y d) (2 * g .links) h)
 
@@ -56,7 +57,27 @@ module _ (g : Graph) (c : Costs) (f : ℕ → ℕ → ℕ) (y d : ℕ) where
   pub chosen-is : chosenEnd g c f y d < 2 * g .links → IsChosen g c f y d (chosenEnd g c f y d)
   chosen-is h = record { listed = h; reaches = chosen-reaches h; lowest = λ k b t. omega (arith, chosen-at-most k b t) }
 
-  -- so does an end at y of a link to a bridge that is nearer by its cost
+  -- and no other end is: one on the same link is at another bridge
+  chosen-unique : EndsDiffer g → (e : ℕ) → IsChosen g c f y d e → chosenEnd g c f y d ≡ e
+  chosen-unique differ e w = omega (arith, least, apart)
+    where
+      k : ℕ
+      k = chosenEnd g c f y d
+
+      least : k ≤ e
+      least = chosen-at-most e (w .listed) (w .reaches)
+
+      first : Reaches g c f y d k
+      first = chosen-reaches (chosen-exists e (w .listed) (w .reaches))
+
+      apart : k < e → ⊥
+      apart below =
+          let link : linkOf e ≤ linkOf k = w .lowest k (chosen-exists e (w .listed) (w .reaches)) first in
+          let even : 2 * linkOf e ≡ k = omega arith in
+          let odd : e ≡ 2 * linkOf e + 1 = omega arith in
+          differ (linkOf e) (omega (arith, w .listed)) (ap (g .bridgeAt) even ∙ first .own ∙ sym (w .reaches .own) ∙ ap (g .bridgeAt) odd)
+
+  -- an end at y of a link to a bridge that is nearer by its cost reaches the distance
   pub link-reaches : (l z : ℕ) → Joins g c l y z → c l + f z d ≡ f y d → (e : ℕ) × (e < 2 * g .links) × Reaches g c f y d e
   link-reaches l z j sum = go (j .joined)
     where
@@ -121,24 +142,33 @@ module _ (g : Graph) (c : Costs) (f : ℕ → ℕ → ℕ) (r : Records) (y d : 
       go : (b : Bool) → (ltb e (2 * g .links) && every (conditions g f r y d e)) ≡ b → cond b (Open (linkOf e)) Closed ≡ Open l → Forwards g c f r y d l e
       go true t o =
           let both = both-true (ltb e (2 * g .links)) _ t in
-          let low : e < 2 * g .links = ltb-true e (2 * g .links) (both .0) in
           record {
-            chosen = refl;
-            listed = low;
+            chosen = chosen-is g c f y d (ltb-true e (2 * g .links) (both .0));
             link = cc;
-            reached = chosen-reaches g c f y d low;
             allowed = conditions-told g f r y d e (both .1);
           }
       go false t o = absurd (let z : _≡_ {A = ℕ} 0 1 = cc in omega arith)
 
-  pub forwards-open : {l e : ℕ} → Forwards g c f r y d l e → port g c f r y d ≡ Open l
+  pub forwards-open : EndsDiffer g → {l e : ℕ} → Forwards g c f r y d l e → port g c f r y d ≡ Open l
   unfolding port portFrom
-  forwards-open {l} {e} w =
-      rw (w .chosen, true-both (lt-ltb e (2 * g .links) (w .listed)) (told-conditions g f r y d e (w .allowed))) (ap Open (w .link))
+  forwards-open differ {l} {e} w =
+      rw (
+        chosen-unique g c f y d differ e (w .chosen),
+        true-both (lt-ltb e (2 * g .links) (w .chosen .listed)) (told-conditions g f r y d e (w .allowed)),
+      )
+      (ap Open (w .link))
+
+  -- a port is closed or open
+  none-closed : ((l e : ℕ) → Forwards g c f r y d l e → ⊥) → port g c f r y d ≡ Closed
+  none-closed none = go (port g c f r y d) refl
+    where
+      go : (p : Port) → port g c f r y d ≡ p → port g c f r y d ≡ Closed
+      go Closed t = t
+      go (Open l) t = absurd (none l _ (open-forwards l t))
 
 pub port-follows-rule : PortFollowsRule
-port-follows-rule g c f r y d l =
-    (λ h. (chosenEnd g c f y d, open-forwards g c f r y d l h), λ w. forwards-open g c f r y d (w .1), chosen-is g c f y d)
+port-follows-rule g differ c f r y d =
+    (λ l h. (chosenEnd g c f y d, open-forwards g c f r y d l h), λ l w. forwards-open g c f r y d differ (w .1), none-closed g c f r y d)
 
 -- a bridge with a path to another has a chosen link
 pub chosen-for-path :

@@ -15,7 +15,7 @@ use Rattle.distances.proofs.Laws.{dist-bound, dist-le-none}
 use Rattle.distances.proofs.Joined.{present-is}
 use Rattle.agreement.specs.Offer.{opposite, offer}
 use Rattle.agreement.specs.Limits.{limitOf}
-use Rattle.agreement.specs.Call.{Lent, lentGraph, lentInRange, lentOffer}
+use Rattle.agreement.specs.Call.{Lent, lentGraph, lentInRange, lentOffer, LentOffersAreOffers}
 
 -- as the code computes it
 pub lent-offer :
@@ -33,10 +33,6 @@ pub lent-offers :
     l ≡ e / 2 →
     (λ d. limitOf (getD (v .costs) l 0) (cell (v .table) (getD (v .ends) o 0) d) (cell (v .table) (getD (v .ends) a 0) d)) ≡ lentOffer v e
 lent-offers v e o a l p q r = fun-ext (λ d. rw (p, q, r) (sym (lent-offer v e d)))
-
--- the table holds the view's distances
-abbrev pub HoldsDistances : Lent → Type 0
-HoldsDistances v = (i j : ℕ) → i < v .bridges → j < v .bridges → cell (v .table) i j ≡ dist (lentGraph v) (costsOf (v .costs)) i j
 
 module _ (v : Lent) (ok : lentInRange v ≡ true) where
   -- no offer is above NONE
@@ -67,17 +63,12 @@ module _ (v : Lent) (ok : lentInRange v ≡ true) where
           )
       go false w = omega arith
 
-  -- then a limit's offer is the view's
-  pub offer-is :
-      HoldsDistances v →
-      (e d : ℕ) →
-      e < 2 * v .links →
-      d < v .bridges →
-      lentOffer v e d ≡ offer (lentGraph v) (costsOf (v .costs)) (dist (lentGraph v) (costsOf (v .costs))) e d
-  unfolding lentOffer offer
-  offer-is holds e d he hd =
-      rw (
-        holds (getD (v .ends) e 0) d (at-bridge _ _ _ _ _ ok e he) hd,
-        holds (getD (v .ends) (opposite e) 0) d (at-bridge _ _ _ _ _ ok (opposite e) (omega arith)) hd,
-      )
-      (omega (arith, offer-most e d he))
+-- where the table holds the distances a limit's offer is the view's
+pub offer-is : LentOffersAreOffers
+unfolding lentOffer offer
+offer-is v ok holds e d he hd =
+    rw (
+      holds (getD (v .ends) e 0) d (at-bridge _ _ _ _ _ ok e he) hd,
+      holds (getD (v .ends) (opposite e) 0) d (at-bridge _ _ _ _ _ ok (opposite e) (omega arith)) hd,
+    )
+    (omega (arith, offer-most v ok e d he))

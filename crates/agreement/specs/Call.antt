@@ -1,11 +1,13 @@
 -- What each public call does, for every input: its reply, the record, the lent tables. Assumes nothing.
-use Prim.Native.Nat.{ℕ, _*_, min}
-use mathlib.Core.Bool.{Bool, false, cond, _&&_}
+use Prim.Native.Nat.{ℕ, _*_, _<_, min}
+use mathlib.Core.Path.{_≡_}
+use mathlib.Core.Bool.{Bool, true, false, cond, _&&_}
 use mathlib.Core.List.{List, [], _∷_}
 use lib.ListN.{length, getD}
 use lib.Dec.{ltb}
 use Rattle.distances.specs.View.{Graph, NONE, graphOf, costsOf}
 use Rattle.distances.specs.Table.{cell}
+use Rattle.distances.specs.Distance.{dist}
 use Rattle.agreement.specs.Offer.{opposite, offer}
 use Rattle.agreement.specs.Record.{freshRecord, updated, sentUpdated, heldUpdated, carried, answer, recorded, sentDelivered, heldDelivered}
 use Rattle.agreement.specs.Limits.{withLimits}
@@ -73,6 +75,21 @@ lentInRange v = viewInRange (v .bridges) (v .links) (v .ends) (v .costs) (v .tab
 -- the offer of the bridge at end e, as a limit
 unfoldable pub lentOffer : Lent → ℕ → ℕ → ℕ
 lentOffer v e d = min NONE (offer (lentGraph v) (costsOf (v .costs)) (cell (v .table)) e d)
+
+-- the lent table holds the view's distances, as layer 1 leaves it
+abbrev pub HoldsDistances : Lent → Type 0
+HoldsDistances v = (i j : ℕ) → i < v .bridges → j < v .bridges → cell (v .table) i j ≡ dist (lentGraph v) (costsOf (v .costs)) i j
+
+-- with such a table the offers that limits are made of are document 01's
+abbrev pub LentOffersAreOffers : Type 0
+LentOffersAreOffers =
+    (v : Lent) →
+    lentInRange v ≡ true →
+    HoldsDistances v →
+    (e d : ℕ) →
+    e < 2 * v .links →
+    d < v .bridges →
+    lentOffer v e d ≡ offer (lentGraph v) (costsOf (v .costs)) (dist (lentGraph v) (costsOf (v .costs))) e d
 
 -- The offer over the link of end e for destination d
 unfoldable pub offerOutcome : Lent → ℕ → ℕ → Said ℕ

@@ -1,49 +1,64 @@
--- Document 01, "Forwarding", as propositions, to be read beside it. The bridge is y, the destination d, f the distances and c the costs
--- of y's view. Assumes nothing.
+-- Document 01, "Forwarding", as propositions, to be read beside it, and the claim that the port of the contracts follows them.
+-- The bridge is y, the destination d, f the distances and c the costs of y's view. An end at y stands for its link. Assumes nothing.
 use Prim.Native.Nat.{ℕ, _+_, _*_, _<_, _≤_}
 use mathlib.Core.Bool.{false}
 use mathlib.Core.Path.{_≡_}
 use Rattle.distances.specs.View.{Graph, Costs, NONE}
 use Rattle.agreement.specs.Offer.{linkOf, farBridge}
 use Rattle.agreement.specs.Record.{heldLimit}
-use Rattle.agreement.specs.Forwarding.{Records, chosenEnd, port}
-use Rattle.agreement.specs.declared.Port.the-variants.{Open}
+use Rattle.agreement.specs.Forwarding.{Records, port}
+use Rattle.agreement.specs.declared.Port.the-variants.{Closed, Open}
 
--- end e is at y, its link is "present in Y's view", and its "cost plus far bridge's distance equals Y's distance"
+-- a link of y that may be chosen
 pub record Reaches (g : Graph) (c : Costs) (f : ℕ → ℕ → ℕ) (y d e : ℕ) : Type 0 where
+  -- "its .. link": end e is at y
   pub own : g .bridgeAt e ≡ y
+  -- "present in Y's view"
   pub present : c (linkOf e) ≡ 0 → ⊥
+  -- "whose cost plus far bridge's distance equals Y's distance, in Y's view"
   pub sum : c (linkOf e) + f (farBridge g e) d ≡ f y d
 
--- the link of end e is the "chosen link" of y: the "lowest-numbered" of those
+-- "The chosen link of Y" is the link of end e
 pub record IsChosen (g : Graph) (c : Costs) (f : ℕ → ℕ → ℕ) (y d e : ℕ) : Type 0 where
+  -- e is an end of one of the links
   pub listed : e < 2 * g .links
   pub reaches : Reaches g c f y d e
+  -- "its lowest-numbered link" of those
   pub lowest : (k : ℕ) → k < 2 * g .links → Reaches g c f y d k → linkOf e ≤ linkOf k
 
--- the conditions under which y forwards on the link of end e
+-- "Y forwards on it if": the link is that of end e
 pub record Conditions (g : Graph) (f : ℕ → ℕ → ℕ) (r : Records) (y d e : ℕ) : Type 0 where
-  -- "Y is not the destination and its distance is not NONE"
+  -- "Y is not the destination"
   pub notDestination : y ≡ d → ⊥
+  -- "and its distance is not NONE"
   pub hasPath : f y d ≡ NONE → ⊥
-  -- "the link is not cut; its held limit is at most Y's distance"
+  -- "the link is not cut"
   pub up : r .cut (linkOf e) ≡ false
+  -- "its held limit is at most Y's distance"
   pub held : heldLimit (r .ends e) (r .held e) d ≤ f y d
-  -- "Y's distance is below the sent limit of every uncut link of Y, the chosen one included"
+  -- "and Y's distance is below the sent limit of every uncut link of Y, the chosen one included"
   pub sent : (k : ℕ) → k < 2 * g .links → g .bridgeAt k ≡ y → r .cut (linkOf k) ≡ false → f y d < r .sent k d
 
--- y forwards on link l, which is the link of its chosen end e
+-- y forwards on link l, by its end e
 pub record Forwards (g : Graph) (c : Costs) (f : ℕ → ℕ → ℕ) (r : Records) (y d l e : ℕ) : Type 0 where
-  pub chosen : chosenEnd g c f y d ≡ e
-  pub listed : e < 2 * g .links
+  -- "The chosen link of Y"
+  pub chosen : IsChosen g c f y d e
+  -- is l
   pub link : linkOf e ≡ l
-  pub reached : Reaches g c f y d e
+  -- "Y forwards on it if"
   pub allowed : Conditions g f r y d e
 
--- the port that the contracts speak of is open exactly as the rule says, and the end that the definitions choose is the chosen one
+-- links are "each joining two different bridges" ("Network and views"), so that a bridge has one end of a link at most
+abbrev pub EndsDiffer : Graph → Type 0
+EndsDiffer g = (l : ℕ) → l < g .links → g .bridgeAt (2 * l) ≡ g .bridgeAt (2 * l + 1) → ⊥
+
+-- the port that the contracts speak of is open on link l if and only if y forwards on l, and closed if y forwards on none:
+-- "No other port forwards for that destination"
 abbrev pub PortFollowsRule : Type 0
 PortFollowsRule =
-    (g : Graph) (c : Costs) (f : ℕ → ℕ → ℕ) (r : Records) (y d l : ℕ) →
-    (port g c f r y d ≡ Open l → (e : ℕ) × Forwards g c f r y d l e)
-    × ((e : ℕ) × Forwards g c f r y d l e → port g c f r y d ≡ Open l)
-    × (chosenEnd g c f y d < 2 * g .links → IsChosen g c f y d (chosenEnd g c f y d))
+    (g : Graph) →
+    EndsDiffer g →
+    (c : Costs) (f : ℕ → ℕ → ℕ) (r : Records) (y d : ℕ) →
+    ((l : ℕ) → port g c f r y d ≡ Open l → (e : ℕ) × Forwards g c f r y d l e)
+    × ((l : ℕ) → (e : ℕ) × Forwards g c f r y d l e → port g c f r y d ≡ Open l)
+    × (((l e : ℕ) → Forwards g c f r y d l e → ⊥) → port g c f r y d ≡ Closed)

@@ -4,7 +4,7 @@ use Prim.Native.Nat.{ℕ, _+_, _*_, _<_, _≤_}
 use native.Mathlib.Omega.{arith}
 use mathlib.Core.Path.{_≡_, refl, ap, _∙_}
 use mathlib.Core.Bool.{Bool, true, false}
-use Rattle.distances.specs.View.{Graph, Costs, NONE}
+use Rattle.distances.specs.View.{Graph, Costs, NONE, InRange}
 use Rattle.distances.specs.Distance.{dist}
 use Rattle.distances.proofs.Laws.{next-hop, dist-le-none}
 use Rattle.agreement.specs.Offer.{linkOf, opposite, farBridge}
@@ -12,8 +12,8 @@ use Rattle.agreement.specs.Record.{heldLimit}
 use Rattle.agreement.specs.Forwarding.{chosenEnd}
 use Rattle.agreement.specs.declared.Port.the-variants.{Open}
 use Rattle.agreement.proofs.Ends.{opposite-opposite, linkOf-opposite, offer-given, offer-above}
-use Rattle.agreement.specs.Rule.{Reaches, Forwards}
-use Rattle.agreement.proofs.Forwards.{chosen-reaches, chosen-exists, link-reaches, forwards-open}
+use Rattle.agreement.specs.Rule.{Reaches, IsChosen, Forwards}
+use Rattle.agreement.proofs.Forwards.{chosen-exists, chosen-is, link-reaches, forwards-open}
 use Rattle.bench.specs.Net.{Network, distanceIn}
 use Rattle.bench.specs.Ports.{crosses, hopBy, hop, portOf}
 use Rattle.bench.proofs.Links.{across-far}
@@ -71,28 +71,26 @@ module _ (n : Network) (t : ℕ) (ready : Ready n t) (y d : ℕ) (near : distanc
       let c : Costs = n .plan .costs t in
       let f : ℕ → ℕ → ℕ = distanceIn (n .plan) t in
       let k : ℕ = chosenIn n t y d in
-      let listed : k < 2 * g .links = chosen-exists g c f y d e h r in
-      let reached : Reaches g c f y d k = chosen-reaches g c f y d listed in
+      let range : InRange g = ready .oneView .invariant .1 .plan .graph in
+      let chosen : IsChosen g c f y d k = chosen-is g c f y d (chosen-exists g c f y d e h r) in
       let by : Forwards g c f (n .records) y d (linkOf k) k =
       record {
-        chosen = refl;
-        listed = listed;
+        chosen = chosen;
         link = refl;
-        reached = reached;
         allowed =
             record {
               notDestination = away;
               hasPath = λ z. absurd (omega arith);
-              up = link-up k listed reached;
-              held = held-suffices k listed reached;
+              up = link-up k (chosen .listed) (chosen .reaches);
+              held = held-suffices k (chosen .listed) (chosen .reaches);
               sent = sent-allows;
             };
       } in
-      let opens : portOf n y d ≡ Open (linkOf k) = rw (ready .oneView .onView y there) (forwards-open g c f (n .records) y d by) in
+      let opens : portOf n y d ≡ Open (linkOf k) = rw (ready .oneView .onView y there) (forwards-open g c f (n .records) y d (range .differ) by) in
       record {
         by = by;
         opens = opens;
-        hops = rw opens (ap (crosses (linkOf k)) (across-far g (ready .oneView .invariant .1 .plan .graph) k y listed (reached .own)));
+        hops = rw opens (ap (crosses (linkOf k)) (across-far g range k y (chosen .listed) (chosen .reaches .own)));
       }
 
 -- every bridge but the destination that has a path forwards

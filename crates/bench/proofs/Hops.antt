@@ -26,7 +26,7 @@ module _ (n : Network) where
 
   -- the bridge across the link is the far one of the end
   across-by : {h : ℕ → ℕ → ℕ} → InvariantBy n h → (y d l e : ℕ) → ForwardsBy y d l e → across (n .plan .graph) l y ≡ far n e
-  across-by inv y d l e by = rw (← by .link) (across-far (n .plan .graph) (inv .plan .graph) e y (by .listed) (by .reached .own))
+  across-by inv y d l e by = rw (← by .link) (across-far (n .plan .graph) (inv .plan .graph) e y (by .chosen .listed) (by .chosen .reaches .own))
 
   -- a distance that is not NONE is below it
   pub below-none : (y d : ℕ) → (ownDistance n y d ≡ NONE → ⊥) → ownDistance n y d < NONE
@@ -52,5 +52,5 @@ module _ (n : Network) where
   pub hop-in-range : {h : ℕ → ℕ → ℕ} → InvariantBy n h → (d y l z : ℕ) → hop n d y ≡ crosses l z → z < n .plan .graph .bridges
   hop-in-range inv d y l z e =
       let by = hop-end inv d y l z e in
-      let listed : opposite (by .0) < 2 * n .plan .graph .links = opposite-below (by .0) (n .plan .graph .links) (by .1 .listed) in
+      let listed : opposite (by .0) < 2 * n .plan .graph .links = opposite-below (by .0) (n .plan .graph .links) (by .1 .chosen .listed) in
       rw (by .2) at (bridge-in-range (n .plan .graph) (inv .plan .graph) (opposite (by .0)) listed)

@@ -49,7 +49,7 @@ module _ (n : Network) (inv : Invariant n) (d : ℕ) where
   hop-falls y l z l′ w first second =
       let by = hop-end n (inv .1) d y l z first in
       subst (λ (x : ℕ). ownDistance n x d < ownDistance n y d) (by .2)
-      (falls (by .0) (ownDistance n y d) l′ (by .1 .listed) (by .1 .allowed .up) (by .1 .allowed .held)
+      (falls (by .0) (ownDistance n y d) l′ (by .1 .chosen .listed) (by .1 .allowed .up) (by .1 .allowed .held)
       (below-none n y d (by .1 .allowed .hasPath))
       (subst (λ (x : ℕ). portOf n x d ≡ Open l′) (sym (by .2)) (hop-crosses n d z l′ w second .0)))
 

@@ -99,11 +99,11 @@ module _ (n : Network) (t : ℕ) (ready : Ready n t) (d : ℕ) where
     next-there : next < n .plan .graph .bridges
     next-there =
         bridge-in-range (n .plan .graph) (ready .oneView .invariant .1 .plan .graph) (opposite (chosenIn n t y d))
-        (opposite-below (chosenIn n t y d) (n .plan .graph .links) (on .by .listed))
+        (opposite-below (chosenIn n t y d) (n .plan .graph .links) (on .by .chosen .listed))
 
     next-reachable : distanceIn (n .plan) t next d ≡ NONE → ⊥
     next-reachable q =
-        omega (arith, on .by .reached .sum, on .by .reached .present, dist-le-none (n .plan .graph) (n .plan .costs t) y d)
+        omega (arith, on .by .chosen .reaches .sum, on .by .chosen .reaches .present, dist-le-none (n .plan .graph) (n .plan .costs t) y d)
 
   arrival : (left h y : ℕ) → y < n .plan .graph .bridges → (distanceIn (n .plan) t y d ≡ NONE → ⊥) → EndsByItself n d (onward (hop n d) d left h y) → Arrives n t d left h y
   unfolding onward onwardLinks follow followLinks
@@ -124,7 +124,7 @@ module _ (n : Network) (t : ℕ) (ready : Ready n t) (d : ℕ) where
           let by : ForwardsOver n t y d (chosenIn n t y d) = on y there away reachable in
           let rest : Arrives n t d left (suc h) (next y there away reachable) = later _ (next-there y there away reachable) (next-reachable y there away reachable) (rw (by .hops) at ends) in
           rw (by .hops)
-          (rest .0, total-more _ _ _ ∙ ap (λ (x : ℕ). n .plan .costs t (linkOf (chosenIn n t y d)) + x) (rest .1) ∙ by .by .reached .sum)
+          (rest .0, total-more _ _ _ ∙ ap (λ (x : ℕ). n .plan .costs t (linkOf (chosenIn n t y d)) + x) (rest .1) ∙ by .by .chosen .reaches .sum)
 
 ready-settled : (n : Network) (t : ℕ) → Ready n t → (y d : ℕ) → y < n .plan .graph .bridges → (y ≡ d → ⊥) → (distanceIn (n .plan) t y d ≡ NONE → ⊥) → Settled n t y d
 unfolding path linksCrossed

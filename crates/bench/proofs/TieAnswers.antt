@@ -139,7 +139,7 @@ module _ (s : State) (n : Network) (r : Represents s n) where
   hop-below d y l z hy e =
       let crossed = hop-crosses n d y l z e in
       let by = port-forwards n y d l (crossed .0) in
-      let low : l < n .plan .graph .links = omega (arith, by .1 .listed, by .1 .link) in
+      let low : l < n .plan .graph .links = omega (arith, by .1 .chosen .listed, by .1 .link) in
       rw (crossed .1, r .plan) at (across-below (n .plan .graph) (rw (r .plan) graph-inside) l y low)
 
   path-same : (y d : ℕ) → y < s .bench .bridges → d < s .bench .bridges → onward (hopIn s d) d (s .bench .bridges - 1) 0 y ≡ path n y d

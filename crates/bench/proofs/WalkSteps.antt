@@ -72,7 +72,7 @@ outcome-link v views cut records sent held y d l o = go (portReady v views cut r
     go true e =
         let opens = rw (port-accepted v views cut records sent held y d e) at o in
         let by = open-forwards (lentGraph v) (costsOf (v .costs)) (cell (v .table)) (lentRecords cut records sent held) y d l opens in
-        omega (arith, by .listed, by .link)
+        omega (arith, by .chosen .listed, by .link)
     go false e =
         let closed : Closed ≡ Open l = rw (port-refused v views cut records sent held y d e) at o in
         absurd (let z : _≡_ {A = ℕ} 0 1 = cc in omega arith)

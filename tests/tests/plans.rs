@@ -3,80 +3,43 @@
 
 #[path = "plans/make.rs"]
 mod make;
+#[path = "plans/run.rs"]
+mod run;
+#[path = "plans/spoil.rs"]
+mod spoil;
 
 use bench_tests::random::Random;
+use run::{outcome, printed, root, run};
 use std::collections::BTreeMap;
 use std::fs;
-use std::io::{ErrorKind, Read, Write};
 use std::path::{Path, PathBuf};
-use std::process::{Command, Stdio};
-use std::sync::mpsc;
-use std::thread;
-use std::time::Duration;
+use std::process::Command;
+use std::time::{Duration, Instant};
 
 const LONGEST: usize = 61_440;
 
-/// Far more than any plan takes.
-const PATIENCE: Duration = Duration::from_secs(30);
-
-fn root() -> PathBuf {
-    Path::new(env!("CARGO_MANIFEST_DIR")).join("..")
-}
-
-/// What a program of the repository prints for a plan. It has to end by itself, well and in time.
-fn run(program: &str, plan: &[u8]) -> String {
-    let path = root().join(program);
-    let mut child = Command::new(&path)
-        .stdin(Stdio::piped())
-        .stdout(Stdio::piped())
-        .spawn()
-        .unwrap_or_else(|error| panic!("{}: {error}", path.display()));
-    let mut stdin = child.stdin.take().expect("piped");
-    let mut stdout = child.stdout.take().expect("piped");
-    let (sender, receiver) = mpsc::channel();
-    thread::spawn(move || {
-        let mut text = Vec::new();
-        let read = stdout.read_to_end(&mut text).map(|_| text);
-        sender.send(read)
-    });
-    match stdin.write_all(plan) {
-        Err(error) if error.kind() != ErrorKind::BrokenPipe => panic!("{program}: {error}"),
-        // A program need not read a plan that is too long to its end.
-        _ => drop(stdin),
-    }
-    let text = receiver.recv_timeout(PATIENCE);
-    if text.is_err() {
-        child.kill().expect("the program can be ended");
-    }
-    let status = child.wait().expect("the program was started");
-    assert!(status.success(), "{program} ended with {status}");
-    let text = text.expect("in time").expect("readable");
-    String::from_utf8(text).unwrap_or_else(|error| panic!("{program}: {error}"))
+fn text(bytes: Vec<u8>) -> String {
+    String::from_utf8(bytes).expect("a text")
 }
 
 fn rehearse(plan: &[u8]) -> String {
-    run("target/bin/rehearse", plan)
+    text(printed("target/bin/rehearse", &[], plan))
 }
 
 fn reference(plan: &[u8]) -> String {
-    run("target/cargo/release/reference", plan)
+    text(printed("target/cargo/release/reference", &[], plan))
 }
 
-/// Bytes from a readable plan: pairs of hexadecimal digits, `NN*COUNT` for a byte again and again, `#` before a comment.
+const PLAN_SCRIPT: &str = "scripts/plan";
+
+/// The bytes of a readable plan, by the script that planners use.
+fn bytes_of_file(file: &Path) -> Vec<u8> {
+    printed(PLAN_SCRIPT, &[file], b"")
+}
+
+/// The same for a text.
 fn bytes_of(hex: &str) -> Vec<u8> {
-    let mut bytes = Vec::new();
-    for word in hex.lines().flat_map(|line| line.split('#').next().unwrap_or("").split_whitespace()) {
-        let (digits, count) = word.split_once('*').unwrap_or((word, "1"));
-        let count = count.parse().expect("a count");
-        for _ in 0..count {
-            for pair in digits.as_bytes().chunks(2) {
-                let pair = std::str::from_utf8(pair).expect("digits");
-                assert_eq!(pair.len(), 2, "an odd digit in {word}");
-                bytes.push(u8::from_str_radix(pair, 16).expect("hexadecimal"));
-            }
-        }
-    }
-    bytes
+    printed(PLAN_SCRIPT, &[Path::new("/dev/stdin")], hex.as_bytes())
 }
 
 /// The files of a folder with this ending, by name without it.
@@ -94,6 +57,24 @@ fn text_of(path: &Path) -> String {
     fs::read_to_string(path).unwrap_or_else(|error| panic!("{}: {error}", path.display()))
 }
 
+/// The readable plans: those of plans/cases, and the examples in plans/.
+fn readable_plans() -> BTreeMap<String, PathBuf> {
+    let mut plans = files("plans/cases", "hex");
+    plans.extend(files("plans", "hex"));
+    plans
+}
+
+/// The output that document 01 asks for, as it stands beside a readable plan: in a file of its own, or for an example in the
+/// last block of its comment.
+fn known_output(plan: &Path) -> String {
+    let output = plan.with_extension("out");
+    if output.exists() {
+        return text_of(&output);
+    }
+    let comment = text_of(&plan.with_extension("md"));
+    comment.rsplit("```\n").nth(1).expect("a block of output").to_string()
+}
+
 // ---- plans with known outputs
 
 /// Document 01's plan and output, as it has them.
@@ -103,69 +84,75 @@ fn the_plan_of_document_01() {
     assert_eq!(rehearse(&plan), "dest 0\n0 0 -\n1 5 -\ndest 0\n0 0 -\n1 5 0\nend 4\n");
 }
 
-/// Each plan of plans/cases against the output worked out by hand that stands beside it.
+/// The program and the reference are held to the output that stands beside each readable plan.
 #[test]
 fn known_plans() {
-    let plans = files("plans/cases", "hex");
+    let plans = readable_plans();
     assert!(plans.len() >= 50, "only {} plans", plans.len());
     for (name, path) in &plans {
-        let plan = bytes_of(&text_of(path));
-        let expected = text_of(&path.with_extension("out"));
+        let plan = bytes_of_file(path);
+        let expected = known_output(path);
         assert_eq!(reference(&plan), expected, "the reference on {name}");
         assert_eq!(rehearse(&plan), expected, "{name}");
     }
 }
 
-/// Every number that a plan can be refused with has a known plan. 16 and 17 cannot be reached: no plan is long enough for
-/// 65,534 updates, and the program lends what is needed.
+/// Every number that a plan can be refused with. 16 and 17 cannot be reached: no plan is long enough for 65,534 updates, and the
+/// program lends what is needed.
+fn refusals_of_plans() -> impl Iterator<Item = usize> {
+    (1..=15).chain([18])
+}
+
+/// Every number that a plan can be refused with has a known plan.
 #[test]
 fn known_plans_meet_every_refusal() {
     let last_lines: Vec<String> =
         files("plans/cases", "out").values().map(|path| text_of(path).lines().last().unwrap_or("").to_string()).collect();
-    for number in (1..=15).chain([18]) {
+    for number in refusals_of_plans() {
         let start = format!("refused {number} at ");
         assert!(last_lines.iter().any(|line| line.starts_with(&start)), "no known plan is refused with {number}");
     }
     assert!(last_lines.iter().any(|line| line.starts_with("end ")));
 }
 
-/// The plans that crates/replay is run on are the readable ones, so its stdout is held to them too.
+/// The plans that crates/replay is run on are the readable ones. Its stdout, which it is held to, has their names and their
+/// known outputs in the order in which it runs them: the order of their names in its source.
 #[test]
 fn replayed_plans_are_the_readable_ones() {
-    let mut readable = files("plans/cases", "hex");
-    readable.extend(files("plans", "hex"));
+    let readable = readable_plans();
     let replayed = files("crates/replay/data", "plan");
     assert!(replayed.keys().eq(readable.keys()), "crates/replay/data has other plans than plans/");
-    for (name, path) in replayed {
-        assert!(fs::read(path).expect("a plan") == bytes_of(&text_of(&readable[&name])), "{name}: run scripts/plan again");
+    for (name, path) in &replayed {
+        assert!(fs::read(path).expect("a plan") == bytes_of_file(&readable[name]), "{name}: run scripts/plan again");
     }
+    let source = text_of(&root().join("crates/replay/src/main.rt"));
+    let run = source.lines().filter_map(|line| line.trim().strip_prefix("replay(b\"")?.strip_suffix(".plan\");"));
+    let mut run: Vec<&str> = run.collect();
+    let expected: String = run.iter().map(|&name| format!("{name}.plan\n{}", known_output(&readable[name]))).collect();
+    assert_eq!(text_of(&root().join("crates/replay/stdout")), expected);
+    run.sort_unstable();
+    assert!(run.iter().eq(readable.keys()), "crates/replay does not run each plan once");
 }
 
-/// The example plans: the binary one is the readable one, and their comment files show what is printed.
+/// The binary example plans are the readable ones, whatever their line ends.
 #[test]
 fn example_plans() {
     let plans = files("plans", "plan");
     assert!(plans.len() >= 3);
     for (name, path) in plans {
         let plan = fs::read(&path).expect("a plan");
-        assert!(plan == bytes_of(&text_of(&path.with_extension("hex"))), "{name}: run scripts/plan again");
-        let output = rehearse(&plan);
-        assert_eq!(output, reference(&plan), "{name}");
-        let shown = text_of(&path.with_extension("md"));
-        let shown = shown.rsplit("```\n").nth(1).expect("a block of output");
-        assert_eq!(output, shown, "{name}");
+        let readable = path.with_extension("hex");
+        assert!(plan == bytes_of_file(&readable), "{name}: run scripts/plan again");
+        assert!(plan == bytes_of(&text_of(&readable).replace('\n', "\r\n")), "{name} with other line ends");
     }
 }
 
 /// The longest plan is carried out, and one byte more is refused before anything is printed.
 #[test]
 fn the_longest_plan() {
-    let mut plan = bytes_of("01 0001 02  02 0002 00 01  03 0004 00000005");
-    while plan.len() < LONGEST {
-        plan.extend(bytes_of("0B 0001 00"));
-    }
-    assert_eq!(plan.len(), LONGEST);
     let reports = (LONGEST - 16) / 4;
+    let plan = bytes_of(&format!("01 0001 02  02 0002 00 01  03 0004 00000005  0B000100*{reports}"));
+    assert_eq!(plan.len(), LONGEST);
     let expected = "dest 0\n0 0 -\n1 5 -\n".repeat(reports) + &format!("end {reports}\n");
     assert!(rehearse(&plan) == expected);
     for more in [1, 2, 4, 100, 100_000] {
@@ -238,33 +225,72 @@ fn sensible_plans() {
         met.has(what, 500);
     }
     for number in [10, 11, 12, 13, 14, 15] {
-        met.has(&format!("refused {number}"), 3);
+        met.has(&format!("refused {number}"), 10);
     }
 }
 
 #[test]
 fn damaged_plans() {
-    let met = compare(2_000_000, 2_000, make::damaged);
+    let met = compare(2_000_000, 2_000, spoil::damaged);
     met.has("open port", 2_000);
     met.has("end", 200);
-    for number in [1, 2, 3, 4, 5, 7, 9, 10, 12, 13, 15] {
-        met.has(&format!("refused {number}"), 5);
+    for number in refusals_of_plans() {
+        met.has(&format!("refused {number}"), 10);
     }
 }
 
 #[test]
-fn arbitrary_bytes() {
-    let met = compare(3_000_000, 500, make::arbitrary);
-    for number in [1, 2, 3, 4, 18] {
-        met.has(&format!("refused {number}"), 2);
+fn arbitrary_plans() {
+    let met = compare(3_000_000, 2_000, spoil::arbitrary);
+    for what in ["open port", "shut port"] {
+        met.has(what, 5_000);
+    }
+    for what in ["short way", "stop at once"] {
+        met.has(what, 500);
+    }
+    met.has("long way", 200);
+    met.has("end", 200);
+    met.has("stop on the way", 50);
+    for number in [1, 2, 3, 4, 10, 11, 12, 13, 14, 15, 18] {
+        met.has(&format!("refused {number}"), 20);
+    }
+}
+
+// ---- the planner's script
+
+/// Readable plans are read as they are meant.
+#[test]
+fn readable_plans_are_read() {
+    for end in ["\n", "\r\n"] {
+        assert_eq!(bytes_of(&["0B 0001 00 # report", "# 05", "", "\tfF", ""].join(end)), [11, 0, 1, 0, 255]);
+    }
+    assert_eq!(bytes_of("0A*3 0102*2 07*0 FF*010"), [&[10, 10, 10, 1, 2, 1, 2][..], &[255; 10]].concat());
+    assert_eq!(bytes_of("# nothing"), []);
+    let every: Vec<u8> = (0..=255).collect();
+    assert_eq!(bytes_of(&every.iter().map(|byte| format!("{byte:02x} ")).collect::<String>()), every);
+}
+
+/// A word that a readable plan does not have is named. Then nothing is written, and the status is 1.
+#[test]
+fn unreadable_plans_are_refused() {
+    for word in ["0", "012", "0g", "0x01", "\\x01", "%d", "*", "*3", "01*", "01*x", "01*-1", "01*2*3", "01*100000"] {
+        let output = run(PLAN_SCRIPT, &[Path::new("/dev/stdin")], format!("01 {word} 02").as_bytes());
+        assert_eq!(output.status.code(), Some(1), "{word}");
+        assert!(output.stdout.is_empty(), "{word}");
+        assert!(text(output.stderr).contains(&format!(" {word} ")), "{word}");
     }
 }
 
 // ---- the tests themselves
 
-/// Readable plans are read as they are meant.
+/// A program that neither reads its input nor ends is ended, and so is one that has closed its output.
 #[test]
-fn readable_plans_are_read() {
-    assert_eq!(bytes_of("0B 0001 00 # report\n# 05\nfF"), [11, 0, 1, 0, 255]);
-    assert_eq!(bytes_of("0A*3 0102*2"), [10, 10, 10, 1, 2, 1, 2]);
+fn programs_are_ended_in_time() {
+    let patience = Duration::from_millis(300);
+    for hang in ["exec sleep 600", "exec sleep 600 >&- 2>&-", "exec sleep 600 <&-"] {
+        let start = Instant::now();
+        let output = outcome(Command::new("sh").args(["-c", hang]), &vec![0; 1_000_000], patience);
+        assert!(output.is_none(), "{hang}");
+        assert!((patience..Duration::from_secs(60)).contains(&start.elapsed()), "{hang}");
+    }
 }

@@ -18,6 +18,7 @@ pub mod RoundLaws
 pub mod AfterRounds
 pub mod Settles
 pub mod Theorem
+pub mod LimitsKept
 pub mod Example
 pub mod TieRanges
 pub mod TieRefusals

@@ -1,14 +1,16 @@
--- Every path ends by itself: each hop comes to a bridge of smaller rank, and of smaller ranks there are at most bridges less one to
+-- A path's hops are the links that it crosses, and every path ends by itself: each hop comes to a bridge of smaller rank, and of smaller ranks there are at most bridges less one to
 -- start with. Assumes nothing.
 use Prim.Native.Nat.{ℕ, zero, suc, _+_, _-_, _≤_, _<_}
 use native.Mathlib.Omega.{arith}
 use mathlib.Core.Path.{_≡_, refl}
 use mathlib.Core.Bool.{Bool, true, false, cond}
+use mathlib.Core.List.{[]}
+use lib.ListN.{length}
 use lib.Dec.{eqb}
 use Rattle.distances.proofs.Count.{nearer, nearer-falls, nearer-less}
 use Rattle.bench.specs.Net.{Network}
 use Rattle.bench.specs.Ports.{Hop, stays, crosses, hop}
-use Rattle.bench.specs.Paths.{delivered, stops, follow, onward, path, EndsByItself, hops}
+use Rattle.bench.specs.Paths.{delivered, stops, follow, onward, path, followLinks, onwardLinks, linksCrossed, EndsByItself, hops, HopsAreLinks}
 use Rattle.bench.proofs.Invariant.{Invariant}
 use Rattle.bench.proofs.Hops.{hop-in-range}
 use Rattle.bench.proofs.NoRing.{rank, rank-falls}
@@ -32,6 +34,31 @@ onward-short next d (suc left) h y = go (onward-short next d left (suc h)) (eqb 
 pub path-short : (n : Network) (s d : ℕ) → hops (path n s d) ≤ n .plan .graph .bridges - 1
 unfolding path
 path-short n s d = omega (arith, onward-short (hop n d) d (n .plan .graph .bridges - 1) 0 s)
+
+-- a path that starts with h hops behind it counts one more for each link
+onward-counted : (next : ℕ → Hop) (d left h y : ℕ) → hops (onward next d left h y) ≡ h + length (onwardLinks next d left y)
+unfolding onward follow onwardLinks followLinks
+onward-counted next d zero h y = go (eqb y d)
+  where
+    go : (b : Bool) → hops (cond b (delivered h) (stops y h)) ≡ h + 0
+    go true = omega arith
+    go false = omega arith
+onward-counted next d (suc left) h y = go (onward-counted next d left (suc h)) (eqb y d) (next y)
+  where
+    go :
+        ((z : ℕ) → hops (onward next d left (suc h) z) ≡ suc h + length (onwardLinks next d left z)) →
+        (b : Bool) (p : Hop) →
+        hops (cond b (delivered h) (follow y h (onward next d left (suc h)) p)) ≡ h + length (cond b [] (followLinks (onwardLinks next d left) p))
+    go rest true p = omega arith
+    go rest false stays = omega arith
+    go rest false (crosses l z) = omega (arith, rest z)
+
+pub hops-are-links : HopsAreLinks
+hops-are-links next d left y = omega (arith, onward-counted next d left 0 y)
+
+pub path-counted : (n : Network) (s d : ℕ) → hops (path n s d) ≡ length (linksCrossed n s d)
+unfolding path linksCrossed
+path-counted n s d = hops-are-links (hop n d) d (n .plan .graph .bridges - 1) s
 
 -- how many bridges have a smaller rank than y
 before : Network → ℕ → ℕ → ℕ

@@ -9,7 +9,7 @@ use Rattle.bench.proofs.Invariant.{Invariant}
 use Rattle.bench.proofs.Runs.{plan-run}
 use Rattle.bench.proofs.Steps.{invariant-run}
 use Rattle.bench.proofs.NoRing.{no-ring}
-use Rattle.bench.proofs.PathEnds.{path-ends, path-short}
+use Rattle.bench.proofs.PathEnds.{path-ends, path-short, path-counted}
 use Rattle.bench.proofs.Settles.{settles}
 
 pub demand3 : Demand3
@@ -23,5 +23,6 @@ demand3 p inRange cs =
       pathShort =
           λ s d low listed. subst (λ (q : Plan). hops (path (run (fresh p) cs) s d) ≤ q .graph .bridges - 1) same
           (path-short (run (fresh p) cs) s d);
+      pathCounted = path-counted (run (fresh p) cs);
       settles = λ ks xs ys t split s y d low listed. settles p inRange cs ks xs ys t split s y d low;
     }

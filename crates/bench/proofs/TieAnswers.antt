@@ -2,17 +2,17 @@
 use Prim.Native.Nat.{ℕ, zero, suc, _*_, _-_, _≤_, _<_}
 use native.Mathlib.Omega.{arith}
 use mathlib.Core.Path.{_≡_, refl, sym, _∙_, ap}
-use mathlib.Core.Bool.{Bool, true, false, cond}
+use mathlib.Core.Bool.{true, cond}
 use mathlib.Core.List.{List, _∷_}
 use lib.ListN.{length, getD}
 use lib.Dec.{eqb}
-use borrow.Author.Tests.{eqb-true}
 use Rattle.distances.specs.View.{InRange, costsOf}
 use Rattle.distances.specs.Table.{cell}
 use Rattle.distances.proofs.Booleans.{below}
 use Rattle.agreement.specs.Ranges.{portInRange}
 use Rattle.agreement.specs.Forwarding.{port}
-use Rattle.agreement.specs.Call.{Lent, lentGraph, says}
+use Rattle.agreement.specs.Call.{Lent, lentGraph, Said, says}
+use Rattle.agreement.specs.declared.Port.{Port}
 use Rattle.agreement.proofs.PortCong.{port-cong}
 use Rattle.agreement.proofs.InRange.{records-pass, port-passes}
 use Rattle.agreement.proofs.Outcomes.{port-accepted}
@@ -21,7 +21,7 @@ use Rattle.bench.specs.Calls as calls
 use Rattle.bench.specs.Calls.{Call, Check, refusal, refuse, checks, noSuchBridge}
 use Rattle.bench.specs.Ports.{Hop, stays, crosses, hop}
 use Rattle.bench.specs.Ports as ports
-use Rattle.bench.specs.Paths.{delivered, follow, onward, path}
+use Rattle.bench.specs.Paths.{Way, delivered, follow, onward, path}
 use Rattle.bench.specs.State.{State, network, lentView}
 use Rattle.bench.specs.Changes.{refusalOf, settled, stateInRange}
 use Rattle.bench.specs.Deliveries.{refusedBy}
@@ -31,6 +31,7 @@ use Rattle.distances.proofs.Refusals.{passed}
 use Rattle.bench.proofs.Links.{across-below}
 use Rattle.bench.proofs.Hops.{port-forwards, hop-crosses}
 use Rattle.bench.proofs.TieRanges.{StateReady, told, network-ready, few, lent-in-range, plan-in-range, part-at}
+use Rattle.bench.proofs.TieRefusals.{settled-same}
 use Rattle.bench.proofs.TieChecks.{refusal-same}
 
 -- ---- hops that agree at the bridges that there are, and lead from one of them to another, make the same way
@@ -52,14 +53,6 @@ module _
           follow y h (onward next d left (suc h)) x ≡ follow y h (onward other d left (suc h)) x
       go stays e on = refl
       go (crosses l z) e on = on z (leads y l z low e)
-
--- an answer matters only where the call is accepted
-settled-same : {A : Type 0} (k : ℕ) (refused : ℕ → A) (a b : A) → (k ≡ 0 → a ≡ b) → settled k refused a ≡ settled k refused b
-settled-same k refused a b same = go (eqb k 0) refl
-  where
-    go : (t : Bool) → eqb k 0 ≡ t → cond t a (refused k) ≡ cond t b (refused k)
-    go true e = same (eqb-true k 0 e)
-    go false e = refl
 
 module _ (s : State) (n : Network) (r : Represents s n) where
   inside : StateReady s
@@ -127,7 +120,7 @@ module _ (s : State) (n : Network) (r : Represents s n) where
   unfolding portOf refuse checks
   port-answered y d =
       rw (asked (calls.port y d))
-      (settled-same (refuse n (calls.port y d)) refusedBy _ _ (λ e.
+      (settled-same (λ (x : Said Port). x) (refuse n (calls.port y d)) refusedBy refusedBy _ _ refl (λ e.
       let one = listed y _ e in
       ap says (port-same y d (one .0) (listed d _ (one .1) .0))))
 
@@ -152,6 +145,6 @@ module _ (s : State) (n : Network) (r : Represents s n) where
   unfolding pathOf refuse checks
   path-answered y d =
       rw (asked (calls.path y d))
-      (settled-same (refuse n (calls.path y d)) refusedBy _ _ (λ e.
+      (settled-same (λ (x : Said Way). x) (refuse n (calls.path y d)) refusedBy refusedBy _ _ refl (λ e.
       let one = listed y _ e in
       ap says (path-same y d (one .0) (listed d _ (one .1) .0))))

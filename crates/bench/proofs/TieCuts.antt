@@ -1,14 +1,14 @@
--- Cut and restore, on the lists and in the network. Assumes nothing.
+-- Cut and restore, on the lists and in the network, with their replies. Assumes nothing.
 use Prim.Native.Nat.{ℕ, _<_}
 use native.Mathlib.Omega.{arith}
-use mathlib.Core.Path.{_≡_, sym}
+use mathlib.Core.Path.{_≡_, refl, sym, _∙_}
 use mathlib.Core.Bool.{Bool, true, false}
-use mathlib.Core.List.{List, _∷_}
+use mathlib.Core.List.{List, [], _∷_}
 use lib.ListN.{length-set}
 use Rattle.distances.proofs.Booleans.{below}
 use Rattle.bench.specs.Net.{Network}
-use Rattle.bench.specs.Calls.{Check, change, cut, restore, refusal, noSuchLink, already, changeChecks, checks, withCut, changed, act, step}
-use Rattle.bench.specs.State.{State, state}
+use Rattle.bench.specs.Calls.{Check, change, cut, restore, refusal, noSuchLink, already, changeChecks, checks, refuse, withCut, changed, act, step}
+use Rattle.bench.specs.State.{State, state, networkOf}
 use Rattle.bench.specs.Ranges.{graphInRange, benchInRange, costsInRange, messagesInRange, networkInRange}
 use Rattle.bench.specs.Changes.{Changed, changed as leaving, refusalOf, benchWithCut, cutOf, restoreOf}
 use Rattle.bench.specs.Whole.{Represents, stepBy}
@@ -16,6 +16,7 @@ use Rattle.distances.proofs.Refusals.{passed}
 use Rattle.bench.proofs.Accepted.{accepted-checks}
 use Rattle.bench.proofs.TieRanges.{getD-stored, told, bench-ready, few}
 use Rattle.bench.proofs.TieRefusals.{settled-step}
+use Rattle.bench.proofs.EntrySettled.{reply-is}
 use Rattle.bench.proofs.TieChecks.{refusal-same}
 
 module _ (s : State) (n : Network) (r : Represents s n) where
@@ -49,22 +50,39 @@ module _ (s : State) (n : Network) (r : Represents s n) where
   unfolding noSuchLink
   is-listed l cs e = rw (r .plan) at (below l (n .plan .graph .links) (passed (noSuchLink n l) cs (omega arith) e .0))
 
+  -- the bench alone tells the refusal
+  cut-refused : (l : ℕ) → refusalOf (benchInRange (s .bench)) (networkOf (s .bench) []) (change (cut l)) ≡ refuse n (change (cut l))
+  unfolding refusalOf checks changeChecks noSuchLink already
+  cut-refused l = refusal-same s n r (benchInRange (s .bench)) (change (cut l)) (bench-ready s (told s (r .inRange)))
+
+  restore-refused : (l : ℕ) → refusalOf (benchInRange (s .bench)) (networkOf (s .bench) []) (change (restore l)) ≡ refuse n (change (restore l))
+  unfolding refusalOf checks changeChecks noSuchLink already
+  restore-refused l = refusal-same s n r (benchInRange (s .bench)) (change (restore l)) (bench-ready s (told s (r .inRange)))
+
   -- the state with the bench that a cut or a restore leaves
   abbrev withBench : Changed → State
   withBench o = state (o .bench) (s .costs) (s .tables) (s .sent) (s .held) (s .messages)
 
   pub cut-represents : (l : ℕ) → Represents (stepBy s (change (cut l))) (step n (change (cut l)))
-  unfolding stepBy cutOf act changed refusalOf checks changeChecks noSuchLink already
+  unfolding stepBy cutOf act changed checks changeChecks
   cut-represents l =
       settled-step withBench n (change (cut l)) _ (λ k. leaving k (s .bench)) (leaving 0 (benchWithCut (s .bench) l true))
-      (refusal-same s n r (benchInRange (s .bench)) (change (cut l)) (bench-ready s (told s (r .inRange))))
+      (cut-refused l)
       (λ m. r)
       (λ a. kept-cut l true (is-listed l _ (accepted-checks n (change (cut l)) a)))
 
   pub restore-represents : (l : ℕ) → Represents (stepBy s (change (restore l))) (step n (change (restore l)))
-  unfolding stepBy restoreOf act changed refusalOf checks changeChecks noSuchLink already
+  unfolding stepBy restoreOf act changed checks changeChecks
   restore-represents l =
       settled-step withBench n (change (restore l)) _ (λ k. leaving k (s .bench)) (leaving 0 (benchWithCut (s .bench) l false))
-      (refusal-same s n r (benchInRange (s .bench)) (change (restore l)) (bench-ready s (told s (r .inRange))))
+      (restore-refused l)
       (λ m. r)
       (λ a. kept-cut l false (is-listed l _ (accepted-checks n (change (restore l)) a)))
+
+  pub cut-replied : (l : ℕ) → cutOf (s .bench) l .reply ≡ refuse n (change (cut l))
+  unfolding cutOf
+  cut-replied l = reply-is (λ (o : Changed). o .reply) _ (λ k. leaving k (s .bench)) _ (λ k. refl) (λ e. refl) ∙ cut-refused l
+
+  pub restore-replied : (l : ℕ) → restoreOf (s .bench) l .reply ≡ refuse n (change (restore l))
+  unfolding restoreOf
+  restore-replied l = reply-is (λ (o : Changed). o .reply) _ (λ k. leaving k (s .bench)) _ (λ k. refl) (λ e. refl) ∙ restore-refused l

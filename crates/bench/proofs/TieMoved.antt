@@ -1,4 +1,4 @@
--- Update, on the lists and in the network. Assumes nothing.
+-- Update, on the lists and in the network, with its reply. Assumes nothing.
 use Prim.Native.Nat.{ℕ, suc, _+_, _*_, _≤_, _<_}
 use native.Mathlib.Omega.{arith}
 use mathlib.Core.Path.{_≡_, refl, sym, _∙_, ap}
@@ -16,13 +16,14 @@ use Rattle.agreement.specs.declared.EndRecord.{EndRecord}
 use Rattle.agreement.proofs.RecordLaws.{holdingReceived, updated-by, sent-updated-same, held-updated-same}
 use Rattle.agreement.proofs.InRange.{view-passes, record-same}
 use Rattle.bench.specs.Net.{Network, offerIn}
-use Rattle.bench.specs.Calls.{change, update, moved, updatedTo, changed, act, step}
+use Rattle.bench.specs.Calls.{change, update, refuse, moved, updatedTo, changed, act, step}
 use Rattle.bench.specs.State.{State, state, lentView}
 use Rattle.bench.specs.Changes.{Ends, ends, movedEnds, movedBench, Rewritten, rewritten, updateOf}
 use Rattle.bench.specs.Whole.{Represents, Typed, stepBy}
 use Rattle.bench.proofs.Accepted.{UpdateListed, update-listed}
 use Rattle.bench.proofs.TieRanges.{StateReady, getD-stored, told, ready, network-ready, few, lent-in-range, offer-stands}
 use Rattle.bench.proofs.TieRefusals.{settled-step}
+use Rattle.bench.proofs.EntrySettled.{reply-is}
 use Rattle.bench.proofs.TieChecks.{refusal-same}
 use Rattle.bench.proofs.TieMovedEnds.{Turned, EndsReady, turned-all}
 
@@ -205,3 +206,16 @@ module _ (s : State) (n : Network) (r : Represents s n) (y t : ℕ) where
       (refusal-same s n r _ (change (update y t)) (network-ready s (told s (r .inRange))))
       (λ m. r)
       (λ a. kept-update (update-listed n y t a))
+
+  pub update-replied : updateOf s y t .reply ≡ refuse n (change (update y t))
+  unfolding updateOf
+  update-replied =
+      reply-is (λ (o : Rewritten). o .reply) _ (λ k. rewritten k (s .bench) (s .sent) (s .held))
+      (updateDone (eqb (getD (s .bench .view) y 0) t))
+      (λ k. refl)
+      (λ e. go (eqb (getD (s .bench .view) y 0) t))
+      ∙ refusal-same s n r _ (change (update y t)) (network-ready s (told s (r .inRange)))
+    where
+      go : (same : Bool) → updateDone same .reply ≡ 0
+      go true = refl
+      go false = refl

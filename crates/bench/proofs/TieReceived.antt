@@ -159,6 +159,11 @@ module _
         (λ i j hi hj. rw (r .plan) at (r .distances view i j is-view hi hj))
         k d hk hd))
 
+    -- the answer
+    pub received-answer : receivedAt s e (x .agreement) .reply ≡ says (calls.answerTo n e x)
+    unfolding receivedAt
+    received-answer = rw (outcome-is, same-view, r .ends e he)
+
     -- the row of e is in the tables
     row-fits : (l : List ℕ) → 1024 ≤ length l → 16 * e + 16 ≤ length l
     row-fits l long = omega (arith, small)

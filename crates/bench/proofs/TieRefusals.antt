@@ -3,6 +3,7 @@ use Prim.Native.Nat.{ℕ}
 use mathlib.Core.Path.{_≡_, refl}
 use mathlib.Core.Bool.{Bool, true, false, cond}
 use lib.Dec.{eqb}
+use borrow.Author.Tests.{eqb-true}
 use Rattle.distances.proofs.Refusals.{First.here, first, later}
 use Rattle.bench.specs.Net.{Network}
 use Rattle.bench.specs.Calls.{Call, checks, refuse, accepted, act, step}
@@ -19,6 +20,18 @@ refusal-out ok n c e = first (here (rw e))
 pub refusal-ready : (ok : Bool) (n : Network) (c : Call) → ok ≡ true → refusalOf ok n c ≡ refuse n c
 unfolding refusalOf refuse
 refusal-ready ok n c e = later _ (checks n c) (rw e)
+
+-- a reply that brings a value: the value matters only where the call is accepted
+pub settled-same :
+    {A B : Type 0} (reply : A → B) (k : ℕ) (refused : ℕ → A) (other : ℕ → B) (done : A) (value : B) →
+    reply (refused k) ≡ other k →
+    (k ≡ 0 → reply done ≡ value) →
+    reply (settled k refused done) ≡ settled k other value
+settled-same reply k refused other done value refuses does = go (eqb k 0) refl
+  where
+    go : (b : Bool) → eqb k 0 ≡ b → reply (cond b done (refused k)) ≡ cond b value (other k)
+    go true e = does (eqb-true k 0 e)
+    go false e = refuses
 
 -- a call whose outcome is settled by a number that is the network's refusal: the old state where it is refused, and where it is accepted
 -- what stands for the network that it makes

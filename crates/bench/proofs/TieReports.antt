@@ -15,12 +15,16 @@ use Rattle.bench.specs.Calls.{refuse, checks, report}
 use Rattle.bench.specs.Ports.{ownDistance}
 use Rattle.bench.specs.State.{State, network, part}
 use Rattle.bench.specs.Changes.{refusalOf, stateInRange}
-use Rattle.bench.specs.Answers.{report as leaving, linkNumber, reportedRow, reported, reportOf}
+use Rattle.bench.specs.Answers.{Reported, report as leaving, linkNumber, reportedRow, reported, reportOf}
 use Rattle.bench.specs.Whole.{Represents, Reports, Answers}
-use Rattle.bench.proofs.EntrySettled.{reply-is}
 use Rattle.bench.proofs.TieRanges.{told, network-ready, few}
+use Rattle.bench.proofs.EntrySettled.{reply-is}
 use Rattle.bench.proofs.TieChecks.{refusal-same}
 use Rattle.bench.proofs.TieAnswers.{listed, port-same, port-answered, path-answered}
+use Rattle.bench.proofs.TieCuts.{cut-replied, restore-replied}
+use Rattle.bench.proofs.TieMoved.{update-replied}
+use Rattle.bench.proofs.TieSends.{send-replied, lose-replied}
+use Rattle.bench.proofs.TieDeliveries.{deliver-replied, repeat-replied}
 
 module _ (s : State) (n : Network) (r : Represents s n) where
   own-distance :
@@ -97,7 +101,8 @@ module _ (s : State) (n : Network) (r : Represents s n) where
 
   report-replied : (d : ℕ) (rows : List ℕ) → 32 ≤ length rows → reportOf s d rows .reply ≡ refuse n (report d)
   unfolding reportOf
-  report-replied d rows long = reply-is (λ o. o .reply) _ (λ k. leaving k rows) (leaving 0 _) (λ k. refl) (λ e. refl) ∙ report-asked d rows long
+  report-replied d rows long =
+      reply-is (λ (o : Reported). o .reply) _ (λ k. leaving k rows) _ (λ k. refl) (λ e. refl) ∙ report-asked d rows long
 
   report-answered :
       (d : ℕ) (rows : List ℕ) →
@@ -115,6 +120,13 @@ module _ (s : State) (n : Network) (r : Represents s n) where
   pub answers : Answers s n
   answers =
       record {
+        updateReply = update-replied s n r;
+        cutReply = cut-replied s n r;
+        restoreReply = restore-replied s n r;
+        sendReply = send-replied s n r;
+        loseReply = lose-replied s n r;
+        deliverReply = deliver-replied s n r;
+        repeatReply = repeat-replied s n r;
         portReply = port-answered s n r;
         pathReply = path-answered s n r;
         reportReply = report-replied;

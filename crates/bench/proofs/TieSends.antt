@@ -1,8 +1,8 @@
--- The network still stands in the state when the messages in flight change: send and lose. Assumes nothing.
+-- The network still stands in the state when the messages in flight change: send and lose, with their replies. Assumes nothing.
 use Prim.Native.Nat.{ℕ, _+_, _*_, _-_, _≤_, _<_}
 use native.Mathlib.Numerals.{add-one}
 use native.Mathlib.Omega.{arith}
-use mathlib.Core.Path.{_≡_, refl, sym}
+use mathlib.Core.Path.{_≡_, refl, sym, _∙_}
 use mathlib.Core.Bool.{Bool, true, false, _&&_}
 use mathlib.Core.List.{List, [], _∷_, _++_}
 use lib.ListN.{length}
@@ -22,6 +22,7 @@ use Rattle.bench.proofs.Places.{skipped}
 use Rattle.bench.proofs.Accepted.{SendListed, send-listed, place-listed, accepted-checks}
 use Rattle.bench.proofs.TieRanges.{StateReady, told, ready, bench-ready, messages-ready}
 use Rattle.bench.proofs.TieRefusals.{settled-step}
+use Rattle.bench.proofs.EntrySettled.{reply-is}
 use Rattle.bench.proofs.TieFlights.{messages-length, taken-length, taken-message, taken-below, taken-messages, added-message, kept-message, added-messages}
 use Rattle.bench.proofs.TieChecks.{MessageTold, told-message, message-in-range, refusal-same}
 
@@ -191,3 +192,11 @@ module _ (s : State) (n : Network) (r : Represents s n) where
   lose-represents p =
       settled-step flownTo n (lose p) _ flightRefused _ (lose-refused p) (λ k. r)
       (λ a. taken-represents p (rw (r .messages, messages-length) at (place-listed n p _ (accepted-checks n (lose p) a))))
+
+  pub send-replied : (y l : ℕ) → sendOf (s .bench) (s .messages) y l .reply ≡ refuse n (send y l)
+  unfolding sendOf flightRefused
+  send-replied y l = reply-is (λ (o : Flown). o .reply) _ flightRefused _ (λ k. refl) (λ e. refl) ∙ send-refused y l
+
+  pub lose-replied : (p : ℕ) → loseOf (s .bench) (s .messages) p .reply ≡ refuse n (lose p)
+  unfolding loseOf flightRefused
+  lose-replied p = reply-is (λ (o : Flown). o .reply) _ flightRefused _ (λ k. refl) (λ e. refl) ∙ lose-refused p

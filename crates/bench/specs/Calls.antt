@@ -11,6 +11,7 @@ unfoldable pub use Rattle.distances.specs.Refusal.{refusal}
 use Rattle.agreement.specs.Offer.{linkOf, opposite}
 use Rattle.agreement.specs.Record.{carried, updated, sentUpdated, heldUpdated, answer, recorded, sentDelivered, heldDelivered}
 use Rattle.agreement.specs.Forwarding.{Records}
+use Rattle.agreement.specs.declared.Answer.{Answer}
 use Rattle.agreement.specs.declared.EndRecord.{EndRecord}
 use Rattle.bench.specs.Net.{Network, Plan, Message, sender, offerIn}
 
@@ -154,6 +155,14 @@ sentOver n b l = withMessages n (n .messages ++ (messageOf n b l ∷ []))
 unfoldable pub without : ℕ → List Message → List Message
 without p ms = take p ms ++ drop (suc p) ms
 
+-- what a delivery of message m at end e answers: stale, agreed or noted, by the record and the view there
+abbrev pub answerTo : Network → ℕ → Message → Answer
+answerTo n e m = answer (n .view (n .plan .graph .bridgeAt e)) (n .records .ends e) (m .agreement)
+
+-- what the message at place p is answered, if it is delivered: at the end opposite to its sender
+abbrev pub answerAt : Network → ℕ → Answer
+answerAt n p = answerTo n (opposite (sender (messageAt n p))) (messageAt n p)
+
 -- Delivery of message m to the end opposite to its sender
 unfoldable pub receivedAt : Network → ℕ → Message → Network
 receivedAt n e m =
@@ -162,7 +171,7 @@ receivedAt n e m =
     withRecords n
     (record {
       cut = n .records .cut;
-      ends = λ k. cond (eqb k e) (recorded old (answer (n .view b) old (m .agreement))) (n .records .ends k);
+      ends = λ k. cond (eqb k e) (recorded old (answerTo n e m)) (n .records .ends k);
       sent =
           λ k. cond (eqb k e)
           (sentDelivered (n .number b) old (m .agreement) (offerIn (n .plan) (n .view b) e) (n .records .sent e))

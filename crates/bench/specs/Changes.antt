@@ -1,5 +1,5 @@
 -- What update, cut, restore and fresh make of a bench and of the lent tables. Assumes nothing.
-use Prim.Native.Nat.{ℕ, zero, suc, _+_, _*_}
+use Prim.Native.Nat.{ℕ, zero, suc, _+_, _*_, _<_}
 use mathlib.Core.Bool.{Bool, true, false, cond, _&&_, not}
 use mathlib.Core.List.{List, [], _∷_, _++_}
 use lib.ListN.{length, getD, set, take, drop, replicate}
@@ -19,6 +19,11 @@ use Rattle.bench.specs.declared.Reply.{Reply}
 abbrev pub number : Reply → ℕ
 number (Reply.Refused k) = k
 number Reply.Done = 0
+
+-- no refusal has the number 0: beside `number`, which is 0 for both, this rules out Refused(0) where a call is done
+abbrev pub NoZero : Reply → Type 0
+NoZero (Reply.Refused k) = 0 < k
+NoZero Reply.Done = Unit {0}
 
 -- 17 first, then the table's checks of the call
 unfoldable pub refusalOf : Bool → Network → Call → ℕ

@@ -3,6 +3,7 @@ use Prim.Native.Nat.{ℕ, _-_, _<_, _≤_}
 use mathlib.Core.Path.{_≡_}
 use mathlib.Core.Bool.{Bool, true}
 use mathlib.Core.List.{List, _++_}
+use lib.ListN.{length}
 use Rattle.distances.specs.View.{NONE}
 use Rattle.distances.specs.Meaning.{total}
 use Rattle.agreement.specs.declared.Port.{Port}
@@ -35,6 +36,8 @@ pub record Holds (p : Plan) (cs : List Call) : Type 0 where
   -- every path ends by itself, within bridges less one hops
   pub pathEnds : (s d : ℕ) → s < p .graph .bridges → d < p .graph .bridges → EndsByItself (run (fresh p) cs) d (path (run (fresh p) cs) s d)
   pub pathShort : (s d : ℕ) → s < p .graph .bridges → d < p .graph .bridges → hops (path (run (fresh p) cs) s d) ≤ p .graph .bridges - 1
+  -- its hop count is the number of links crossed
+  pub pathCounted : (s d : ℕ) → hops (path (run (fresh p) cs) s d) ≡ length (linksCrossed (run (fresh p) cs) s d)
   -- settling: from any point of the list, the start included
   pub settles : (ks xs ys : List Call) (t : ℕ) → cs ≡ ks ++ (xs ++ ys) → Settling (run (fresh p) ks) t xs ys → (y d : ℕ) → y < p .graph .bridges → d < p .graph .bridges → (y ≡ d → ⊥) → (distanceIn p t y d ≡ NONE → ⊥) → Settled (run (fresh p) cs) t y d
 

@@ -2,15 +2,14 @@
 use Prim.Native.Nat.{ℕ, zero, suc}
 use mathlib.Core.List.{List, [], _∷_, _++_}
 use Rattle.distances.specs.View.{Costs, NONE}
-use Rattle.distances.specs.Examples.{Example, examples, triangle, view0, view1}
-use Rattle.agreement.specs.Offer.{opposite}
-use Rattle.agreement.specs.Record.{heldLimit, answer}
+use Rattle.distances.specs.Examples.{Example, AllHold, examples, triangle, view0, view1}
+use Rattle.agreement.specs.Record.{heldLimit}
 use Rattle.agreement.specs.declared.Answer.{Answer}
 use Rattle.agreement.specs.declared.Answer.the-variants.{Stale, Agreed, Noted}
 use Rattle.agreement.specs.declared.Port.{Port}
 use Rattle.agreement.specs.declared.Port.the-variants.{Closed, Open}
-use Rattle.bench.specs.Net.{Network, Plan, Message, sender, fresh}
-use Rattle.bench.specs.Calls.{Call, change, update, cut, send, deliver, run, messageAt}
+use Rattle.bench.specs.Net.{Network, Plan, fresh}
+use Rattle.bench.specs.Calls.{Call, change, update, cut, send, deliver, run, messageAt, answerAt}
 use Rattle.bench.specs.Ports.{portOf, ownDistance}
 use Rattle.bench.specs.Paths.{Way, delivered, stops, path}
 
@@ -68,13 +67,8 @@ uses cs y = linkUsed (portOf (after cs) y 0)
 abbrev pub way : List Call → ℕ → List ℕ
 way cs y = wayNumbers (path (after cs) y 0)
 
--- what the message at a place is answered, if it is delivered
 abbrev pub answered : List Call → ℕ → ℕ
-answered cs p =
-    let n : Network = after cs in
-    let m : Message = messageAt n p in
-    let e : ℕ = opposite (sender m) in
-    answerNumber (answer (n .view (n .plan .graph .bridgeAt e)) (n .records .ends e) (m .agreement))
+answered cs p = answerNumber (answerAt (after cs) p)
 
 -- E1 is layer 1's; end 2 is bridge 1's end of link 1
 abbrev pub allExamples : List Example
@@ -95,3 +89,7 @@ allExamples =
     ∷ record { found = uses callsE7 1 ∷ []; stated = 1 ∷ [] }
     ∷ record { found = messageAt (after callsE7) 0 .agreement .number ∷ answered callsE7 0 ∷ []; stated = 1 ∷ 0 ∷ [] }
     ∷ [])
+
+-- E1 to E8 hold
+abbrev pub ExamplesHold : Type 0
+ExamplesHold = AllHold allExamples

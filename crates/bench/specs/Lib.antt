@@ -4,6 +4,7 @@ pub mod Ports
 pub mod Paths
 pub mod Rounds
 pub mod Demand3
+pub mod LimitViews
 pub mod State
 pub mod Ranges
 pub mod Changes
@@ -13,3 +14,4 @@ pub mod Answers
 pub mod Steps
 pub mod Whole
 pub mod Examples
+pub mod SettlingMet

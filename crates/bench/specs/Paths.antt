@@ -3,6 +3,7 @@ use Prim.Native.Nat.{ℕ, zero, suc, _-_, _≤_}
 use mathlib.Core.Path.{_≡_}
 use mathlib.Core.Bool.{cond}
 use mathlib.Core.List.{List, [], _∷_}
+use lib.ListN.{length}
 use lib.Dec.{eqb}
 use Rattle.bench.specs.Net.{Network}
 use Rattle.bench.specs.Ports.{Hop, stays, crosses, hop}
@@ -47,3 +48,7 @@ EndsByItself n d (stops b h) = hop n d b ≡ stays
 abbrev pub hops : Way → ℕ
 hops (delivered h) = h
 hops (stops b h) = h
+
+-- "Its hop count is the number of links crossed": by any hops and over any number of links, so of every network and of every state
+abbrev pub HopsAreLinks : Type 0
+HopsAreLinks = (next : ℕ → Hop) (d left y : ℕ) → hops (onward next d left 0 y) ≡ length (onwardLinks next d left y)

@@ -9,7 +9,7 @@ use Rattle.distances.specs.Table.{cell}
 use Rattle.agreement.specs.Record.{freshRecord}
 use Rattle.agreement.specs.Call.{says}
 use Rattle.bench.specs.Net.{Network, Plan, fresh, distanceIn}
-use Rattle.bench.specs.Calls.{Call, change, update, cut, restore, send, deliver, repeat, lose, port, report, path, refuse, run}
+use Rattle.bench.specs.Calls.{Call, change, update, cut, restore, send, deliver, repeat, lose, port, report, path, refuse, answerAt, run}
 use Rattle.bench.specs.Ports.{ownDistance}
 use Rattle.bench.specs.Ports as ports
 use Rattle.bench.specs.Paths as paths
@@ -78,8 +78,16 @@ pub record Reports (n : Network) (d y : ℕ) (rows : List ℕ) : Type 0 where
   pub distance : getD rows (2 * y) 0 ≡ ownDistance n y d
   pub link : getD rows (2 * y + 1) 0 ≡ linkNumber (ports.portOf n y d)
 
--- what the calls that only ask reply in the state s, refusals included, is what there is to say of the network n
+-- what each call replies in the state s, by the outcome that its contract names, is what there is to say of the network n: the number by
+-- which it is refused, 0 where it is accepted, and then the value that the reply brings
 pub record Answers (s : State) (n : Network) : Type 0 where
+  pub updateReply : (y t : ℕ) → updateOf s y t .reply ≡ refuse n (change (update y t))
+  pub cutReply : (l : ℕ) → cutOf (s .bench) l .reply ≡ refuse n (change (cut l))
+  pub restoreReply : (l : ℕ) → restoreOf (s .bench) l .reply ≡ refuse n (change (restore l))
+  pub sendReply : (y l : ℕ) → sendOf (s .bench) (s .messages) y l .reply ≡ refuse n (send y l)
+  pub loseReply : (p : ℕ) → loseOf (s .bench) (s .messages) p .reply ≡ refuse n (lose p)
+  pub deliverReply : (p : ℕ) → deliverOf s p .reply ≡ settled (refuse n (deliver p)) refusedBy (says (answerAt n p))
+  pub repeatReply : (p : ℕ) → repeatOf s p .reply ≡ settled (refuse n (repeat p)) refusedBy (says (answerAt n p))
   pub portReply : (y d : ℕ) → portOf s y d ≡ settled (refuse n (port y d)) refusedBy (says (ports.portOf n y d))
   pub pathReply : (y d : ℕ) → pathOf s y d ≡ settled (refuse n (path y d)) refusedBy (says (paths.path n y d))
   pub reportReply : (d : ℕ) (rows : List ℕ) → 32 ≤ length rows → reportOf s d rows .reply ≡ refuse n (report d)

@@ -9,7 +9,7 @@ use crate::walks;
 ghost use mathlib.Core.Path.{_≡_};
 ghost use mathlib.Core.List.{[]};
 ghost use Rattle.bench.specs.State.{state};
-ghost use Rattle.bench.specs.Changes.{number};
+ghost use Rattle.bench.specs.Changes.{number, NoZero};
 ghost use Rattle.bench.specs.Answers.{forwardingSays, waySays, portOf, report, reportOf, pathOf};
 
 // The forwarding port of a bridge for a destination.
@@ -44,7 +44,7 @@ pub fn report(
     dest: usize,
     rows: &mut [u32],
 ) -> Reply
-    ensures { λ r. ⌜ report (number r) (now (rows .exit)) ≡ reportOf (state bench (now (costs .entry)) (now (tables .entry)) (now (sent .entry)) (now (held .entry)) []) dest (now (rows .entry)) ⌝ }
+    ensures { λ r. ⌜ (report (number r) (now (rows .exit)) ≡ reportOf (state bench (now (costs .entry)) (now (tables .entry)) (now (sent .entry)) (now (held .entry)) []) dest (now (rows .entry))) × NoZero r ⌝ }
 {
     let size = rows.len();
     if !ready::network_in_range(bench, costs, tables.len(), sent.len(), held.len()) {

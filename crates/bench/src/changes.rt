@@ -10,7 +10,7 @@ use crate::starts;
 ghost use mathlib.Core.Path.{_≡_};
 ghost use mathlib.Core.List.{[]};
 ghost use Prim.Native.Nat.{_<_};
-ghost use Rattle.bench.specs.Changes.{number, changed, benchWithCut, cutOf, restoreOf, rewritten, updateOf, started, freshOf};
+ghost use Rattle.bench.specs.Changes.{number, NoZero, changed, benchWithCut, cutOf, restoreOf, rewritten, updateOf, started, freshOf};
 ghost use Rattle.bench.specs.State.{state};
 
 fn with_cut(bench: Bench, link: usize, so: bool) -> Bench
@@ -24,7 +24,7 @@ fn with_cut(bench: Bench, link: usize, so: bool) -> Bench
 
 // Cuts a link: it carries neither messages nor frames. Records and messages in flight are retained.
 pub fn cut(bench: Bench, link: usize) -> Changed
-    ensures { λ r. ⌜ changed (number (r .reply)) (r .bench) ≡ cutOf bench link ⌝ }
+    ensures { λ r. ⌜ (changed (number (r .reply)) (r .bench) ≡ cutOf bench link) × NoZero (r .reply) ⌝ }
 {
     if !ready::bench_in_range(bench) {
         return refused(17, bench);
@@ -41,7 +41,7 @@ pub fn cut(bench: Bench, link: usize) -> Changed
 
 // Restores a cut link.
 pub fn restore(bench: Bench, link: usize) -> Changed
-    ensures { λ r. ⌜ changed (number (r .reply)) (r .bench) ≡ restoreOf bench link ⌝ }
+    ensures { λ r. ⌜ (changed (number (r .reply)) (r .bench) ≡ restoreOf bench link) × NoZero (r .reply) ⌝ }
 {
     if !ready::bench_in_range(bench) {
         return refused(17, bench);
@@ -66,7 +66,7 @@ pub fn update(
     bridge: usize,
     view: usize,
 ) -> Changed
-    ensures { λ r. ⌜ rewritten (number (r .reply)) (r .bench) (now (sent .exit)) (now (held .exit)) ≡ updateOf (state bench (now (costs .entry)) (now (tables .entry)) (now (sent .entry)) (now (held .entry)) []) bridge view ⌝ }
+    ensures { λ r. ⌜ (rewritten (number (r .reply)) (r .bench) (now (sent .exit)) (now (held .exit)) ≡ updateOf (state bench (now (costs .entry)) (now (tables .entry)) (now (sent .entry)) (now (held .entry)) []) bridge view) × NoZero (r .reply) ⌝ }
 {
     let sent_size = sent.len();
     let held_size = held.len();
@@ -98,7 +98,7 @@ pub fn fresh(
     sent: &mut [u32],
     held: &mut [u32],
 ) -> Changed
-    ensures { λ r. ⌜ started (number (r .reply)) (r .bench) (now (tables .exit)) (now (sent .exit)) (now (held .exit)) ≡ freshOf bench (now (costs .entry)) (now (tables .entry)) (now (sent .entry)) (now (held .entry)) ⌝ }
+    ensures { λ r. ⌜ (started (number (r .reply)) (r .bench) (now (tables .exit)) (now (sent .exit)) (now (held .exit)) ≡ freshOf bench (now (costs .entry)) (now (tables .entry)) (now (sent .entry)) (now (held .entry))) × NoZero (r .reply) ⌝ }
 {
     let tables_size = tables.len();
     let sent_size = sent.len();

@@ -30,7 +30,7 @@ pub struct Bench {
     pub cut: [bool; 32],
 }
 
-// Refused holds document 01's number.
+// Refused holds document 01's number, which is not 0.
 pub enum Reply {
     Refused(u8),
     Done,

@@ -13,7 +13,7 @@ use agreement::Carrying;
 ghost use mathlib.Core.Path.{_≡_};
 ghost use mathlib.Core.Bool.{_&&_};
 ghost use Rattle.bench.specs.Calls.{deliver};
-ghost use Rattle.bench.specs.Changes.{number, refusalOf};
+ghost use Rattle.bench.specs.Changes.{number, NoZero, refusalOf};
 ghost use Rattle.bench.specs.State.{state, networkOf};
 ghost use Rattle.bench.specs.Ranges.{benchInRange, networkInRange, messagesInRange};
 ghost use Rattle.bench.specs.Flights.{flown, sendOf, loseOf};
@@ -31,7 +31,7 @@ fn flight_in_range(bench: Bench, messages: &[u32]) -> bool
 
 // Appends the message of a bridge over a link: its view, its number, and the end's discarded number.
 pub fn send(bench: Bench, messages: &mut [u32], bridge: usize, link: usize) -> Changed
-    ensures { λ r. ⌜ flown (number (r .reply)) (r .bench) (now (messages .exit)) ≡ sendOf bench (now (messages .entry)) bridge link ⌝ }
+    ensures { λ r. ⌜ (flown (number (r .reply)) (r .bench) (now (messages .exit)) ≡ sendOf bench (now (messages .entry)) bridge link) × NoZero (r .reply) ⌝ }
 {
     if !flight_in_range(bench, messages) {
         return refused(17, bench);
@@ -68,7 +68,7 @@ pub fn send(bench: Bench, messages: &mut [u32], bridge: usize, link: usize) -> C
 
 // Takes a message out; later ones move up by one.
 pub fn lose(bench: Bench, messages: &mut [u32], place: usize) -> Changed
-    ensures { λ r. ⌜ flown (number (r .reply)) (r .bench) (now (messages .exit)) ≡ loseOf bench (now (messages .entry)) place ⌝ }
+    ensures { λ r. ⌜ (flown (number (r .reply)) (r .bench) (now (messages .exit)) ≡ loseOf bench (now (messages .entry)) place) × NoZero (r .reply) ⌝ }
 {
     if !flight_in_range(bench, messages) {
         return refused(17, bench);

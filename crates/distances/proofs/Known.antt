@@ -8,7 +8,7 @@ use lib.Dec.{eqb}
 use borrow.Author.Tests.{eqb-true}
 use Rattle.distances.specs.Distance.{present, joins, crossing, unjoined, joinedBelow, relaxed, relaxedBelow, dist}
 use Rattle.distances.specs.Call.{every}
-use Rattle.distances.specs.Examples.{Example, examples, same, allPass}
+use Rattle.distances.specs.Examples.{Example, AllHold, examples, same, allPass}
 use Rattle.distances.proofs.Booleans.{both-true}
 
 pub same-eq : (xs ys : List ℕ) → same xs ys ≡ true → xs ≡ ys
@@ -31,5 +31,5 @@ examples-pass : allPass examples ≡ true
 unfolding allPass every same dist relaxedBelow relaxed joinedBelow unjoined crossing joins present
 examples-pass = refl
 
-pub examples-hold : (e : Example) → List·Memᴰ e examples → e .found ≡ e .stated
+pub examples-hold : AllHold examples
 examples-hold e m = each-holds e m examples-pass

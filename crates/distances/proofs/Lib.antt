@@ -4,6 +4,7 @@ pub mod Relaxed
 pub mod Joined
 pub mod Paths
 pub mod Laws
+pub mod Greatest
 pub mod Known
 pub mod Tables
 pub mod Steps

@@ -1,7 +1,8 @@
 -- Document 01's known examples on the triangle: E1. Assumes nothing.
 use Prim.Native.Nat.{ℕ}
+use mathlib.Core.Path.{_≡_}
 use mathlib.Core.Bool.{Bool, true, false, _&&_}
-use mathlib.Core.List.{List, [], _∷_, map}
+use mathlib.Core.List.{List, [], _∷_, map, List·Memᴰ}
 use lib.Dec.{eqb}
 use Rattle.distances.specs.View.{Graph, Costs, graphOf, costsOf}
 use Rattle.distances.specs.Distance.{dist}
@@ -25,6 +26,10 @@ toZero c = dist triangle c 0 0 ∷ dist triangle c 1 0 ∷ dist triangle c 2 0 �
 pub record Example : Type 0 where
   pub found : List ℕ
   pub stated : List ℕ
+
+-- every entry of a table holds
+abbrev pub AllHold : List Example → Type 0
+AllHold es = (e : Example) → List·Memᴰ e es → e .found ≡ e .stated
 
 -- E1, by the view's costs
 abbrev pub examples : List Example

@@ -1,7 +1,8 @@
--- What is proved of the computation of distances: it gives document 01's distance, and no other number is one. Assumes nothing.
-use Prim.Native.Nat.{ℕ, _<_}
+-- What is proved of the computation of distances: it gives document 01's distance, no other number is one, and how great it can be.
+-- Assumes nothing.
+use Prim.Native.Nat.{ℕ, _*_, _<_, _≤_}
 use mathlib.Core.Path.{_≡_}
-use Rattle.distances.specs.View.{Graph, Costs, InRange, CostsInRange}
+use Rattle.distances.specs.View.{Graph, Costs, NONE, maxCost, maxDistance, InRange, CostsInRange}
 use Rattle.distances.specs.Meaning.{IsDistance}
 use Rattle.distances.specs.Distance.{dist}
 
@@ -19,3 +20,9 @@ DistIsDistance =
 -- two distances of one bridge to another are equal
 abbrev pub NothingElseIs : Type 0
 NothingElseIs = (g : Graph) (c : Costs) (i j x y : ℕ) → IsDistance g c i j x → IsDistance g c i j y → x ≡ y
+
+-- "The greatest distance is 15 × 16,777,215 = 251,658,225": no distance but NONE is above it, and two bridges of some view have it
+pub record GreatestDistance : Type 0 where
+  pub product : maxDistance ≡ 15 * maxCost
+  pub most : (g : Graph) (c : Costs) → InRange g → CostsInRange g c → (i j : ℕ) → (dist g c i j ≡ NONE → ⊥) → dist g c i j ≤ maxDistance
+  pub reached : (g : Graph) × (c : Costs) × InRange g × CostsInRange g c × (dist g c 0 15 ≡ maxDistance)

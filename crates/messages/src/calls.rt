@@ -9,7 +9,7 @@ use bench::Changed;
 use bench::Delivered;
 ghost use mathlib.Core.Path.{_≡_};
 ghost use lib.ListN.{drop};
-ghost use Rattle.bench.specs.Changes.{number};
+ghost use Rattle.bench.specs.Changes.{number, NoZero};
 ghost use Rattle.bench.specs.State.{state};
 ghost use Rattle.bench.specs.Flights.{flown, sendOf, loseOf};
 ghost use Rattle.bench.specs.Deliveries.{reactionSays, delivered, deliverOf, repeatOf};
@@ -17,7 +17,7 @@ ghost use Rattle.messages.specs.Slices.{flight};
 
 // Appends the message of a bridge over a link.
 pub fn send(bench: Bench, ms: &mut [Message], bridge: usize, link: usize) -> Changed
-    ensures { λ r. ⌜ flown (number (r .reply)) (r .bench) (flight (now (ms .exit))) ≡ sendOf bench (flight (now (ms .entry))) bridge link ⌝ }
+    ensures { λ r. ⌜ (flown (number (r .reply)) (r .bench) (flight (now (ms .exit))) ≡ sendOf bench (flight (now (ms .entry))) bridge link) × NoZero (r .reply) ⌝ }
     ensures { λ _. ⌜ drop 64 (now (ms .exit)) ≡ drop 64 (now (ms .entry)) ⌝ }
 {
     let mut numbers = numbers_in(ms);
@@ -28,7 +28,7 @@ pub fn send(bench: Bench, ms: &mut [Message], bridge: usize, link: usize) -> Cha
 
 // Takes a message out; later ones move up by one.
 pub fn lose(bench: Bench, ms: &mut [Message], place: usize) -> Changed
-    ensures { λ r. ⌜ flown (number (r .reply)) (r .bench) (flight (now (ms .exit))) ≡ loseOf bench (flight (now (ms .entry))) place ⌝ }
+    ensures { λ r. ⌜ (flown (number (r .reply)) (r .bench) (flight (now (ms .exit))) ≡ loseOf bench (flight (now (ms .entry))) place) × NoZero (r .reply) ⌝ }
     ensures { λ _. ⌜ drop 64 (now (ms .exit)) ≡ drop 64 (now (ms .entry)) ⌝ }
 {
     let numbers = numbers_in(ms);

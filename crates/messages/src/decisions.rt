@@ -6,7 +6,7 @@ ghost use mathlib.Core.Path.{_≡_};
 ghost use Prim.Native.Nat.{_-_, _*_, _≤_, min};
 ghost use lib.ListN.{length, take, drop};
 ghost use lib.Seq.{sets};
-ghost use Rattle.bench.specs.Changes.{number};
+ghost use Rattle.bench.specs.Changes.{number, NoZero};
 ghost use Rattle.bench.specs.State.{state};
 ghost use Rattle.bench.specs.Flights.{flown, sendOf, loseOf};
 ghost use Rattle.bench.specs.Deliveries.{reactionSays, delivered, deliverOf, repeatOf};
@@ -41,7 +41,7 @@ pub(crate) fn decide_send(
     link: usize,
 ) -> Decision
     requires { ⌜ length (now numbers) ≡ 320 ⌝ }
-    ensures { λ r. ⌜ (flown (number (r .changed .reply)) (r .changed .bench) (took len (now (numbers .exit))) ≡ sendOf bench (took len (now (numbers .entry))) bridge link) × ((r .from ≤ r .past) × ((r .past ≤ min len 64) × (took len (now (numbers .exit)) ≡ sets (took len (now (numbers .entry))) (5 * r .from) (take (5 * (r .past - r .from)) (drop (5 * r .from) (now (numbers .exit))))))) ⌝ }
+    ensures { λ r. ⌜ ((flown (number (r .changed .reply)) (r .changed .bench) (took len (now (numbers .exit))) ≡ sendOf bench (took len (now (numbers .entry))) bridge link) × NoZero (r .changed .reply)) × ((r .from ≤ r .past) × ((r .past ≤ min len 64) × (took len (now (numbers .exit)) ≡ sets (took len (now (numbers .entry))) (5 * r .from) (take (5 * (r .past - r .from)) (drop (5 * r .from) (now (numbers .exit))))))) ⌝ }
 {
     let before = bench.messages;
     let changed = bench::messages::send(bench, &mut numbers[..5 * room(len)], bridge, link);
@@ -62,7 +62,7 @@ pub(crate) fn decide_send(
 
 // Only the places are told: the slice's messages move up by themselves.
 pub(crate) fn decide_lose(bench: Bench, numbers: [u32; 320], len: usize, place: usize) -> Decision
-    ensures { λ r. ⌜ (flown (number (r .changed .reply)) (r .changed .bench) (shifted (r .from) (r .past) (took len numbers)) ≡ loseOf bench (took len numbers) place) × ((r .from ≤ r .past) × ((r .past ≤ len - 1) × (r .past ≤ 63))) ⌝ }
+    ensures { λ r. ⌜ ((flown (number (r .changed .reply)) (r .changed .bench) (shifted (r .from) (r .past) (took len numbers)) ≡ loseOf bench (took len numbers) place) × NoZero (r .changed .reply)) × ((r .from ≤ r .past) × ((r .past ≤ len - 1) × (r .past ≤ 63))) ⌝ }
 {
     let before = bench.messages;
     let mut left = numbers;

@@ -8,7 +8,7 @@ use bench::Bench;
 use bench::Changed;
 use bench::Delivered;
 ghost use mathlib.Core.Path.{_≡_};
-ghost use Rattle.bench.specs.Changes.{number};
+ghost use Rattle.bench.specs.Changes.{number, NoZero};
 ghost use Rattle.bench.specs.State.{state};
 ghost use Rattle.bench.specs.Flights.{flown, sendOf, loseOf};
 ghost use Rattle.bench.specs.Deliveries.{reactionSays, delivered, deliverOf, repeatOf};
@@ -58,7 +58,7 @@ pub(crate) fn numbers_from(ms: [Message; 64]) -> [u32; 320]
 
 // Appends the message of a bridge over a link.
 pub fn send(bench: Bench, numbers: [u32; 320], bridge: usize, link: usize) -> ChangedNumbers
-    ensures { λ r. ⌜ flown (number (r .changed .reply)) (r .changed .bench) (r .numbers) ≡ sendOf bench numbers bridge link ⌝ }
+    ensures { λ r. ⌜ (flown (number (r .changed .reply)) (r .changed .bench) (r .numbers) ≡ sendOf bench numbers bridge link) × NoZero (r .changed .reply) ⌝ }
 {
     let mut ms = messages_in(numbers);
     let changed = calls::send(bench, &mut ms, bridge, link);
@@ -70,7 +70,7 @@ pub fn send(bench: Bench, numbers: [u32; 320], bridge: usize, link: usize) -> Ch
 
 // Takes a message out; later ones move up by one.
 pub fn lose(bench: Bench, numbers: [u32; 320], place: usize) -> ChangedNumbers
-    ensures { λ r. ⌜ flown (number (r .changed .reply)) (r .changed .bench) (r .numbers) ≡ loseOf bench numbers place ⌝ }
+    ensures { λ r. ⌜ (flown (number (r .changed .reply)) (r .changed .bench) (r .numbers) ≡ loseOf bench numbers place) × NoZero (r .changed .reply) ⌝ }
 {
     let mut ms = messages_in(numbers);
     let changed = calls::lose(bench, &mut ms, place);

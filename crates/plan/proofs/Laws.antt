@@ -13,7 +13,7 @@ use Rattle.distances.specs.Refusal.{check, refusal}
 use Rattle.distances.proofs.Booleans.{both-true, one-true}
 use Rattle.distances.proofs.Ranges.{allBelow-true, allBelow-none, allBelow-more}
 use Rattle.plan.specs.Fields.{byte, tag, valueLength, size, lengthFor, costIn, eventBy, fieldOf}
-use Rattle.plan.specs.Reading.{outOfOrder, headerChecks, costsFit, bridgeChecks, linkChecks, viewChecks, valueChecks, fieldRefusal, readOf, readReply}
+use Rattle.plan.specs.Reading.{outOfOrder, headerChecks, costsFit, bridgeChecks, linkChecks, viewChecks, valueChecks, fieldRefusal, readOf, progressInRange, readReply}
 use Rattle.plan.specs.declared.Progress.{Progress}
 use Rattle.plan.specs.declared.Field.{Field}
 use Rattle.plan.specs.declared.Read.{Read}
@@ -58,6 +58,14 @@ view-stage s e =
     (λ h. omega (arith, eqb-true s 1 h))
     (λ h. omega (arith, eqb-true s 2 h))
     (one-true (eqb s 1) (eqb s 2) (not-false _ e))
+
+-- a progress in range has at most 32 links
+pub in-range-links : (p : Progress) → progressInRange p ≡ true → p .links ≤ 32
+unfolding progressInRange
+in-range-links p e =
+    let counts = both-true (leb (p .stage) 3) _ e .1 in
+    let more = both-true (eqb (p .bridges) 0 || leb 2 (p .bridges) && leb (p .bridges) 16) _ counts .1 in
+    leb-true (p .links) 32 (both-true (leb (p .links) 32) _ more .0)
 
 -- a stop is no field
 stops : {n : ℕ} {f : Field} {k : ℕ} → Read.Stop n ≡ Read.Field f k → ⊥
@@ -145,7 +153,7 @@ module _ (rest : List ℕ) (p : Progress) where
 
   none-applies : {f : Field} {k : ℕ} → readReply rest p ≡ Read.Field f k → Passed f k
   unfolding readReply readOf fieldRefusal
-  none-applies {f} {k} = go (ltb 32 (p .links)) (eqb (length rest) 0) (eqb (refusal (headerChecks rest p)) 0) refl refl
+  none-applies {f} {k} = go (progressInRange p) (eqb (length rest) 0) (eqb (refusal (headerChecks rest p)) 0) refl refl
     where
       -- the field or its number
       last : (b : Bool) (r : ℕ) → eqb r 0 ≡ b → cond b (Read.Field (fieldOf rest) (size rest)) (Read.Stop r) ≡ Read.Field f k →
@@ -153,17 +161,17 @@ module _ (rest : List ℕ) (p : Progress) where
       last true r z e = (cc, cc, eqb-true r 0 z)
       last false r z e = absurd (stops e)
 
-      go : (a b c : Bool) → ltb 32 (p .links) ≡ a → eqb (refusal (headerChecks rest p)) 0 ≡ c →
-          cond a (Read.Stop 17) (cond b (Read.Stop (cond (eqb (p .views) 0) 4 0)) (
+      go : (a b c : Bool) → progressInRange p ≡ a → eqb (refusal (headerChecks rest p)) 0 ≡ c →
+          cond a (cond b (Read.Stop (cond (eqb (p .views) 0) 4 0)) (
           cond (eqb (cond c (refusal (valueChecks rest p)) (refusal (headerChecks rest p))) 0)
           (Read.Field (fieldOf rest) (size rest))
-          (Read.Stop (cond c (refusal (valueChecks rest p)) (refusal (headerChecks rest p)))))) ≡ Read.Field f k →
+          (Read.Stop (cond c (refusal (valueChecks rest p)) (refusal (headerChecks rest p)))))) (Read.Stop 17) ≡ Read.Field f k →
           Passed f k
-      go true b c l h e = absurd (stops e)
-      go false true c l h e = absurd (stops e)
-      go false false true l h e = let t = last _ (refusal (valueChecks rest p)) refl e in
-          record { listed = ltb-false 32 (p .links) l; field = t .0; taken = t .1; header = eqb-true (refusal (headerChecks rest p)) 0 h; value = t .2 }
-      go false false false l h e = let t = last _ (refusal (headerChecks rest p)) refl e in
+      go false b c l h e = absurd (stops e)
+      go true true c l h e = absurd (stops e)
+      go true false true l h e = let t = last _ (refusal (valueChecks rest p)) refl e in
+          record { listed = in-range-links p l; field = t .0; taken = t .1; header = eqb-true (refusal (headerChecks rest p)) 0 h; value = t .2 }
+      go true false false l h e = let t = last _ (refusal (headerChecks rest p)) refl e in
           absurd (eqb-false (refusal (headerChecks rest p)) 0 h (t .2))
 
 -- the bytes that a field takes are there, its header among them

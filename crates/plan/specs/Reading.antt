@@ -61,9 +61,15 @@ readOf rest p =
     cond (eqb (length rest) 0) (Read.Stop (cond (eqb (p .views) 0) 4 0))
     (cond (eqb (fieldRefusal rest p) 0) (Read.Field (fieldOf rest) (size rest)) (Read.Stop (fieldRefusal rest p)))
 
--- for any progress handed in: 17 where it has more links than document 01 allows
+-- how far a plan can have come: stages 0 to 3; 2 to 16 bridges, none before they are counted; up to 32 links and 32 views
+unfoldable pub progressInRange : Progress → Bool
+progressInRange p =
+    leb (p .stage) 3
+    && ((eqb (p .bridges) 0 || leb 2 (p .bridges) && leb (p .bridges) 16) && (leb (p .links) 32 && leb (p .views) 32))
+
+-- for any progress handed in: 17 where it is out of range
 unfoldable pub readReply : List ℕ → Progress → Read
-readReply rest p = cond (ltb 32 (p .links)) (Read.Stop 17) (readOf rest p)
+readReply rest p = cond (progressInRange p) (readOf rest p) (Read.Stop 17)
 
 -- a view's costs into a row: the first k numbers
 unfoldable pub withCosts : List ℕ → ℕ → List ℕ → List ℕ

@@ -5,16 +5,38 @@ use crate::Read;
 use crate::bytes::value_length;
 use crate::header::header_refusal;
 use crate::values;
+use distances::ready::both;
 ghost use mathlib.Core.Path.{_≡_};
+ghost use mathlib.Core.Bool.{_&&_, _||_};
 ghost use Prim.Native.Nat.{_≤_};
 ghost use lib.ListN.{length};
-ghost use Rattle.plan.specs.Reading.{readReply, withCosts, costsNumber, stored, costsReply};
+ghost use lib.Dec.{eqb, leb};
+ghost use Rattle.plan.specs.Reading.{progressInRange, readReply, withCosts, costsNumber, stored, costsReply};
 
-// What stands at the head of the bytes that are left. A progress that no plan leads to, with more than 32 links, is refused with 17.
+fn count_in_range(bridges: usize) -> bool
+    ensures { λ r. ⌜ r ≡ (eqb bridges 0 || leb 2 bridges && leb bridges 16) ⌝ }
+{
+    if bridges == 0 {
+        return true;
+    }
+    both(2 <= bridges, bridges <= 16)
+}
+
+fn progress_in_range(p: Progress) -> bool
+    ensures { λ r. ⌜ r ≡ progressInRange p ⌝ }
+{
+    let counted = count_in_range(p.bridges);
+    both(
+        p.stage <= 3,
+        both(counted, both(p.links <= 32, p.views <= 32)),
+    )
+}
+
+// What stands at the head of the bytes that are left. A progress out of document 01's ranges is refused with 17.
 pub fn read_field(rest: &[u8], p: Progress) -> Read
     ensures { λ r. ⌜ r ≡ readReply (now (rest .entry)) p ⌝ }
 {
-    if 32 < p.links {
+    if !progress_in_range(p) {
         return Read::Stop(17);
     }
     if rest.len() == 0 {

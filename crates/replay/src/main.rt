@@ -1,4 +1,5 @@
-// Carries out each plan of its data folder and prints its name and its output. The expected output is the other implementation's.
+// Carries out each plan of its data folder and prints its name and its output. The program is held to the file stdout, and that
+// file to the known outputs in plans/.
 // A plan that cannot be opened is named on standard error, and its output is missing.
 fn replay(name: &[u8]) {
     io::write_all(libc::STDOUT_FILENO, name);

@@ -130,7 +130,7 @@ readTurn rest (Read.Stop number) r k = lastTurn number (lastText number (r .even
 unfoldable pub runnerInRange : Runner → Bool
 runnerInRange r = leb (r .events) 61440 && leb (r .offset) 61440
 
--- a step: 17 where a lent buffer is too short or the runner is out of range, and then nothing is changed
+-- a step: 17 where a lent buffer is too short or the runner's counts of events and bytes are out of range, and then nothing is changed
 unfoldable pub stepOf : Runner → Desk → List ℕ → Turn
 stepOf r k rest = cond (runnerInRange r && deskLong k) (readTurn rest (readReply rest (progressOf r)) r k) (turn 17 false 0 0 r k)
 

@@ -1,4 +1,4 @@
-//! Random plans. A sensible one keeps to document 01 but for a rare slip; a damaged one is a sensible one with its bytes spoilt.
+//! Random plans that keep to document 01 but for a rare slip.
 
 use bench_tests::random::Random;
 
@@ -6,24 +6,43 @@ const MAX_COST: usize = 16_777_215;
 
 /// A plan in the making, as its fields, with what is needed to go on sensibly.
 pub struct Maker<'a> {
-    random: &'a mut Random,
-    fields: Vec<Vec<u8>>,
-    bridges: usize,
-    ends: Vec<[usize; 2]>,
-    views: usize,
+    pub random: &'a mut Random,
+    pub fields: Vec<Vec<u8>>,
+    pub bridges: usize,
+    /// The two bridges of each link.
+    pub ends: Vec<[usize; 2]>,
+    pub views: usize,
     cut: Vec<bool>,
-    flight: Vec<usize>,
+    /// The link of each message in flight.
+    pub flight: Vec<usize>,
 }
 
-fn field(tag: u8, value: &[u8]) -> Vec<u8> {
+pub fn field(tag: u8, value: &[u8]) -> Vec<u8> {
     let length = u16::try_from(value.len()).expect("a short value").to_be_bytes();
     [&[tag][..], &length, value].concat()
 }
 
-impl Maker<'_> {
-    fn put(&mut self, tag: u8, value: &[usize]) {
+impl<'a> Maker<'a> {
+    /// The setup of a network of random size.
+    pub fn new(random: &'a mut Random) -> Maker<'a> {
+        let bridges = if random.one_in(3) { 2 + random.below(15) } else { 2 + random.below(5) };
+        let views = if random.one_in(8) { 1 + random.below(32) } else { 1 + random.below(4) };
+        let mut maker =
+            Maker { random, fields: Vec::new(), bridges, ends: Vec::new(), views, cut: Vec::new(), flight: Vec::new() };
+        maker.set_up();
+        maker
+    }
+
+    /// One more field. What it changes is followed as if it were accepted: a refused field ends the plan.
+    pub fn put(&mut self, tag: u8, value: &[usize]) {
         let bytes: Vec<u8> = value.iter().map(|&n| n as u8).collect();
         self.fields.push(field(tag, &bytes));
+        match (tag, value) {
+            (5, &[_, link]) if link < self.cut.len() => self.flight.push(link),
+            (6 | 8, &[place]) if place < self.flight.len() => drop(self.flight.remove(place)),
+            (9 | 10, &[link]) if link < self.cut.len() => self.cut[link] = tag == 9,
+            _ => {}
+        }
     }
 
     fn cost(&mut self) -> usize {
@@ -76,11 +95,6 @@ impl Maker<'_> {
         self.random.below(n)
     }
 
-    fn send(&mut self, bridge: usize, link: usize) {
-        self.put(5, &[bridge, link]);
-        self.flight.push(link);
-    }
-
     /// A message leaves the flight, or is only repeated, wherever that is allowed.
     fn move_message(&mut self, place: usize) {
         let cut = self.cut[self.flight[place]];
@@ -91,21 +105,17 @@ impl Maker<'_> {
             _ => 6,
         };
         self.put(tag, &[place]);
-        if tag != 7 {
-            self.flight.remove(place);
-        }
     }
 
     /// Every uncut link both ways, then what is in flight, oldest first or in any order, now and then with a loss.
-    fn round(&mut self) {
+    pub fn round(&mut self) {
         let uncut: Vec<usize> = (0..self.ends.len()).filter(|&l| !self.cut[l]).collect();
         while self.flight.len() + 2 * uncut.len() > 64 {
             self.put(8, &[0]);
-            self.flight.remove(0);
         }
         for l in uncut {
             for side in [0, 1] {
-                self.send(self.ends[l][side], l);
+                self.put(5, &[self.ends[l][side], l]);
             }
         }
         let (in_order, careless) = (self.random.one_in(2), self.random.one_in(4));
@@ -116,33 +126,39 @@ impl Maker<'_> {
             } else {
                 let tag = if self.cut[self.flight[place]] { 8 } else { 6 };
                 self.put(tag, &[place]);
-                self.flight.remove(place);
             }
         }
     }
 
     /// As many messages as may be in flight, and now and then one more.
-    fn crowd(&mut self) {
+    pub fn crowd(&mut self) {
         let uncut: Vec<usize> = (0..self.ends.len()).filter(|&l| !self.cut[l]).collect();
         let most = if self.random.one_in(20) { 65 } else { 64 };
         while !uncut.is_empty() && self.flight.len() < most {
             let link = uncut[self.random.below(uncut.len())];
             let end = self.ends[link][self.random.below(2)];
-            self.send(end, link);
+            self.put(5, &[end, link]);
         }
     }
 
     fn switch(&mut self) {
-        let links = self.ends.len();
-        let link = self.about(links);
+        let link = self.about(self.ends.len());
         let down = self.cut.get(link).copied().unwrap_or(false) ^ self.random.one_in(300);
         self.put(if down { 10 } else { 9 }, &[link]);
-        if link < links {
-            self.cut[link] = !down;
+    }
+
+    /// A send, by an end of the link but for a slip: then by `other`.
+    fn send(&mut self, other: usize) {
+        let link = self.random.below(self.ends.len());
+        let end = self.ends[link][self.random.below(2)];
+        let shut = self.flight.len() == 64 || self.cut[link];
+        if !shut || self.random.one_in(200) {
+            let sender = if self.random.one_in(300) { other } else { end };
+            self.put(5, &[sender, link]);
         }
     }
 
-    fn event(&mut self) {
+    pub fn event(&mut self) {
         let bridge = self.about(self.bridges);
         match self.random.below(100) {
             0..=13 => {
@@ -153,15 +169,7 @@ impl Maker<'_> {
                 let view = self.random.below(self.views);
                 (0..self.bridges).for_each(|b| self.put(4, &[b, view]));
             }
-            18..=37 if !self.ends.is_empty() => {
-                let link = self.random.below(self.ends.len());
-                let end = self.ends[link][self.random.below(2)];
-                let full = self.flight.len() == 64 || self.cut[link];
-                if !full || self.random.one_in(200) {
-                    let sender = if self.random.one_in(300) { bridge } else { end };
-                    self.send(sender, link);
-                }
-            }
+            18..=37 if !self.ends.is_empty() => self.send(bridge),
             38..=57 => match self.flight.len() {
                 0 => {}
                 n if self.random.one_in(400) => self.put(6, &[n]),
@@ -184,84 +192,28 @@ impl Maker<'_> {
             }
         }
     }
+
+    /// What stands at the end, for every destination.
+    pub fn conclude(&mut self) {
+        for d in 0..self.bridges {
+            self.put(11, &[d]);
+            let start = self.random.below(self.bridges);
+            self.put(12, &[start, d]);
+        }
+    }
 }
 
-fn sensible_fields(random: &mut Random) -> Vec<Vec<u8>> {
-    let bridges = if random.one_in(3) { 2 + random.below(15) } else { 2 + random.below(5) };
-    let views = if random.one_in(8) { 1 + random.below(32) } else { 1 + random.below(4) };
-    let mut maker = Maker { random, fields: Vec::new(), bridges, ends: Vec::new(), views, cut: Vec::new(), flight: Vec::new() };
-    maker.set_up();
+/// A sensible plan, with all that its maker knows.
+pub fn filled(random: &mut Random) -> Maker<'_> {
+    let mut maker = Maker::new(random);
     let events = 10 + maker.random.below(120);
     for _ in 0..events {
         maker.event();
     }
-    // What stands at the end, for every destination.
-    for d in 0..bridges {
-        maker.put(11, &[d]);
-        let start = maker.random.below(bridges);
-        maker.put(12, &[start, d]);
-    }
-    maker.fields
+    maker.conclude();
+    maker
 }
 
 pub fn sensible(random: &mut Random) -> Vec<u8> {
-    sensible_fields(random).concat()
-}
-
-fn any_field(random: &mut Random) -> Vec<u8> {
-    let tag = random.below(14) as u8;
-    let length = [1, 2, random.below(6)][random.below(3)];
-    let most = if random.one_in(2) { 4 } else { 256 };
-    let value: Vec<u8> = (0..length).map(|_| random.below(most) as u8).collect();
-    field(tag, &value)
-}
-
-/// Spoils one point: among the fields, or among the bytes.
-pub fn damaged(random: &mut Random) -> Vec<u8> {
-    let mut fields = sensible_fields(random);
-    // Often near the beginning, where the setup stands.
-    let reach = if random.one_in(2) { fields.len().min(12) } else { fields.len() };
-    let [at, other] = [random.below(reach), random.below(reach)];
-    match random.below(9) {
-        0 => fields.swap(at, other),
-        1 => fields.insert(at, any_field(random)),
-        2 => drop(fields.remove(at)),
-        3 => {
-            let again = fields[at].clone();
-            fields.insert(other, again);
-        }
-        4 => {
-            let byte = 1 + random.below(2);
-            fields[at][byte] = random.below(8) as u8;
-        }
-        5 => {
-            let byte = random.below(fields[at].len());
-            fields[at][byte] = random.below(256) as u8;
-        }
-        6 => {
-            let byte = random.below(fields[at].len());
-            fields[at][byte] ^= 1 << random.below(8);
-        }
-        7 => {
-            let byte = random.below(fields[at].len());
-            fields[at].remove(byte);
-        }
-        _ => {
-            let mut bytes = fields.concat();
-            bytes.truncate(random.below(bytes.len()));
-            return bytes;
-        }
-    }
-    fields.concat()
-}
-
-/// Any bytes; half of the time with small values, which come further.
-pub fn arbitrary(random: &mut Random) -> Vec<u8> {
-    let length = [random.below(20), random.below(2_000), random.below(62_000)][random.below(3)];
-    let most = if random.one_in(2) { 256 } else { 13 };
-    let mut bytes: Vec<u8> = (0..length).map(|_| random.below(most) as u8).collect();
-    if random.one_in(2) {
-        bytes.splice(0..0, [1, 0, 1, 3, 2, 0, 2, 0, 1, 3, 0, 4, 0, 0, 0, 9]);
-    }
-    bytes
+    filled(random).fields.concat()
 }

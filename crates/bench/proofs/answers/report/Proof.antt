@@ -1,5 +1,6 @@
 -- `answers::report` meets its contract: in range, then nothing of the table applies, then the rows are written. Assumes nothing.
 use Prim.Native.Nat.{ℕ}
+use native.Mathlib.Omega.{arith}
 use mathlib.Core.Bool.{true, _&&_}
 use mathlib.Core.List.{[]}
 use mathlib.Core.Path.{_≡_, sym, _∙_}
@@ -41,14 +42,18 @@ network-in-range-requires c κs = search needs
 returns : tie.Need-returns
 unfolding reportOf
 returns c =
-    let s = c .before .before .before .before .before .before .before in
-    out-of-range _ _ _ (Refused s) _ (rw (sym (c .before .network-in-range .ensures) ∙ not-true _ (c .if1 .taken)))
+    let s = c .before .before .before .before .before .before .before in (
+      out-of-range _ _ _ (Refused s) _ (rw (sym (c .before .network-in-range .ensures) ∙ not-true _ (c .if1 .taken))),
+      omega arith,
+    )
 
 returns-2 : tie.Need-returns-2
 unfolding reportOf
 returns-2 c =
-    let s = c .before .before .before .before .before .before .before .before in
-    out-of-range _ _ _ (Refused s) _ (not-both (stateInRange (StateOf s)) _ (lt-leb 32 _ (c .if2 .taken)))
+    let s = c .before .before .before .before .before .before .before .before in (
+      out-of-range _ _ _ (Refused s) _ (not-both (stateInRange (StateOf s)) _ (lt-leb 32 _ (c .if2 .taken))),
+      omega arith,
+    )
 
 report-refusal-requires : tie.Need-report-refusal-requires
 report-refusal-requires c κs = search needs
@@ -56,8 +61,10 @@ report-refusal-requires c κs = search needs
 returns-3 : tie.Need-returns-3
 unfolding reportOf refuse checks noSuchBridge
 returns-3 c =
-    let s = c .before .before .before .before .before .before .before .before .before .before in
-    turned-down _ _ _ (Refused s) _ (all-in-range (c .before .before)) _ (c .before .report-refusal .ensures) (c .if3 .taken)
+    let s = c .before .before .before .before .before .before .before .before .before .before in (
+      turned-down _ _ _ (Refused s) _ (all-in-range (c .before .before)) _ (c .before .report-refusal .ensures) (c .if3 .taken),
+      omega (arith, c .if3 .taken),
+    )
 
 report-rows-requires : tie.Need-report-rows-requires
 unfolding refuse checks
@@ -74,9 +81,11 @@ same-length c = search needs
 returns-4 : tie.Need-returns-4
 unfolding reportOf refuse checks noSuchBridge
 returns-4 c =
-    let s = c .before .before .before .before .before .before .before .before .before .before .before .before .before .before in
-    rw (c .before .before .report-rows .ensures)
-    (goes-on _ _ _ (Refused s) _ (all-in-range (c .before .before .before .before .before .before)) _ (c .before .before .before .before .before .report-refusal .ensures) (c .before .before .before .before .if3 .left))
+    let s = c .before .before .before .before .before .before .before .before .before .before .before .before .before .before in (
+      rw (c .before .before .report-rows .ensures)
+          (goes-on _ _ _ (Refused s) _ (all-in-range (c .before .before .before .before .before .before)) _ (c .before .before .before .before .before .report-refusal .ensures) (c .before .before .before .before .if3 .left)),
+      tt,
+    )
 
 pub report-spec : {M : Type 1} → statement M
 report-spec =

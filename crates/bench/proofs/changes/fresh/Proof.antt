@@ -37,9 +37,11 @@ refused-requires c κs = search needs
 returns : tie.Need-returns
 unfolding freshOf
 returns c =
-    let a = c .before .before .before .before .before .before .before .args in
-    ap (λ (o : Changed). started (o .reply) (o .bench) (a .tables .now) (a .sent .now) (a .held .now)) (c .refused .ensures)
-    ∙ rw (sym (c .before .before .plan-in-range .ensures) ∙ not-true _ (c .before .if1 .taken))
+    let a = c .before .before .before .before .before .before .before .args in (
+      ap (λ (o : Changed). started (o .reply) (o .bench) (a .tables .now) (a .sent .now) (a .held .now)) (c .refused .ensures .0)
+          ∙ rw (sym (c .before .before .plan-in-range .ensures) ∙ not-true _ (c .before .if1 .taken)),
+      c .refused .ensures .1,
+    )
 
 fill-tables-requires : tie.Need-fill-tables-requires
 fill-tables-requires c κs = let l = lasting (c .before) in (l .viewsMost, l .costsLong, l .tablesLong)
@@ -85,13 +87,15 @@ same-length-3 c = search needs
 
 returns-2 : tie.Need-returns-2
 unfolding freshOf
-returns-2 c =
-    rw (
-      in-range (c .before .before .before .before .before .before .before .before .before .before .before .before .before .before .before),
-      c .fresh-bench .ensures,
-      ← c .before .before .before .before .before .before .before .before .before .before .before .before .before .fill-tables .ensures,
-      ← c .before .before .before .before .before .start-ends .ensures,
-    )
+returns-2 c = (
+  rw (
+    in-range (c .before .before .before .before .before .before .before .before .before .before .before .before .before .before .before),
+    c .fresh-bench .ensures,
+    ← c .before .before .before .before .before .before .before .before .before .before .before .before .before .fill-tables .ensures,
+    ← c .before .before .before .before .before .start-ends .ensures,
+  ),
+  tt,
+)
 
 pub fresh-spec : {M : Type 1} → statement M
 fresh-spec =

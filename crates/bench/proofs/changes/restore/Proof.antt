@@ -20,24 +20,28 @@ refused-requires c κs = search needs
 
 returns : tie.Need-returns
 unfolding restoreOf
-returns c =
-    c .refused .ensures
-    ∙ out-of-range _ _ _ (λ k. changed k (c .before .before .before .args .bench)) _
-    (sym (c .before .before .bench-in-range .ensures) ∙ not-true _ (c .before .if1 .taken))
+returns c = (
+  c .refused .ensures .0
+      ∙ out-of-range _ _ _ (λ k. changed k (c .before .before .before .args .bench)) _
+      (sym (c .before .before .bench-in-range .ensures) ∙ not-true _ (c .before .if1 .taken)),
+  c .refused .ensures .1,
+)
 
 restore-refusal-requires : tie.Need-restore-refusal-requires
 restore-refusal-requires c κs = bench-counted _ (sym (c .before .bench-in-range .ensures) ∙ not-false _ (c .if1 .left)) .links
 
 refused-requires-2 : tie.Need-refused-requires-2
-refused-requires-2 c κs = search needs
+refused-requires-2 c κs = omega (arith, c .if2 .taken)
 
 returns-2 : tie.Need-returns-2
 unfolding restoreOf
-returns-2 c =
-    c .refused2 .ensures
-    ∙ turned-down _ _ _ (λ k. changed k (c .before .before .before .before .before .args .bench)) _
-    (sym (c .before .before .before .before .bench-in-range .ensures) ∙ not-false _ (c .before .before .before .if1 .left)) _
-    (c .before .before .restore-refusal .ensures) (c .before .if2 .taken)
+returns-2 c = (
+  c .refused2 .ensures .0
+      ∙ turned-down _ _ _ (λ k. changed k (c .before .before .before .before .before .args .bench)) _
+      (sym (c .before .before .before .before .bench-in-range .ensures) ∙ not-false _ (c .before .before .before .if1 .left)) _
+      (c .before .before .restore-refusal .ensures) (c .before .if2 .taken),
+  c .refused2 .ensures .1,
+)
 
 with-cut-requires : tie.Need-with-cut-requires
 unfolding refuse checks changeChecks
@@ -51,11 +55,13 @@ with-cut-requires c κs =
 
 returns-3 : tie.Need-returns-3
 unfolding restoreOf
-returns-3 c =
-    rw (c .with-cut .ensures)
-    (goes-on _ _ _ (λ k. changed k (c .before .before .before .before .before .args .bench)) _
-    (sym (c .before .before .before .before .bench-in-range .ensures) ∙ not-false _ (c .before .before .before .if1 .left)) _
-    (c .before .before .restore-refusal .ensures) (c .before .if2 .left))
+returns-3 c = (
+  rw (c .with-cut .ensures)
+      (goes-on _ _ _ (λ k. changed k (c .before .before .before .before .before .args .bench)) _
+      (sym (c .before .before .before .before .bench-in-range .ensures) ∙ not-false _ (c .before .before .before .if1 .left)) _
+      (c .before .before .restore-refusal .ensures) (c .before .if2 .left)),
+  tt,
+)
 
 pub restore-spec : {M : Type 1} → statement M
 restore-spec =

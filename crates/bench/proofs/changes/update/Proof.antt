@@ -60,24 +60,28 @@ refused-requires c κs = search needs
 returns : tie.Need-returns
 unfolding updateOf
 returns c =
-    let s = Given (c .before .before .before .before .before .before .before) in
-    ap (λ (o : Changed). rewritten (o .reply) (o .bench) (s .sent) (s .held)) (c .refused .ensures)
-    ∙ out-of-range _ _ _ (unmoved s) _
-    (sym (c .before .before .network-in-range .ensures) ∙ not-true _ (c .before .if1 .taken))
+    let s = Given (c .before .before .before .before .before .before .before) in (
+      ap (λ (o : Changed). rewritten (o .reply) (o .bench) (s .sent) (s .held)) (c .refused .ensures .0)
+          ∙ out-of-range _ _ _ (unmoved s) _
+          (sym (c .before .before .network-in-range .ensures) ∙ not-true _ (c .before .if1 .taken)),
+      c .refused .ensures .1,
+    )
 
 update-refusal-requires : tie.Need-update-refusal-requires
 update-refusal-requires c κs = counts c .bridges
 
 refused-requires-2 : tie.Need-refused-requires-2
-refused-requires-2 c κs = search needs
+refused-requires-2 c κs = omega (arith, c .if2 .taken)
 
 returns-2 : tie.Need-returns-2
 unfolding updateOf
 returns-2 c =
-    let s = Given (c .before .before .before .before .before .before .before .before .before) in
-    ap (λ (o : Changed). rewritten (o .reply) (o .bench) (s .sent) (s .held)) (c .refused2 .ensures)
-    ∙ turned-down _ _ _ (unmoved s) _
-    (in-range (c .before .before .before)) _ (same (c .before .before)) (c .before .if2 .taken)
+    let s = Given (c .before .before .before .before .before .before .before .before .before) in (
+      ap (λ (o : Changed). rewritten (o .reply) (o .bench) (s .sent) (s .held)) (c .refused2 .ensures .0)
+          ∙ turned-down _ _ _ (unmoved s) _
+          (in-range (c .before .before .before)) _ (same (c .before .before)) (c .before .if2 .taken),
+      c .refused2 .ensures .1,
+    )
 
 element-copy-out-present : tie.Need-element-copy-out-present
 element-copy-out-present c = omega (arith, counts (c .before .before) .bridges, listed c .bridge)
@@ -88,10 +92,12 @@ cast-present c = search needs
 returns-3 : tie.Need-returns-3
 unfolding updateOf
 returns-3 c =
-    let s = Given (c .before .before .before .before .before .before .before .before .before .before) in
-    rw (eq-eqb _ _ (c .if3 .taken))
-    (goes-on _ _ _ (unmoved s) _
-    (in-range (c .before .before .before .before)) _ (same (c .before .before .before)) (c .before .before .if2 .left))
+    let s = Given (c .before .before .before .before .before .before .before .before .before .before) in (
+      rw (eq-eqb _ _ (c .if3 .taken))
+          (goes-on _ _ _ (unmoved s) _
+          (in-range (c .before .before .before .before)) _ (same (c .before .before .before)) (c .before .before .if2 .left)),
+      tt,
+    )
 
 moved-requires : tie.Need-moved-requires
 moved-requires c κs =
@@ -117,12 +123,14 @@ same-length-2 c = search needs
 returns-4 : tie.Need-returns-4
 unfolding updateOf
 returns-4 c =
-    let s = Given (c .before .before .before .before .before .before .before .before .before .before .before .before .before .before .before .before .before) in
-    c .before .before .before .before .moved .ensures
-    ∙ rw (ne-eqb _ _ (c .before .before .before .before .before .before .before .if3 .left))
-    (goes-on _ _ _ (unmoved s) _
-    (in-range (c .before .before .before .before .before .before .before .before .before .before .before)) _
-    (same (c .before .before .before .before .before .before .before .before .before .before)) (c .before .before .before .before .before .before .before .before .before .if2 .left))
+    let s = Given (c .before .before .before .before .before .before .before .before .before .before .before .before .before .before .before .before .before) in (
+      c .before .before .before .before .moved .ensures
+          ∙ rw (ne-eqb _ _ (c .before .before .before .before .before .before .before .if3 .left))
+          (goes-on _ _ _ (unmoved s) _
+          (in-range (c .before .before .before .before .before .before .before .before .before .before .before)) _
+          (same (c .before .before .before .before .before .before .before .before .before .before)) (c .before .before .before .before .before .before .before .before .before .if2 .left)),
+      tt,
+    )
 
 pub update-spec : {M : Type 1} → statement M
 update-spec =

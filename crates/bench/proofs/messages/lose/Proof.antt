@@ -34,25 +34,31 @@ same-length c = search needs
 
 returns : tie.Need-returns
 unfolding loseOf
-returns c = let a = c .before .before .before .before .before .args in
-    flown-refused (a .messages .now) (c .refused .ensures)
-    ∙ out-of-range _ _ _ (λ k. flown k (a .bench) (a .messages .now)) _ (sym (c .before .before .flight-in-range .ensures) ∙ not-true _ (c .before .if1 .taken))
+returns c =
+    let a = c .before .before .before .before .before .args in (
+      flown-refused (a .messages .now) (c .refused .ensures .0)
+          ∙ out-of-range _ _ _ (λ k. flown k (a .bench) (a .messages .now)) _ (sym (c .before .before .flight-in-range .ensures) ∙ not-true _ (c .before .if1 .taken)),
+      c .refused .ensures .1,
+    )
 
 lose-refusal-requires : tie.Need-lose-refusal-requires
 lose-refusal-requires c κs = search needs
 
 refused-requires-2 : tie.Need-refused-requires-2
-refused-requires-2 c κs = search needs
+refused-requires-2 c κs = omega (arith, c .if2 .taken)
 
 same-length-2 : tie.Need-same-length-2
 same-length-2 c = search needs
 
 returns-2 : tie.Need-returns-2
 unfolding loseOf
-returns-2 c = let a = c .before .before .before .before .before .before .before .args in
-    flown-refused (a .messages .now) (c .refused2 .ensures)
-    ∙ turned-down _ _ _ (λ k. flown k (a .bench) (a .messages .now)) _ (in-range (c .before .before .before)) _
-    (c .before .before .lose-refusal .ensures ∙ lose-same (a .bench) (a .messages .now) (a .place)) (c .before .if2 .taken)
+returns-2 c =
+    let a = c .before .before .before .before .before .before .before .args in (
+      flown-refused (a .messages .now) (c .refused2 .ensures .0)
+          ∙ turned-down _ _ _ (λ k. flown k (a .bench) (a .messages .now)) _ (in-range (c .before .before .before)) _
+          (c .before .before .lose-refusal .ensures ∙ lose-same (a .bench) (a .messages .now) (a .place)) (c .before .if2 .taken),
+      c .refused2 .ensures .1,
+    )
 
 take-out-requires : tie.Need-take-out-requires
 take-out-requires c κs = let h = flight-told _ _ (in-range (c .before .before .before)) in
@@ -69,10 +75,13 @@ same-length-3 c = search needs
 
 returns-3 : tie.Need-returns-3
 unfolding loseOf
-returns-3 c = let a = c .before .before .before .before .before .before .before .before .before .before .before .args in
-    rw (c .with-count .ensures, c .before .before .before .take-out .ensures)
-    (goes-on _ _ _ (λ k. flown k (a .bench) (a .messages .now)) _ (in-range (c .before .before .before .before .before .before .before)) _
-    (c .before .before .before .before .before .before .lose-refusal .ensures ∙ lose-same (a .bench) (a .messages .now) (a .place)) (c .before .before .before .before .before .if2 .left))
+returns-3 c =
+    let a = c .before .before .before .before .before .before .before .before .before .before .before .args in (
+      rw (c .with-count .ensures, c .before .before .before .take-out .ensures)
+          (goes-on _ _ _ (λ k. flown k (a .bench) (a .messages .now)) _ (in-range (c .before .before .before .before .before .before .before)) _
+          (c .before .before .before .before .before .before .lose-refusal .ensures ∙ lose-same (a .bench) (a .messages .now) (a .place)) (c .before .before .before .before .before .if2 .left)),
+      tt,
+    )
 
 pub lose-spec : {M : Type 1} → statement M
 lose-spec =

@@ -61,25 +61,31 @@ same-length c = search needs
 
 returns : tie.Need-returns
 unfolding sendOf
-returns c = let a = c .before .before .before .before .before .args in
-    flown-refused (a .messages .now) (c .refused .ensures)
-    ∙ out-of-range _ _ _ (λ k. flown k (a .t1) (a .messages .now)) _ (sym (c .before .before .flight-in-range .ensures) ∙ not-true _ (c .before .if1 .taken))
+returns c =
+    let a = c .before .before .before .before .before .args in (
+      flown-refused (a .messages .now) (c .refused .ensures .0)
+          ∙ out-of-range _ _ _ (λ k. flown k (a .t1) (a .messages .now)) _ (sym (c .before .before .flight-in-range .ensures) ∙ not-true _ (c .before .if1 .taken)),
+      c .refused .ensures .1,
+    )
 
 send-refusal-requires : tie.Need-send-refusal-requires
 send-refusal-requires c κs = flight c .0 .counted .links
 
 refused-requires-2 : tie.Need-refused-requires-2
-refused-requires-2 c κs = search needs
+refused-requires-2 c κs = omega (arith, c .if2 .taken)
 
 same-length-2 : tie.Need-same-length-2
 same-length-2 c = search needs
 
 returns-2 : tie.Need-returns-2
 unfolding sendOf
-returns-2 c = let a = c .before .before .before .before .before .before .before .args in
-    flown-refused (a .messages .now) (c .refused2 .ensures)
-    ∙ turned-down _ _ _ (λ k. flown k (a .t1) (a .messages .now)) _ (in-range (c .before .before .before)) _
-    (c .before .before .send-refusal .ensures ∙ send-same (a .t1) (a .messages .now) (a .bridge) (a .link)) (c .before .if2 .taken)
+returns-2 c =
+    let a = c .before .before .before .before .before .before .before .args in (
+      flown-refused (a .messages .now) (c .refused2 .ensures .0)
+          ∙ turned-down _ _ _ (λ k. flown k (a .t1) (a .messages .now)) _ (in-range (c .before .before .before)) _
+          (c .before .before .send-refusal .ensures ∙ send-same (a .t1) (a .messages .now) (a .bridge) (a .link)) (c .before .if2 .taken),
+      c .refused2 .ensures .1,
+    )
 
 end-of-requires : tie.Need-end-of-requires
 end-of-requires c κs = told c .link
@@ -147,12 +153,15 @@ same-length-4 c = search needs
 
 returns-4 : tie.Need-returns-4
 unfolding sendOf
-returns-4 c = let a = c .before .before .before .before .before .before .before .before .before .before .before .before .before .before .before .before .before .before .before .before .before .before .args in
+returns-4 c =
+    let a = c .before .before .before .before .before .before .before .before .before .before .before .before .before .before .before .before .before .before .before .before .before .before .args in
     let same = said-same _ _ (rw (c .before .before .before .before .before .before .before .before .before .carried .given .1) at (carries (c .before .before .before .before .before .before .before .before .before .before .before))) in
-    let numbers = sent-numbers (a .t1) (a .messages .now) (a .bridge) (a .link) (c .before .before .before .before .before .before .before .before .before .before .before .before .before .before .before .end-of .result) _ (c .before .before .before .before .before .before .before .before .before .before .before .before .before .before .before .end-of .ensures) same in
-    rw (c .with-count .ensures, c .before .before .before .put .ensures ∙ ap (λ (l : List ℕ). sets (a .messages .now) (5 * a .t1 .messages) l) numbers)
-    (goes-on _ _ _ (λ k. flown k (a .t1) (a .messages .now)) _ (in-range (c .before .before .before .before .before .before .before .before .before .before .before .before .before .before .before .before .before .before)) _
-    (c .before .before .before .before .before .before .before .before .before .before .before .before .before .before .before .before .before .send-refusal .ensures ∙ send-same (a .t1) (a .messages .now) (a .bridge) (a .link)) (c .before .before .before .before .before .before .before .before .before .before .before .before .before .before .before .before .if2 .left))
+    let numbers = sent-numbers (a .t1) (a .messages .now) (a .bridge) (a .link) (c .before .before .before .before .before .before .before .before .before .before .before .before .before .before .before .end-of .result) _ (c .before .before .before .before .before .before .before .before .before .before .before .before .before .before .before .end-of .ensures) same in (
+      rw (c .with-count .ensures, c .before .before .before .put .ensures ∙ ap (λ (l : List ℕ). sets (a .messages .now) (5 * a .t1 .messages) l) numbers)
+          (goes-on _ _ _ (λ k. flown k (a .t1) (a .messages .now)) _ (in-range (c .before .before .before .before .before .before .before .before .before .before .before .before .before .before .before .before .before .before)) _
+          (c .before .before .before .before .before .before .before .before .before .before .before .before .before .before .before .before .before .send-refusal .ensures ∙ send-same (a .t1) (a .messages .now) (a .bridge) (a .link)) (c .before .before .before .before .before .before .before .before .before .before .before .before .before .before .before .before .if2 .left)),
+      tt,
+    )
 
 pub send-spec : {M : Type 1} → statement M
 send-spec =

@@ -33,7 +33,7 @@ same-length-4 c = search needs
 
 returns-2 : tie.Need-returns-2
 unfolding netFreshTold
-returns-2 c = rw (le-leb _ _ (c .before .before .before .before .before .before .before .before .before .before .before .before .before .before .before .before .if1 .left), ← c .before .before .before .before .before .before .before .before .before .before .before .before .before .before .load .ensures, ← c .before .before .before .before .before .before .before .before .before .before .fresh .ensures, c .before .before .settle .ensures .0, c .before .before .settle .ensures .1)
+returns-2 c = rw (le-leb _ _ (c .before .before .before .before .before .before .before .before .before .before .before .before .before .before .before .before .if1 .left), ← c .before .before .before .before .before .before .before .before .before .before .before .before .before .before .load .ensures, ← c .before .before .before .before .before .before .before .before .before .before .fresh .ensures .0, c .before .before .settle .ensures .0, c .before .before .settle .ensures .1)
 
 pub bench-net-fresh-spec : {M : Type 1} → statement M
 bench-net-fresh-spec =

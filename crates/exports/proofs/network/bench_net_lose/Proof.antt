@@ -27,7 +27,7 @@ same-length-2 c = search needs
 
 returns-2 : tie.Need-returns-2
 unfolding netLoseTold
-returns-2 c = rw (le-leb _ _ (c .before .before .before .before .before .before .before .before .before .before .if1 .left), ← c .before .before .before .before .before .before .before .before .load .ensures, ← c .before .before .before .before .before .before .lose .ensures, c .before .before .settle .ensures .0, c .before .before .settle .ensures .1)
+returns-2 c = rw (le-leb _ _ (c .before .before .before .before .before .before .before .before .before .before .if1 .left), ← c .before .before .before .before .before .before .before .before .load .ensures, ← c .before .before .before .before .before .before .lose .ensures .0, c .before .before .settle .ensures .0, c .before .before .settle .ensures .1)
 
 pub bench-net-lose-spec : {M : Type 1} → statement M
 bench-net-lose-spec =

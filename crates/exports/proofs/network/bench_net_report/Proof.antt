@@ -24,7 +24,7 @@ same-length c = search needs
 
 returns-2 : tie.Need-returns-2
 unfolding netReportTold
-returns-2 c = rw (le-leb _ _ (c .before .before .before .before .before .before .if1 .left), ← c .before .before .before .before .before .load .ensures, ← c .before .before .before .report .ensures, c .number-of .ensures)
+returns-2 c = rw (le-leb _ _ (c .before .before .before .before .before .before .if1 .left), ← c .before .before .before .before .before .load .ensures, ← c .before .before .before .report .ensures .0, c .number-of .ensures)
 
 pub bench-net-report-spec : {M : Type 1} → statement M
 bench-net-report-spec =

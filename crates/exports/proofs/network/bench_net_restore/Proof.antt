@@ -24,7 +24,7 @@ same-length c = search needs
 
 returns-2 : tie.Need-returns-2
 unfolding netRestoreTold
-returns-2 c = rw (le-leb _ _ (c .before .before .before .before .before .before .before .if1 .left), ← c .before .before .before .before .before .load .ensures, ← c .before .before .before .before .restore .ensures, c .before .before .settle .ensures .0, c .before .before .settle .ensures .1)
+returns-2 c = rw (le-leb _ _ (c .before .before .before .before .before .before .before .if1 .left), ← c .before .before .before .before .before .load .ensures, ← c .before .before .before .before .restore .ensures .0, c .before .before .settle .ensures .0, c .before .before .settle .ensures .1)
 
 pub bench-net-restore-spec : {M : Type 1} → statement M
 bench-net-restore-spec =

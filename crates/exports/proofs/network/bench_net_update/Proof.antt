@@ -30,7 +30,7 @@ same-length-3 c = search needs
 
 returns-2 : tie.Need-returns-2
 unfolding netUpdateTold
-returns-2 c = rw (le-leb _ _ (c .before .before .before .before .before .before .before .before .before .before .before .before .before .if1 .left), ← c .before .before .before .before .before .before .before .before .before .before .before .load .ensures, ← c .before .before .before .before .before .before .before .before .update .ensures, c .before .before .settle .ensures .0, c .before .before .settle .ensures .1)
+returns-2 c = rw (le-leb _ _ (c .before .before .before .before .before .before .before .before .before .before .before .before .before .if1 .left), ← c .before .before .before .before .before .before .before .before .before .before .before .load .ensures, ← c .before .before .before .before .before .before .before .before .update .ensures .0, c .before .before .settle .ensures .0, c .before .before .settle .ensures .1)
 
 pub bench-net-update-spec : {M : Type 1} → statement M
 bench-net-update-spec =

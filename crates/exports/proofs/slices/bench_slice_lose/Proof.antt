@@ -38,7 +38,7 @@ same-length-2 c = search needs
 
 returns-3 : tie.Need-returns-3
 unfolding sliceLoseTold netLoseTold
-returns-3 c = rw (eq-eqb _ _ (c .before .before .before .before .before .before .before .before .before .before .before .before .before .before .before .before .if1 .left), le-leb _ _ (c .before .before .before .before .before .before .before .before .before .before .before .before .before .before .before .if2 .left), ← c .before .before .before .before .before .before .before .before .before .before .before .array-of .ensures, ← c .before .before .before .before .before .before .before .before .before .before .before .before .before .load .ensures, ← c .before .before .before .before .before .before .before .before .before .before .lose .ensures, c .before .before .before .before .before .before .before .put-array .ensures, c .before .before .settle .ensures .0, c .before .before .settle .ensures .1)
+returns-3 c = rw (eq-eqb _ _ (c .before .before .before .before .before .before .before .before .before .before .before .before .before .before .before .before .if1 .left), le-leb _ _ (c .before .before .before .before .before .before .before .before .before .before .before .before .before .before .before .if2 .left), ← c .before .before .before .before .before .before .before .before .before .before .before .array-of .ensures, ← c .before .before .before .before .before .before .before .before .before .before .before .before .before .load .ensures, ← c .before .before .before .before .before .before .before .before .before .before .lose .ensures .0, c .before .before .before .before .before .before .before .put-array .ensures, c .before .before .settle .ensures .0, c .before .before .settle .ensures .1)
 
 pub bench-slice-lose-spec : {M : Type 1} → statement M
 bench-slice-lose-spec =

@@ -1,26 +1,34 @@
 -- `fields::read_field` meets its contract. Each return cites the tests that led there. Assumes nothing.
 use native.Mathlib.Omega.{arith}
-use mathlib.Core.Path.{_≡_}
-use mathlib.Core.Bool.{cond}
+use mathlib.Core.Path.{_≡_, sym, _∙_}
+use mathlib.Core.Bool.{Bool, true, false, cond, not}
 use borrow.Author.Needs.{needs}
-use borrow.Author.Tests.{lt-ltb, le-ltb, eq-eqb, ne-eqb}
+use borrow.Author.Tests.{eq-eqb, ne-eqb, not-true, not-false}
 use lib.Dec.{eqb}
 use Rattle.distances.specs.Refusal.{refusal}
 use Rattle.plan.specs.Fields.{size, fieldOf}
 use Rattle.plan.specs.Reading.{readReply, readOf, fieldRefusal, valueChecks}
 use Rattle.plan.specs.declared.Read.{Read}
+use Rattle.plan.proofs.Laws.{in-range-links}
 use Rattle.plan.proofs.fields.read_field.Statement.{statement}
 use Rattle.plan.proofs.fields.read_field.Tie as tie
 
+-- the progress is in range where it passed the test
+passes : {b range : Bool} → b ≡ range → not b ≡ false → range ≡ true
+passes e n = sym e ∙ not-false _ n
+
+progress-in-range-requires : tie.Need-progress-in-range-requires
+progress-in-range-requires c κs = search needs
+
 returns : tie.Need-returns
 unfolding readReply
-returns c = rw (lt-ltb 32 _ (c .if1 .taken))
+returns c = rw (sym (c .before .progress-in-range .ensures) ∙ not-true _ (c .if1 .taken))
 
 returns-2 : tie.Need-returns-2
 unfolding readReply readOf
 returns-2 c =
     rw (
-      le-ltb 32 _ (c .before .before .before .if1 .left),
+      passes (c .before .before .before .before .progress-in-range .ensures) (c .before .before .before .if1 .left),
       eq-eqb _ 0 (c .before .before .if2 .taken),
       eq-eqb _ 0 (c .if3 .taken),
     )
@@ -29,13 +37,13 @@ returns-3 : tie.Need-returns-3
 unfolding readReply readOf
 returns-3 c =
     rw (
-      le-ltb 32 _ (c .before .before .before .if1 .left),
+      passes (c .before .before .before .before .progress-in-range .ensures) (c .before .before .before .if1 .left),
       eq-eqb _ 0 (c .before .before .if2 .taken),
       ne-eqb _ 0 (c .if3 .left),
     )
 
 header-refusal-requires : tie.Need-header-refusal-requires
-header-refusal-requires c κs = search needs
+header-refusal-requires c κs = in-range-links _ (passes (c .before .before .progress-in-range .ensures) (c .before .if1 .left))
 
 -- bytes are left: the field, or its refusal
 reading :
@@ -45,13 +53,17 @@ reading :
     readReply (a .rest .now) (a .p) ≡ cond (eqb refused 0) (Read.Field (fieldOf (a .rest .now)) (size (a .rest .now))) (Read.Stop refused)
 unfolding readReply readOf fieldRefusal
 reading c =
-    rw (le-ltb 32 _ (c .before .before .if1 .left), ne-eqb _ 0 (c .before .if2 .left), ← c .header-refusal .ensures)
+    rw (
+      passes (c .before .before .before .progress-in-range .ensures) (c .before .before .if1 .left),
+      ne-eqb _ 0 (c .before .if2 .left),
+      ← c .header-refusal .ensures,
+    )
 
 returns-4 : tie.Need-returns-4
 returns-4 c = let e = ne-eqb _ 0 (c .if4 .taken) in rw (reading (c .before), e, e)
 
 value-refusal-requires : tie.Need-value-refusal-requires
-value-refusal-requires c κs = search needs
+value-refusal-requires c κs = in-range-links _ (passes (c .before .before .before .before .progress-in-range .ensures) (c .before .before .before .if1 .left))
 
 returns-5 : tie.Need-returns-5
 returns-5 c =
@@ -68,8 +80,8 @@ field-of-requires c κs = search needs
 value-length-requires : tie.Need-value-length-requires
 value-length-requires c κs = search needs
 
-add-t9 : tie.Need-add-t9
-add-t9 c =
+add-t10 : tie.Need-add-t10
+add-t10 c =
     let known = c .before .before .before .before .before .before .before .before .before .shared-slice-known .given in
     omega (arith, known 1, known 2)
 
@@ -88,6 +100,7 @@ pub read-field-spec : {M : Type 1} → statement M
 read-field-spec =
     tie.close
     (tie.spec
+    progress-in-range-requires
     returns
     returns-2
     returns-3
@@ -97,5 +110,5 @@ read-field-spec =
     returns-5
     field-of-requires
     value-length-requires
-    add-t9
+    add-t10
     returns-6)

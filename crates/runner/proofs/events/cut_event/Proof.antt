@@ -18,7 +18,7 @@ number-of-requires c κs = search needs
 returns : tie.Need-returns
 unfolding replyOf rowsAfter textOf
 returns c = rw (c .number-of .ensures)
-    (ap (λ (o : Changed). happening (o .reply) (o .bench) [] [] [] [] [] 0) (c .before .before .cut .ensures) ∙ quiet _ [] [] _ (cut-step _ _) refl)
+    (ap (λ (o : Changed). happening (o .reply) (o .bench) [] [] [] [] [] 0) (c .before .before .cut .ensures .0) ∙ quiet _ [] [] _ (cut-step _ _) refl)
 
 pub cut-event-spec : {M : Type 1} → statement M
 cut-event-spec = tie.close (tie.spec cut-requires number-of-requires returns)

@@ -21,7 +21,7 @@ same-length c = search needs
 returns : tie.Need-returns
 unfolding replyOf rowsAfter textOf
 returns c = rw (c .number-of .ensures)
-    (ap (λ (o : Flown). happening (o .reply) (o .bench) [] [] (o .messages) [] [] 0) (c .before .before .before .before .lose .ensures) ∙ quiet _ [] [] _ (lose-step _ _) refl)
+    (ap (λ (o : Flown). happening (o .reply) (o .bench) [] [] (o .messages) [] [] 0) (c .before .before .before .before .lose .ensures .0) ∙ quiet _ [] [] _ (lose-step _ _) refl)
 
 pub lose-event-spec : {M : Type 1} → statement M
 lose-event-spec = tie.close (tie.spec lose-requires number-of-requires same-length returns)

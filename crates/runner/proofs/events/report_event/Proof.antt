@@ -21,8 +21,8 @@ same-length c = search needs
 
 returns : tie.Need-returns
 unfolding replyOf rowsAfter textOf
-returns c = rw (ap (λ (o : Reported). o .rows) (c .before .before .before .before .report .ensures))
-    (turned-down _ _ _ _ (report-step _ _) _ (c .before .number-of .ensures ∙ ap (λ (o : Reported). o .reply) (c .before .before .before .before .report .ensures)) (c .if1 .taken))
+returns c = rw (ap (λ (o : Reported). o .rows) (c .before .before .before .before .report .ensures .0))
+    (turned-down _ _ _ _ (report-step _ _) _ (c .before .number-of .ensures ∙ ap (λ (o : Reported). o .reply) (c .before .before .before .before .report .ensures .0)) (c .if1 .taken))
 
 report-requires-2 : tie.Need-report-requires-2
 report-requires-2 c κs = search needs
@@ -38,10 +38,10 @@ same-length-3 c = search needs
 
 returns-2 : tie.Need-returns-2
 unfolding replyOf rowsAfter textOf
-returns-2 c = let rows = ap (λ (o : Reported). o .rows) (c .before .before .before .before .before .before .before .before .before .before .report .ensures) in
-    let ready = report-ready _ _ _ _ _ (c .before .before .before .before .before .before .before .before .before .before .report .ensures) (sym (c .before .before .before .before .before .before .before .number-of .ensures) ∙ c .before .before .before .before .before .before .if1 .left) (omega arith) in
+returns-2 c = let rows = ap (λ (o : Reported). o .rows) (c .before .before .before .before .before .before .before .before .before .before .report .ensures .0) in
+    let ready = report-ready _ _ _ _ _ (c .before .before .before .before .before .before .before .before .before .before .report .ensures .0) (sym (c .before .before .before .before .before .before .before .number-of .ensures) ∙ c .before .before .before .before .before .before .if1 .left) (omega arith) in
     rw rows
-    (accepted _ _ _ _ (report-step _ _) _ _ _ (c .before .before .before .before .before .before .before .number-of .ensures ∙ ap (λ (o : Reported). o .reply) (c .before .before .before .before .before .before .before .before .before .before .report .ensures)) (c .before .before .before .before .before .before .if1 .left)
+    (accepted _ _ _ _ (report-step _ _) _ _ _ (c .before .before .before .before .before .before .before .number-of .ensures ∙ ap (λ (o : Reported). o .reply) (c .before .before .before .before .before .before .before .before .before .before .report .ensures .0)) (c .before .before .before .before .before .before .if1 .left)
     (rw (← rows, c .count-of .ensures)
     (counted (c .before .before .before .report2 .result) _ _ _ _ ready (c .before .before .before .before .before .before .before .before .before .before .before .before .before .before .before .before .before .before .pre .1) (c .before .before .before .report2 .ensures))))
 

@@ -18,7 +18,7 @@ number-of-requires c κs = search needs
 returns : tie.Need-returns
 unfolding replyOf rowsAfter textOf
 returns c = rw (c .number-of .ensures)
-    (ap (λ (o : Changed). happening (o .reply) (o .bench) [] [] [] [] [] 0) (c .before .before .restore .ensures) ∙ quiet _ [] [] _ (restore-step _ _) refl)
+    (ap (λ (o : Changed). happening (o .reply) (o .bench) [] [] [] [] [] 0) (c .before .before .restore .ensures .0) ∙ quiet _ [] [] _ (restore-step _ _) refl)
 
 pub restore-event-spec : {M : Type 1} → statement M
 restore-event-spec = tie.close (tie.spec restore-requires number-of-requires returns)

@@ -21,7 +21,7 @@ same-length c = search needs
 returns : tie.Need-returns
 unfolding replyOf rowsAfter textOf
 returns c = rw (c .number-of .ensures)
-    (ap (λ (o : Flown). happening (o .reply) (o .bench) [] [] (o .messages) [] [] 0) (c .before .before .before .before .send .ensures) ∙ quiet _ [] [] _ (send-step _ _ _) refl)
+    (ap (λ (o : Flown). happening (o .reply) (o .bench) [] [] (o .messages) [] [] 0) (c .before .before .before .before .send .ensures .0) ∙ quiet _ [] [] _ (send-step _ _ _) refl)
 
 pub send-event-spec : {M : Type 1} → statement M
 send-event-spec = tie.close (tie.spec send-requires number-of-requires same-length returns)

@@ -24,7 +24,7 @@ same-length-2 c = search needs
 returns : tie.Need-returns
 unfolding replyOf rowsAfter textOf
 returns c = rw (c .number-of .ensures)
-    (ap (λ (o : Rewritten). happening (o .reply) (o .bench) (o .sent) (o .held) [] [] [] 0) (c .before .before .before .before .before .before .update .ensures) ∙ quiet _ [] [] _ (update-step _ _ _) refl)
+    (ap (λ (o : Rewritten). happening (o .reply) (o .bench) (o .sent) (o .held) [] [] [] 0) (c .before .before .before .before .before .before .update .ensures .0) ∙ quiet _ [] [] _ (update-step _ _ _) refl)
 
 pub update-event-spec : {M : Type 1} → statement M
 update-event-spec =

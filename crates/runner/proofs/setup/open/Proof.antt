@@ -21,7 +21,7 @@ same-length-3 c = search needs
 
 returns : tie.Need-returns
 unfolding opened
-returns c = rw (eq-eqb _ 2 (c .before .before .before .before .before .before .before .before .before .before .before .if1 .taken)) (ap (λ (o : Started). openedAs (o .bench) (o .tables) (o .sent) (o .held)) (c .before .before .before .before .before .before .before .fresh .ensures))
+returns c = rw (eq-eqb _ 2 (c .before .before .before .before .before .before .before .before .before .before .before .if1 .taken)) (ap (λ (o : Started). openedAs (o .bench) (o .tables) (o .sent) (o .held)) (c .before .before .before .before .before .before .before .fresh .ensures .0))
 
 returns-2 : tie.Need-returns-2
 unfolding opened

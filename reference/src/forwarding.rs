@@ -19,8 +19,8 @@ impl Network {
         self.map.distance(self.bridges[bridge].view, destination, bridge)
     }
 
-    /// The bridge's end of its chosen link. `bridge` is not the destination and its distance is not NONE.
-    fn chosen(&self, bridge: usize, destination: usize) -> Option<End> {
+    /// The bridge's end of its chosen link. The bridge's distance is not NONE.
+    pub fn chosen(&self, bridge: usize, destination: usize) -> Option<End> {
         let view = self.bridges[bridge].view;
         let own = self.map.distance(view, destination, bridge);
         self.ends[bridge].iter().copied().find(|end| {
@@ -51,7 +51,7 @@ impl Network {
     /// Whether the distance is below the sent limit of every uncut link of the bridge.
     fn below_sent_limits(&self, bridge: usize, destination: usize, distance: u32) -> bool {
         let uncut = self.ends[bridge].iter().filter(|end| !self.cut[end.link]);
-        uncut.into_iter().all(|end| distance < self.records[end.link][end.side].sent_limit(destination))
+        uncut.into_iter().all(|end| distance < self.records[end.link][end.side].sent[destination])
     }
 
     /// Follows forwarding ports until the destination or a bridge that does not forward,

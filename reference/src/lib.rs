@@ -1,16 +1,17 @@
 //! Agreements between link state bridges: runs a plan and gives all that the program prints for it.
 //!
 //! Layers, from the lowest: `map` and `distances` (views), `records` (one bridge's agreement records),
-//! `network` and `forwarding` (the bench), `plan` and `program` (reading a plan, printing).
+//! `network` and `forwarding` (the bench), `plan` and `program` (reading a plan, printing). The layers below
+//! the plan are public, so that each can be compared by itself.
 
-mod distances;
-mod forwarding;
-mod map;
-mod network;
+pub mod distances;
+pub mod forwarding;
+pub mod map;
+pub mod network;
 mod plan;
 mod program;
-mod records;
-mod refusal;
+pub mod records;
+pub mod refusal;
 
 /// All the bytes that the program prints for this plan.
 pub fn output(plan: &[u8]) -> Vec<u8> {

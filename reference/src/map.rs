@@ -7,7 +7,7 @@ const LEAST_BRIDGES: u8 = 2;
 const MOST_BRIDGES: u8 = 16;
 const MOST_LINKS: usize = 32;
 const MOST_VIEWS: usize = 32;
-const GREATEST_COST: u32 = 16_777_215;
+pub const GREATEST_COST: u32 = 16_777_215;
 
 /// One end of a link: side 0 is at the bridge named first in the link's field, side 1 at the other.
 #[derive(Clone, Copy, Debug, PartialEq, Eq)]
@@ -24,15 +24,15 @@ impl End {
 }
 
 /// A view: the cost of each link (0 means absent), and the distances computed from them once.
-#[derive(Clone)]
-struct View {
-    costs: Vec<u32>,
+#[derive(Clone, Debug, Default)]
+pub struct View {
+    pub costs: Vec<u32>,
     /// First index: destination. Second index: bridge.
-    distances: Vec<Vec<u32>>,
+    pub distances: Vec<Vec<u32>>,
 }
 
 /// The bridges, links and views. It does not change once events begin.
-#[derive(Clone, Default)]
+#[derive(Clone, Debug, Default)]
 pub struct Map {
     bridges: usize,
     links: Vec<[usize; 2]>,
@@ -40,6 +40,11 @@ pub struct Map {
 }
 
 impl Map {
+    /// From bridges, links and views as they are given: nothing is checked, and nothing is computed.
+    pub fn given(bridges: usize, links: Vec<[usize; 2]>, views: Vec<View>) -> Map {
+        Map { bridges, links, views }
+    }
+
     /// Tag 1.
     pub fn set_bridges(&mut self, count: u8) -> Result<(), Refusal> {
         if !(LEAST_BRIDGES..=MOST_BRIDGES).contains(&count) {

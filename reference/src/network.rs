@@ -4,9 +4,10 @@ use crate::map::{End, Map};
 use crate::records::{Answer, Bridge, Message, Records};
 use crate::refusal::Refusal;
 
-const MOST_IN_FLIGHT: usize = 64;
+pub const MOST_IN_FLIGHT: usize = 64;
 
 /// A network as the last event left it.
+#[derive(Clone, Debug)]
 pub struct Network {
     pub map: Map,
     pub bridges: Vec<Bridge>,
@@ -17,7 +18,7 @@ pub struct Network {
     /// Whether each link is cut.
     pub cut: Vec<bool>,
     /// Messages in flight, oldest first.
-    flight: Vec<Message>,
+    pub flight: Vec<Message>,
 }
 
 /// 'Tags 4, 5, 9 to 12': the index, if there are more than that many items.
@@ -77,7 +78,7 @@ impl Network {
             return Err(Refusal::FlightFull);
         }
         let Bridge { view, number } = self.bridges[bridge];
-        let discarded = self.records[link][from.side].discarded();
+        let discarded = self.records[link][from.side].discarded;
         self.flight.push(Message { from, view, number, discarded });
         Ok(())
     }

@@ -4,14 +4,14 @@ use crate::distances::{plus, NONE};
 use crate::map::{End, Map};
 
 /// What a bridge itself has: its view and its agreement number.
-#[derive(Clone, Copy)]
+#[derive(Clone, Copy, Debug, PartialEq, Eq)]
 pub struct Bridge {
     pub view: usize,
     pub number: u16,
 }
 
 /// A message in flight. Its link and direction are given by the end that sent it.
-#[derive(Clone, Copy)]
+#[derive(Clone, Copy, Debug, PartialEq, Eq)]
 pub struct Message {
     pub from: End,
     pub view: usize,
@@ -27,18 +27,28 @@ pub enum Answer {
     Noted,
 }
 
+/// What is held from the far bridge.
+#[derive(Clone, Debug, PartialEq, Eq)]
+pub enum Held {
+    Nothing,
+    /// The one view held. The held limits follow from it.
+    View(usize),
+    /// Held limits as they were handed in, for each destination. No plan leads to them.
+    Limits(Vec<u32>),
+}
+
 /// The records of one link end.
+#[derive(Clone, Debug, PartialEq, Eq)]
 pub struct Records {
     /// Highest received number, 0 at first.
-    highest: u16,
+    pub highest: u16,
     /// The view received with it, none at first.
-    received: Option<usize>,
+    pub received: Option<usize>,
     /// Discarded number, 0 at first.
-    discarded: u16,
-    /// The one view held from the far bridge. The held limits follow from it.
-    held: Option<usize>,
+    pub discarded: u16,
+    pub held: Held,
     /// The sent limit for each destination.
-    sent: Vec<u32>,
+    pub sent: Vec<u32>,
 }
 
 /// The offer of the bridge at this end, over its link, in this view.
@@ -54,29 +64,22 @@ pub fn offer(map: &Map, end: End, view: usize, destination: usize) -> u32 {
 }
 
 /// The offers of the bridge at this end in this view, for every destination.
-fn offers(map: &Map, end: End, view: usize) -> Vec<u32> {
+pub fn offers(map: &Map, end: End, view: usize) -> Vec<u32> {
     (0..map.bridge_count()).map(|destination| offer(map, end, view, destination)).collect()
 }
 
 impl Records {
     /// 'A fresh network': sent limits from view 0, nothing held.
     pub fn fresh(map: &Map, end: End) -> Records {
-        Records { highest: 0, received: None, discarded: 0, held: None, sent: offers(map, end, 0) }
-    }
-
-    pub fn discarded(&self) -> u16 {
-        self.discarded
-    }
-
-    pub fn sent_limit(&self, destination: usize) -> u32 {
-        self.sent[destination]
+        Records { highest: 0, received: None, discarded: 0, held: Held::Nothing, sent: offers(map, end, 0) }
     }
 
     /// The far bridge's offer in the one view held from it, NONE if none is held. `end` is the end of these records.
     pub fn held_limit(&self, map: &Map, end: End, destination: usize) -> u32 {
-        match self.held {
-            Some(view) => offer(map, end.far(), view, destination),
-            None => NONE,
+        match &self.held {
+            Held::Nothing => NONE,
+            Held::View(view) => offer(map, end.far(), *view, destination),
+            Held::Limits(limits) => limits[destination],
         }
     }
 
@@ -86,7 +89,7 @@ impl Records {
             *limit = offer.min(*limit);
         }
         if self.received == Some(view) {
-            self.held = Some(view);
+            self.held = Held::View(view);
             self.discarded = self.highest;
         }
     }
@@ -104,7 +107,7 @@ impl Records {
         if message.view != bridge.view {
             return Answer::Noted;
         }
-        self.held = Some(message.view);
+        self.held = Held::View(message.view);
         self.discarded = message.number;
         Answer::Agreed
     }

@@ -28,14 +28,14 @@ pub fn distances(bridges: usize, links: usize, ends: &[u8], costs: &[u32], table
     }
 }
 
-/// The lengths that the calls of layer 2 need: the limit tables, a record, a message, an answer, the flags, the records.
+/// The lengths that the calls of layer 2 need: a limit table, a record, a message or an answer, the flags, the records.
 pub const LIMITS: usize = 1024;
 pub const RECORD: usize = 4;
 pub const MESSAGE: usize = 3;
 pub const FLAGS: usize = 32;
 pub const RECORDS: usize = 256;
 
-// As above: each line of a slice is its pointer and its length.
+// A slice passes as a pointer and then a length. Nothing checks these declarations against crates/exports/src/records.rt.
 extern "C" {
     fn bench_offer(
         bridges: usize,

@@ -1,15 +1,20 @@
 //! Tests of the compiled bench from Rust. Nothing here is proved, and nothing here is used by the proved crates.
 
-pub mod agreement;
 pub mod call;
 pub mod case;
-pub mod dijkstra;
-pub mod network;
+pub mod case_expected;
+pub mod count;
+pub mod entry;
+pub mod flaw;
+pub mod guard;
+pub mod model;
 pub mod network_call;
+pub mod network_entry;
 pub mod network_numbers;
 pub mod network_random;
 pub mod network_run;
 pub mod random;
 pub mod random_case;
+pub mod records_numbers;
 pub mod slice_call;
 pub mod view;

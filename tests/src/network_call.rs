@@ -1,7 +1,8 @@
 //! The exported calls of layer 3, each behind a safe function over the buffers that are lent to it. They have no `requires`, so any
 //! argument is allowed.
 
-use crate::network::Call;
+use crate::guard::Buffer;
+use crate::model::Call;
 
 /// The lengths that the calls need.
 pub const BENCH: usize = 388;
@@ -11,6 +12,13 @@ pub const LIMITS: usize = 1024;
 pub const MESSAGES: usize = 320;
 pub const ANSWER: usize = 3;
 pub const ROWS: usize = 32;
+
+/// Where each part of a bench begins. Before them stand the counts of bridges, links, views and messages in flight.
+pub const ENDS: usize = 4;
+pub const VIEW: usize = 68;
+pub const NUMBER: usize = 84;
+pub const RECORDS: usize = 100;
+pub const CUT: usize = 356;
 
 // A slice passes as a pointer and then a length. Nothing checks these declarations against crates/exports/src/network.rt.
 extern "C" {
@@ -136,38 +144,6 @@ pub(crate) enum Delivery {
     SliceRepeat,
 }
 
-/// A buffer between guards, which no call may write.
-#[derive(Clone, Debug)]
-pub struct Buffer {
-    memory: Vec<u32>,
-}
-
-const GUARD: u32 = 0xdead_beef;
-const WIDTH: usize = 8;
-
-impl Buffer {
-    pub fn of(numbers: &[u32]) -> Buffer {
-        let mut memory = vec![GUARD; WIDTH];
-        memory.extend(numbers);
-        memory.extend([GUARD; WIDTH]);
-        Buffer { memory }
-    }
-
-    pub fn numbers(&self) -> &[u32] {
-        &self.memory[WIDTH..self.memory.len() - WIDTH]
-    }
-
-    pub fn numbers_mut(&mut self) -> &mut [u32] {
-        let end = self.memory.len() - WIDTH;
-        &mut self.memory[WIDTH..end]
-    }
-
-    pub fn is_guarded(&self) -> bool {
-        let end = self.memory.len() - WIDTH;
-        self.memory[..WIDTH].iter().chain(&self.memory[end..]).all(|&x| x == GUARD)
-    }
-}
-
 /// All that is lent to the calls. `out` takes answers, ports, paths and report rows.
 #[derive(Clone, Debug)]
 pub struct Lent {
@@ -193,14 +169,31 @@ impl Lent {
         ]
     }
 
+    /// A buffer by its place in `buffers`.
+    pub fn buffer_mut(&mut self, which: usize) -> &mut Buffer {
+        let Lent { bench, costs, tables, sent, held, messages, out } = self;
+        [bench, costs, tables, sent, held, messages, out][which]
+    }
+
     /// The same with one buffer, by its place in `buffers`, of another length: cut off, or with zeros at the end.
     pub fn resized(&self, which: usize, length: usize) -> Lent {
         let mut numbers = self.buffers()[which].1.numbers().to_vec();
         numbers.resize(length, 0);
         let mut lent = self.clone();
-        let Lent { bench, costs, tables, sent, held, messages, out } = &mut lent;
-        *[bench, costs, tables, sent, held, messages, out][which] = Buffer::of(&numbers);
+        *lent.buffer_mut(which) = Buffer::of(&numbers);
         lent
+    }
+
+    /// How many bridges, links, views and messages in flight.
+    pub fn counts(&self) -> [usize; 4] {
+        [0, 1, 2, 3].map(|k| self.bench.numbers()[k] as usize)
+    }
+
+    /// The bridges that each link joins.
+    pub fn pairs(&self) -> Vec<[usize; 2]> {
+        let [_, links, ..] = self.counts();
+        let pairs = self.bench.numbers()[ENDS..VIEW].chunks_exact(2).take(links);
+        pairs.map(|pair| [pair[0], pair[1]].map(|bridge| bridge as usize)).collect()
     }
 
     // SAFETY, of each call below: each pointer comes with the length of its buffer, and no two buffers share memory.

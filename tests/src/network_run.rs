@@ -1,19 +1,23 @@
-//! One list of calls on layer 3, made by the compiled calls and by the implementation of these tests, compared after each call.
+//! One list of calls on layer 3, made by the compiled calls and by reference/, compared after each call.
 
-use crate::network::{Answer, Call, Measure, Network, Plan, Reply, Way, IN_FLIGHT};
+use crate::count::Met;
+use crate::model::{Call, Model, Reply};
 use crate::network_call::Lent;
-use crate::network_numbers::{compare, expect, network_in, put_fresh};
-use crate::network_random::{disturb, lend};
+use crate::network_numbers::{compare, expect, is_question, network_in, put_fresh};
+use crate::network_random::{disturb, lend, pair};
 use crate::random::Random;
-use std::collections::BTreeMap;
+use reference::distances::NONE;
+use reference::forwarding::PathEnd;
+use reference::map::{End, Map};
+use reference::network::{Network, MOST_IN_FLIGHT};
+use reference::records::Answer;
 
-/// How often what happened.
-pub type Met = BTreeMap<String, usize>;
+/// An error is document 01's number.
 pub type Outcome = Result<Reply, u8>;
 
-/// One list of calls, by the compiled calls and by the implementation of these tests.
+/// One list of calls, by the compiled calls and by the reference.
 pub struct Run {
-    pub network: Network,
+    pub model: Model,
     pub expected: Lent,
     pub found: Lent,
     pub met: Met,
@@ -27,60 +31,67 @@ pub fn name(call: Call) -> String {
 
 /// What is counted of a call.
 fn event(call: Call, outcome: &Outcome) -> String {
-    let what = match outcome {
-        Err(number) => number.to_string(),
-        Ok(Reply::Done) => "done".into(),
-        Ok(Reply::Answered(Answer::Stale)) => "stale".into(),
-        Ok(Reply::Answered(Answer::Agreed(..))) => "agreed".into(),
-        Ok(Reply::Answered(Answer::Noted(..))) => "noted".into(),
-        Ok(Reply::Port(None)) => "closed".into(),
-        Ok(Reply::Port(Some(_))) => "open".into(),
-        Ok(Reply::Report(rows)) if rows.iter().all(|row| row.1.is_none()) => "without ports".into(),
-        Ok(Reply::Report(_)) => "with ports".into(),
-        Ok(Reply::Path(Way::Delivered { hops: 0 })) => "delivered at once".into(),
-        Ok(Reply::Path(Way::Delivered { .. })) => "delivered".into(),
-        Ok(Reply::Path(Way::Stops { hops: 0, .. })) => "stops at once".into(),
-        Ok(Reply::Path(Way::Stops { .. })) => "stops on the way".into(),
+    let what = match (call, outcome) {
+        (_, Err(number)) => number.to_string(),
+        (_, Ok(Reply::Done)) => "done".into(),
+        (_, Ok(Reply::Answered(answer, _))) => format!("{answer:?}").to_lowercase(),
+        (_, Ok(Reply::Port(None))) => "closed".into(),
+        (_, Ok(Reply::Port(Some(_)))) => "open".into(),
+        (_, Ok(Reply::Report(rows))) if rows.iter().all(|row| row.1.is_none()) => "without ports".into(),
+        (_, Ok(Reply::Report(_))) => "with ports".into(),
+        (Call::Path(_, dest), Ok(Reply::Path(end))) if end.last == dest && end.hops == 0 => "delivered at once".into(),
+        (Call::Path(_, dest), Ok(Reply::Path(end))) if end.last == dest => "delivered".into(),
+        (_, Ok(Reply::Path(PathEnd { hops: 0, .. }))) => "stops at once".into(),
+        (_, Ok(Reply::Path(_))) => "stops on the way".into(),
     };
     format!("{} {what}", name(call))
 }
 
 impl Run {
-    pub fn fresh(random: &mut Random, plan: &Plan) -> Result<Run, String> {
-        let mut expected = lend(random, plan);
+    pub fn fresh(random: &mut Random, map: &Map) -> Result<Run, String> {
+        let mut expected = lend(random, map);
         let mut found = expected.clone();
-        let network = put_fresh(&mut expected);
+        let model = Model::of(put_fresh(map, &mut expected));
         let reply = found.fresh();
         if reply != 0 {
             return Err(format!("fresh: reply {reply} in place of 0"));
         }
         compare(&expected, &found).map_err(|difference| format!("fresh: {difference}"))?;
-        Ok(Run { network, expected, found, met: Met::new(), trail: Vec::new(), asked: 0 })
+        Ok(Run { model, expected, found, met: Met::default(), trail: Vec::new(), asked: 0 })
     }
 
-    /// From numbers that no fresh network leads to, over the distances of a fresh one.
-    pub fn handed_in(random: &mut Random, plan: &Plan) -> Result<Run, String> {
-        let mut run = Run::fresh(random, plan)?;
-        disturb(random, &mut run.expected);
+    /// From numbers that no fresh network leads to.
+    pub fn handed_in(random: &mut Random, map: &Map) -> Result<Run, String> {
+        let mut run = Run::fresh(random, map)?;
+        let other_distances = disturb(random, &mut run.expected);
+        run.met.note_times("other distances", other_distances.into());
         run.found = run.expected.clone();
-        run.network = network_in(&run.expected);
+        run.model = Model::of(network_in(&run.expected));
         Ok(run)
+    }
+
+    pub fn network(&self) -> &Network {
+        &self.model.network
+    }
+
+    pub fn map(&self) -> &Map {
+        &self.model.network.map
     }
 
     /// Makes a call both ways. An error says where they differ.
     pub fn ask(&mut self, call: Call) -> Result<Outcome, String> {
-        let clearings = self.network.clearings;
+        let clearings = self.model.clearings;
         self.trail.push(call);
-        self.asked += usize::from(matches!(call, Call::Port(..) | Call::Report(_) | Call::Path(..)));
-        let outcome = expect(&mut self.network, call, &mut self.expected);
+        self.asked += usize::from(is_question(call));
+        let outcome = expect(&mut self.model, call, &mut self.expected);
         let reply = self.found.call(call);
         let number = outcome.as_ref().err().copied().unwrap_or(0);
         if reply != number {
             return Err(format!("{call:?}: reply {reply} in place of {number}"));
         }
         compare(&self.expected, &self.found).map_err(|difference| format!("{call:?}: {difference}"))?;
-        *self.met.entry(event(call, &outcome)).or_default() += 1;
-        *self.met.entry("clearing".into()).or_default() += self.network.clearings - clearings;
+        self.met.note(event(call, &outcome));
+        self.met.note_times("clearing", self.model.clearings - clearings);
         Ok(outcome)
     }
 
@@ -95,10 +106,11 @@ impl Run {
 
     /// A deliver or repeat of any message that no cut stops.
     fn receive(&mut self, random: &mut Random) -> Result<bool, String> {
-        let open = |p: &usize| !self.network.cut.contains(&self.network.flight[*p].link);
-        let places: Vec<usize> = (0..self.network.flight.len()).filter(open).collect();
+        let network = self.network();
+        let open = |p: &usize| !network.cut[network.flight[*p].from.link];
+        let places: Vec<usize> = (0..network.flight.len()).filter(open).collect();
         let Some(&first) = places.first() else { return Ok(false) };
-        let place = if random.one_in(2) { first } else { places[random.below(places.len())] };
+        let place = if random.one_in(2) { first } else { random.pick(&places) };
         if random.one_in(8) {
             self.call(Call::Repeat(place))?;
         }
@@ -108,18 +120,18 @@ impl Run {
 
     /// Every bridge sends over each of its uncut links, and all is delivered that no cut stops.
     pub fn round(&mut self, random: &mut Random) -> Result<(), String> {
-        let plan = self.network.plan.clone();
-        let mut ends: Vec<(usize, usize)> = (0..plan.bridges).flat_map(|b| plan.links_of(b).map(move |l| (b, l))).collect();
+        let mut ends: Vec<End> = self.network().ends.concat();
+        ends.retain(|end| !self.network().cut[end.link]);
         for k in (1..ends.len()).rev() {
             ends.swap(k, random.below(k + 1));
         }
-        for (bridge, link) in ends.into_iter().filter(|(_, l)| !self.network.cut.contains(l)).collect::<Vec<_>>() {
-            while self.network.flight.len() == IN_FLIGHT {
+        for end in ends {
+            while self.network().flight.len() == MOST_IN_FLIGHT {
                 if !self.receive(random)? {
-                    self.call(Call::Lose(random.below(IN_FLIGHT)))?;
+                    self.call(Call::Lose(random.below(MOST_IN_FLIGHT)))?;
                 }
             }
-            self.call(Call::Send(bridge, link))?;
+            self.call(Call::Send(self.map().bridge_at(end), end.link))?;
             if random.one_in(6) {
                 self.receive(random)?;
             }
@@ -132,37 +144,37 @@ impl Run {
     pub fn flood(&mut self, random: &mut Random) -> Result<(), String> {
         for _ in 0..70 {
             let Some(link) = self.any_link(random) else { return Ok(()) };
-            self.call(Call::Send(self.network.plan.links[link].0, link))?;
+            self.call(Call::Send(pair(self.map(), link)[0], link))?;
         }
         Ok(())
     }
 
     fn any_link(&self, random: &mut Random) -> Option<usize> {
-        let links = self.network.plan.links.len();
+        let links = self.map().link_count();
         (links > 0).then(|| random.below(links))
     }
 
     /// The two ends of a link tell each other their views twice, all of it delivered in order.
     pub fn agree(&mut self, random: &mut Random) -> Result<(), String> {
         let Some(link) = self.any_link(random) else { return Ok(()) };
-        let (a, b) = self.network.plan.links[link];
+        let [a, b] = pair(self.map(), link);
         for bridge in [a, b, a, b] {
             if self.ask(Call::Send(bridge, link))?.is_ok() {
-                self.call(Call::Deliver(self.network.flight.len() - 1))?;
+                self.call(Call::Deliver(self.network().flight.len() - 1))?;
             }
         }
         self.reports()
     }
 
     pub fn reports(&mut self) -> Result<(), String> {
-        (0..self.network.plan.bridges).try_for_each(|dest| self.call(Call::Report(dest)))
+        (0..self.map().bridge_count()).try_for_each(|dest| self.call(Call::Report(dest)))
     }
 
     /// Bridges go to one view, some or all of them.
     pub fn move_to_one_view(&mut self, random: &mut Random) -> Result<(), String> {
-        let view = random.below(self.network.plan.views.len());
+        let view = random.below(self.map().view_count());
         let stays = 2 + random.below(20);
-        for bridge in 0..self.network.plan.bridges {
+        for bridge in 0..self.map().bridge_count() {
             if !random.one_in(stays) {
                 self.call(Call::Update(bridge, view))?;
             }
@@ -182,11 +194,10 @@ impl Run {
 
     /// Two messages of one end, with an update between, are delivered the later one first.
     pub fn overtake(&mut self, random: &mut Random) -> Result<(), String> {
-        let plan = self.network.plan.clone();
         let Some(link) = self.any_link(random) else { return Ok(()) };
-        let bridge = plan.links[link].0;
-        let other = (self.network.bridges[bridge].view + 1) % plan.views.len();
-        let first = self.network.flight.len();
+        let [bridge, _] = pair(self.map(), link);
+        let other = (self.network().bridges[bridge].view + 1) % self.map().view_count();
+        let first = self.network().flight.len();
         if self.ask(Call::Send(bridge, link))?.is_ok() {
             self.call(Call::Update(bridge, other))?;
             if self.ask(Call::Send(bridge, link))?.is_ok() {
@@ -199,42 +210,42 @@ impl Run {
 
     /// All bridges on one view that has no cost for a cut link, then two rounds.
     pub fn settle(&mut self, random: &mut Random) -> Result<(), String> {
-        let plan = self.network.plan.clone();
-        let view = random.below(plan.views.len());
-        for bridge in 0..plan.bridges {
+        let view = random.below(self.map().view_count());
+        let bridges = self.map().bridge_count();
+        for bridge in 0..bridges {
             self.call(Call::Update(bridge, view))?;
         }
-        for link in 0..plan.links.len() {
-            if self.network.cut.contains(&link) && plan.views[view][link] != 0 {
+        for link in 0..self.map().link_count() {
+            if self.network().cut[link] && self.map().cost(view, link) != 0 {
                 self.call(Call::Restore(link))?;
             }
         }
         self.round(random)?;
         self.round(random)?;
-        *self.met.entry("settled".into()).or_default() += 1;
+        self.met.note("settled");
         self.survey()?;
-        for dest in 0..plan.bridges {
-            for start in (0..plan.bridges).filter(|&b| b != dest) {
-                if let Some(distance) = self.network.distance(view, start, dest) {
-                    self.is_shortest(view, start, dest, distance)?;
-                }
+        for (start, dest) in pairs_of(bridges).filter(|(start, dest)| start != dest) {
+            let distance = self.map().distance(view, dest, start);
+            if distance != NONE {
+                self.is_shortest(view, start, dest, distance)?;
             }
         }
         Ok(())
     }
 
     /// The path is delivered, and its costs add up to the distance.
-    fn is_shortest(&mut self, view: usize, start: usize, dest: usize, distance: u64) -> Result<(), String> {
-        let Ok(Reply::Path(Way::Delivered { .. })) = self.ask(Call::Path(start, dest))? else {
+    fn is_shortest(&mut self, view: usize, start: usize, dest: usize, distance: u32) -> Result<(), String> {
+        let path = self.ask(Call::Path(start, dest))?;
+        if !matches!(path, Ok(Reply::Path(end)) if end.last == dest) {
             return Err(format!("settled in view {view}: the path from {start} to {dest} is not delivered"));
-        };
+        }
         let (mut at, mut sum) = (start, 0);
         while at != dest {
             let Ok(Reply::Port(Some(link))) = self.ask(Call::Port(at, dest))? else {
                 return Err(format!("settled in view {view}: {at} does not forward to {dest}"));
             };
-            sum += u64::from(self.network.plan.views[view][link]);
-            at = self.network.across(link, at);
+            sum += self.map().cost(view, link);
+            at = across(self.map(), link, at);
         }
         if sum == distance {
             Ok(())
@@ -245,13 +256,13 @@ impl Run {
 
     /// Every report, port and path; ports close no ring, and paths end by themselves.
     pub fn survey(&mut self) -> Result<(), String> {
-        let bridges = self.network.plan.bridges;
+        let bridges = self.map().bridge_count();
         for dest in 0..bridges {
             self.call(Call::Report(dest))?;
             let mut next = Vec::new();
             for bridge in 0..bridges {
                 let Ok(Reply::Port(port)) = self.ask(Call::Port(bridge, dest))? else { return Err("no port".into()) };
-                next.push(port.map(|link| self.network.across(link, bridge)));
+                next.push(port.map(|link| across(self.map(), link, bridge)));
             }
             for start in 0..bridges {
                 let outcome = self.ask(Call::Path(start, dest))?;
@@ -260,6 +271,21 @@ impl Run {
         }
         Ok(())
     }
+}
+
+/// The bridge across a link.
+fn across(map: &Map, link: usize, bridge: usize) -> usize {
+    let [first, second] = pair(map, link);
+    if bridge == first {
+        second
+    } else {
+        first
+    }
+}
+
+/// All pairs of a start and a destination.
+pub fn pairs_of(bridges: usize) -> impl Iterator<Item = (usize, usize)> {
+    (0..bridges).flat_map(move |start| (0..bridges).map(move |dest| (start, dest)))
 }
 
 /// The hops from a bridge end, within bridges less one, where the path's reply says.
@@ -272,11 +298,11 @@ fn ends_by_itself(next: &[Option<usize>], start: usize, dest: usize, outcome: &O
             return Err(format!("the ports for {dest} close a ring that {start} leads to"));
         }
     }
-    let way = if at == dest { Way::Delivered { hops } } else { Way::Stops { last: at, hops } };
-    if *outcome == Ok(Reply::Path(way)) {
+    let end = PathEnd { last: at, hops };
+    if *outcome == Ok(Reply::Path(end)) {
         Ok(())
     } else {
-        Err(format!("path from {start} to {dest}: {outcome:?} in place of {way:?}"))
+        Err(format!("path from {start} to {dest}: {outcome:?} in place of {end:?}"))
     }
 }
 
@@ -297,20 +323,20 @@ impl Run {
     }
 
     /// The last message in flight is delivered.
-    fn deliver_last(&mut self) -> Answer {
-        match self.make(Call::Deliver(self.network.flight.len() - 1)) {
-            Reply::Answered(answer) => answer,
+    fn deliver_last(&mut self) -> (Answer, u16, usize) {
+        match self.make(Call::Deliver(self.network().flight.len() - 1)) {
+            Reply::Answered(answer, message) => (answer, message.number, message.view),
             other => panic!("{other:?}"),
         }
     }
 
-    /// Sends over a link and delivers.
-    pub fn tell(&mut self, bridge: usize, link: usize) -> Answer {
+    /// Sends over a link and delivers: the answer, and the number and view of the message.
+    pub fn tell(&mut self, bridge: usize, link: usize) -> (Answer, u16, usize) {
         self.make(Call::Send(bridge, link));
         self.deliver_last()
     }
 
-    pub fn distance_and_port(&mut self, bridge: usize, dest: usize) -> (Measure, Option<usize>) {
+    pub fn distance_and_port(&mut self, bridge: usize, dest: usize) -> (u32, Option<usize>) {
         match self.make(Call::Report(dest)) {
             Reply::Report(rows) => rows[bridge],
             other => panic!("{other:?}"),
@@ -318,6 +344,6 @@ impl Run {
     }
 
     pub fn ports(&mut self, dest: usize) -> Vec<Option<usize>> {
-        (0..self.network.plan.bridges).map(|b| self.distance_and_port(b, dest).1).collect()
+        (0..self.map().bridge_count()).map(|b| self.distance_and_port(b, dest).1).collect()
     }
 }

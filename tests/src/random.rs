@@ -25,8 +25,19 @@ impl Random {
         self.below(n) == 0
     }
 
+    /// One of these.
+    pub fn pick<T: Copy>(&mut self, from: &[T]) -> T {
+        from[self.below(from.len())]
+    }
+
     pub fn number(&mut self) -> u32 {
         self.word() as u32
+    }
+
+    /// A number too great for a field of this many values: the least, the greatest, or one that ends in the bits of `x`, which fits.
+    pub fn beyond(&mut self, x: u32, values: u32) -> u32 {
+        let steps = 1 + self.below((u32::MAX / values) as usize) as u32;
+        self.pick(&[values, u32::MAX, x + values, x + values * steps])
     }
 
     pub fn numbers(&mut self, count: usize) -> Vec<u32> {

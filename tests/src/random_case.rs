@@ -3,20 +3,8 @@
 use crate::call::{FLAGS, LIMITS, MESSAGE, RECORD, RECORDS, TABLE};
 use crate::case::{Call, Case};
 use crate::random::Random;
-use crate::view::{random_arguments, Arguments, MAX_COST, NONE};
-
-fn pick<T: Copy>(random: &mut Random, of: &[T]) -> T {
-    of[random.below(of.len())]
-}
-
-/// A number that stands for `x` in a field of this many values: `x`, or now and then a greater one.
-fn beyond(random: &mut Random, x: u32, values: u32) -> u32 {
-    if random.one_in(6) {
-        x + values * random.below((NONE / values) as usize) as u32
-    } else {
-        x
-    }
-}
+use crate::records_numbers::{agreement_number, MESSAGE_FIELDS, NO_VIEW, RECORD_FIELDS};
+use crate::view::{random_arguments, Arguments, LARGE, MAX_COST, NONE};
 
 fn random_flag(random: &mut Random, set: bool) -> u32 {
     if !set {
@@ -31,7 +19,7 @@ fn random_flag(random: &mut Random, set: bool) -> u32 {
 /// An agreement number, often one that is met elsewhere in the case.
 fn random_number(random: &mut Random, met: u16) -> u16 {
     let any = random.number() as u16;
-    pick(random, &[0, 1, 2, met, met, met.saturating_sub(1), met.saturating_add(1), 65_534, 65_535, any])
+    random.pick(&[0, 1, 2, met, met, met.saturating_sub(1), met.saturating_add(1), 65_534, 65_535, any])
 }
 
 /// A view with true distances, or with a table of arbitrary numbers, and which of the two.
@@ -41,12 +29,12 @@ fn random_lent(random: &mut Random) -> (Arguments, bool) {
     let true_distances = !random.one_in(3);
     if !true_distances {
         for cost in &mut lent.costs[..lent.links] {
-            *cost = pick(random, &[0, 1, 1, 2, 3, 5, MAX_COST]);
+            *cost = random.pick(&[0, 1, 1, 2, 3, 5, MAX_COST]);
         }
         let high = random.one_in(3);
         for cell in &mut lent.table[..TABLE] {
             let small = random.below(6) as u32;
-            *cell = if high || random.one_in(4) { NONE - pick(random, &[0, 0, small]) } else { small };
+            *cell = if high || random.one_in(4) { NONE - random.pick(&[0, 0, small]) } else { small };
         }
     } else {
         lent.table = lent.filled().table;
@@ -58,11 +46,11 @@ fn random_lent(random: &mut Random) -> (Arguments, bool) {
 fn random_sent(random: &mut Random, rarely: usize, distance: u32, cost: u32) -> u32 {
     let more = random.below(20) as u32;
     if random.one_in(rarely) {
-        pick(random, &[distance, distance, distance.saturating_sub(1), distance.saturating_sub(more), 0])
+        random.pick(&[distance, distance, distance.saturating_sub(1), distance.saturating_sub(more), 0])
     } else {
         let offer = distance.saturating_add(cost.max(1));
         let above = distance.saturating_add(1);
-        pick(random, &[above, above, offer, offer.saturating_add(1), (offer - 1).max(above), offer.saturating_add(more), NONE])
+        random.pick(&[above, above, offer, offer.saturating_add(1), (offer - 1).max(above), offer.saturating_add(more), NONE])
     }
 }
 
@@ -70,9 +58,9 @@ fn random_sent(random: &mut Random, rarely: usize, distance: u32, cost: u32) -> 
 fn random_held(random: &mut Random, rarely: usize, distance: u32) -> u32 {
     let more = random.below(20) as u32;
     if random.one_in(rarely) {
-        pick(random, &[distance.saturating_add(1), distance.saturating_add(1 + more), NONE])
+        random.pick(&[distance.saturating_add(1), distance.saturating_add(1 + more), NONE])
     } else {
-        pick(random, &[distance, distance, distance.saturating_sub(1), distance.saturating_sub(more), 0])
+        random.pick(&[distance, distance, distance.saturating_sub(1), distance.saturating_sub(more), 0])
     }
 }
 
@@ -80,20 +68,21 @@ fn random_held(random: &mut Random, rarely: usize, distance: u32) -> u32 {
 fn random_record(random: &mut Random, rarely: usize, views: usize, view: u8, number: u16) -> [u32; RECORD] {
     let any = random.below(views) as u32;
     let received = random_number(random, number);
-    let seen = pick(random, &[255, u32::from(view), any]);
+    let seen = random.pick(&[NO_VIEW, u32::from(view), any]);
     let discarded = random_number(random, received);
     let holding = !random.one_in(rarely);
-    [
-        beyond(random, received.into(), 65_536),
-        beyond(random, seen, 256),
-        beyond(random, discarded.into(), 65_536),
-        random_flag(random, holding),
-    ]
+    [received.into(), seen, discarded.into(), random_flag(random, holding)]
+}
+
+/// Any numbers that fit the fields of a record.
+pub fn any_record(random: &mut Random) -> [u32; RECORD] {
+    let [received, view, discarded] = RECORD_FIELDS.map(|(_, values)| random.below(values as usize) as u32);
+    [received, view, discarded, random.number()]
 }
 
 /// The flags of the links: none is cut, or some, or many.
 fn random_flags(random: &mut Random) -> Vec<u8> {
-    let rarely = pick(random, &[3, 12, 12, 1_000]);
+    let rarely = random.pick(&[3, 12, 12, 1_000]);
     (0..FLAGS).map(|_| if random.one_in(rarely) { 1 + random.below(255) as u8 } else { 0 }).collect()
 }
 
@@ -127,7 +116,39 @@ impl Case {
                 self.held[16 * end + dest] = random_held(random, rarely, distance);
             }
         }
+        for buffer in [&mut self.sent, &mut self.held, &mut self.out] {
+            *buffer = longer(random, buffer);
+        }
     }
+
+    fn random_records(&mut self, random: &mut Random, rarely: usize) {
+        for (end, record) in self.records.chunks_exact_mut(RECORD).enumerate() {
+            let counted = end < 2 * self.lent.links;
+            let known = |random: &mut Random| random_record(random, rarely, self.views, self.view, self.number);
+            record.copy_from_slice(&if counted { known(random) } else { any_record(random) });
+        }
+        self.records = longer(random, &self.records);
+        self.cut.extend(spare(random).into_iter().map(|x| x as u8));
+    }
+}
+
+/// A message to an end that has received this number, at a bridge on this view with this number.
+fn random_message(random: &mut Random, views: usize, view: u8, number: u16, highest: u16) -> [u32; MESSAGE] {
+    let taken = random_number(random, highest);
+    let discarded = if random.one_in(2) { number } else { random_number(random, number) };
+    let other = random.below(views) as u32;
+    let carried = random.pick(&[u32::from(view), other]);
+    [carried, taken.into(), discarded.into()]
+}
+
+/// More numbers than are needed, or none.
+fn spare(random: &mut Random) -> Vec<u32> {
+    let more = if random.one_in(2) { 0 } else { 1 + random.below(9) };
+    random.numbers(more)
+}
+
+fn longer(random: &mut Random, numbers: &[u32]) -> Vec<u32> {
+    [numbers, &spare(random)].concat()
 }
 
 /// An accepted call. What lies past the need is random.
@@ -139,18 +160,9 @@ pub fn random_case(random: &mut Random, which: Call) -> Case {
     let views = if random.one_in(2) { 1 + random.below(3) } else { 1 + random.below(32) };
     let view = random.below(views) as u8;
     let number = random_number(random, 7);
-    let rarely = pick(random, &[3, 15, 60]);
+    let rarely = random.pick(&[3, 15, 60]);
     let fields = random_record(random, 2, views, view, number);
-    let taken = random_number(random, (fields[0] % 65_536) as u16);
-    let discarded = if random.one_in(2) { number } else { random_number(random, number) };
-    let other = random.below(views) as u32;
-    let carried = pick(random, &[u32::from(view), other]);
-    let message = [beyond(random, carried, 256), beyond(random, taken.into(), 65_536), beyond(random, discarded.into(), 65_536)];
-    let spare = |random: &mut Random| if random.one_in(2) { 0 } else { 1 + random.below(9) };
-    let longer = |random: &mut Random, numbers: &[u32]| {
-        let more = spare(random);
-        [numbers, &random.numbers(more)].concat()
-    };
+    let message = random_message(random, views, view, number, agreement_number(fields[0]));
     let (bridge, dest) = random_bridges(random, &lent);
     let mut case = Case {
         end: random.below(2 * lent.links.max(1)),
@@ -160,9 +172,9 @@ pub fn random_case(random: &mut Random, which: Call) -> Case {
         message: longer(random, &message),
         sent: random.numbers(LIMITS),
         held: random.numbers(LIMITS),
-        out: random.numbers(if matches!(which, Call::Offer | Call::Port) { 1 } else { MESSAGE }),
+        out: random.numbers(if which.answer_length() == 1 { 1 } else { MESSAGE }),
         cut: random_flags(random),
-        records: random.numbers(RECORDS),
+        records: vec![0; RECORDS],
         views,
         view,
         number,
@@ -170,72 +182,71 @@ pub fn random_case(random: &mut Random, which: Call) -> Case {
         true_distances,
     };
     case.random_limits(random, rarely);
-    for buffer in [&mut case.sent, &mut case.held, &mut case.out] {
-        *buffer = longer(random, buffer);
+    case.random_records(random, rarely);
+    if which == Call::Start && random.one_in(2) {
+        // not read, so they need not fit
+        case.fields = random.numbers(RECORD);
     }
-    for end in 0..2 * case.lent.links {
-        let record = random_record(random, rarely, views, view, number);
-        case.records[RECORD * end..RECORD * (end + 1)].copy_from_slice(&record);
-    }
-    case.records = longer(random, &case.records);
-    let more = spare(random);
-    case.cut.extend(random.numbers(more).into_iter().map(|x| x as u8));
     case
-}
-
-impl Arguments {
-    /// More links than there may be, in buffers that hold them all; and then some, in buffers that do not.
-    fn overfill(&mut self, links: usize, more: usize) {
-        self.ends.truncate(2 * self.links);
-        self.costs.truncate(self.links);
-        self.ends.extend([0, 1].repeat(links - self.links));
-        self.costs.resize(links, 1);
-        self.links = links + more;
-    }
 }
 
 /// Damages one point of an accepted call, one that the call reads.
 pub fn damage(random: &mut Random, case: &mut Case, which: Call) {
-    let a = &mut case.lent;
-    let linked = a.links > 0;
-    let link = random.below(a.links.max(1));
-    let side = random.below(2);
-    let large = pick(random, &[0, 1, 100, (1 << 32) - 17, usize::MAX >> 1]);
-    let unknown = case.views as u32 + random.below(255 - case.views) as u32;
-    let on_view = which != Call::Carry;
-    let on_end = on_view && which != Call::Port;
-    let with_limits = on_view && which != Call::Offer;
     loop {
-        match random.below(22) {
-            0 if on_view => a.bridges = pick(random, &[0, 1, 17 + large]),
-            1 if on_view => a.overfill(33 + random.below(4), side * large),
-            2 if on_view => a.table.truncate(random.below(TABLE)),
-            3 if on_view && linked => a.ends[2 * link + side] = a.ends[2 * link + 1 - side],
-            4 if on_view && linked => a.ends[2 * link + side] = (a.bridges + random.below(256 - a.bridges)) as u8,
-            5 if on_view && linked => a.costs[link] = MAX_COST + 1 + random.below((u32::MAX - MAX_COST) as usize) as u32,
-            6 if on_view && linked => a.ends.truncate(random.below(2 * a.links)),
-            7 if on_view && linked => a.costs.truncate(random.below(a.links)),
-            8 if on_end => case.end = 2 * a.links + large,
-            9 if with_limits => case.sent.truncate(random.below(LIMITS)),
-            10 if with_limits => case.held.truncate(random.below(LIMITS)),
-            11 if matches!(which, Call::Offer | Call::Port) => case.dest = a.bridges + large,
-            12 if which == Call::Port => case.bridge = a.bridges + large,
-            13 if !matches!(which, Call::Offer | Call::Port) => case.fields.truncate(random.below(RECORD)),
-            14 if which == Call::Deliver => case.message.truncate(random.below(MESSAGE)),
-            15 if !matches!(which, Call::Start | Call::Update) => {
-                case.out.truncate(random.below(if matches!(which, Call::Offer | Call::Port) { 1 } else { MESSAGE }))
-            }
-            16 if !matches!(which, Call::Offer | Call::Start) => case.views = if random.one_in(4) { 0 } else { 33 + large },
-            17 if !matches!(which, Call::Offer | Call::Start | Call::Port) => {
-                case.view = (case.views + random.below(256 - case.views)) as u8
-            }
-            18 if matches!(which, Call::Update | Call::Carry | Call::Deliver) => case.fields[1] = beyond(random, unknown, 256),
-            19 if which == Call::Deliver => case.message[0] = beyond(random, unknown.max(side as u32 * 255), 256),
-            20 if which == Call::Port => case.cut.truncate(random.below(FLAGS)),
-            21 if which == Call::Port && random.one_in(2) => case.records.truncate(random.below(RECORDS)),
-            21 if which == Call::Port && linked => case.records[RECORD * (2 * link + side) + 1] = beyond(random, unknown, 256),
-            _ => continue,
+        let done = match random.below(30) {
+            kind @ 0..=7 => which != Call::Carry && case.lent.damage(random, kind),
+            kind @ 8..=21 => case.damage(random, which, kind),
+            _ => case.damage_width(random, which),
+        };
+        if done {
+            return;
         }
-        return;
+    }
+}
+
+impl Case {
+    /// Damages what stands beside the view. False where the call has nothing of the kind chosen.
+    fn damage(&mut self, random: &mut Random, which: Call, kind: usize) -> bool {
+        let Arguments { links, bridges, .. } = self.lent;
+        let end = random.below(2 * links.max(1));
+        let large = random.pick(&LARGE);
+        let unknown = self.views as u32 + random.below(255 - self.views) as u32;
+        let other = random.pick(&[unknown, NO_VIEW]);
+        let on_end = !matches!(which, Call::Carry | Call::Port);
+        let with_limits = !matches!(which, Call::Offer | Call::Carry);
+        let with_record = !matches!(which, Call::Offer | Call::Port);
+        let with_views = !matches!(which, Call::Offer | Call::Start);
+        match kind {
+            8 if on_end => self.end = 2 * links + large,
+            9 if with_limits => self.sent.truncate(random.below(LIMITS)),
+            10 if with_limits => self.held.truncate(random.below(LIMITS)),
+            11 if matches!(which, Call::Offer | Call::Port) => self.dest = bridges + large,
+            12 if which == Call::Port => self.bridge = bridges + large,
+            13 if with_record => self.fields.truncate(random.below(RECORD)),
+            14 if which == Call::Deliver => self.message.truncate(random.below(MESSAGE)),
+            15 if which.answer_length() > 0 => self.out.truncate(random.below(which.answer_length())),
+            16 if with_views => self.views = if random.one_in(4) { 0 } else { 33 + large },
+            17 if with_views && with_record => self.view = (self.views + random.below(256 - self.views)) as u8,
+            18 if with_views && with_record => self.fields[1] = unknown,
+            19 if which == Call::Deliver => self.message[0] = other,
+            20 if which == Call::Port => self.cut.truncate(random.below(FLAGS)),
+            21 if which == Call::Port && random.one_in(2) => self.records.truncate(random.below(RECORDS)),
+            21 if which == Call::Port && links > 0 => self.records[RECORD * end + 1] = unknown,
+            _ => return false,
+        }
+        true
+    }
+
+    /// Makes one number too great for its field. False where the call reads neither record nor message.
+    fn damage_width(&mut self, random: &mut Random, which: Call) -> bool {
+        let field = random.below(3);
+        let (number, (_, values)) = match which {
+            Call::Offer | Call::Start => return false,
+            Call::Deliver if random.one_in(2) => (&mut self.message[field], MESSAGE_FIELDS[field]),
+            Call::Update | Call::Carry | Call::Deliver => (&mut self.fields[field], RECORD_FIELDS[field]),
+            Call::Port => (&mut self.records[RECORD * random.below(RECORDS / RECORD) + field], RECORD_FIELDS[field]),
+        };
+        *number = random.beyond(*number, values);
+        true
     }
 }

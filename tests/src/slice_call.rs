@@ -1,7 +1,7 @@
 //! The exported calls on messages as a slice of structs, each behind a safe function over the buffers that are lent to it. They have no
 //! `requires`, so any argument is allowed.
 
-use crate::network::Call;
+use crate::model::Call;
 use crate::network_call::{Delivery, Lent};
 
 // A slice passes as a pointer and then a length. Nothing checks these declarations against crates/exports/src/slices.rt.

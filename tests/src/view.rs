@@ -1,11 +1,12 @@
-//! Arguments of the distance call: random ones, the expected outcome by Dijkstra's method, and the comparison.
+//! Arguments of the distance call: random ones, the outcome by reference/, and the comparison.
 
 use crate::call::{self, FILLED, REFUSED, TABLE};
-use crate::dijkstra;
+use crate::guard::Buffer;
 use crate::random::Random;
+use reference::distances::distances_to;
 
-pub const NONE: u32 = 4_294_967_295;
-pub const MAX_COST: u32 = 16_777_215;
+pub use reference::distances::NONE;
+pub use reference::map::GREATEST_COST as MAX_COST;
 
 /// What is passed to one call. The buffers may be longer than the counts need.
 #[derive(Clone, Debug)]
@@ -35,25 +36,26 @@ impl Arguments {
         }
     }
 
-    /// Calls the compiled function. The lent table stands between guards, which the call must not write.
+    /// The bridges that each link joins.
+    pub fn pairs(&self) -> Vec<[usize; 2]> {
+        self.ends.chunks_exact(2).take(self.links).map(|pair| [pair[0].into(), pair[1].into()]).collect()
+    }
+
+    /// Calls the compiled function.
     pub fn call(&self) -> Outcome {
-        const GUARD: u32 = 0xdead_beef;
-        let end = 16 + self.table.len();
-        let mut memory = vec![GUARD; end + 16];
-        memory[16..end].copy_from_slice(&self.table);
-        let reply = call::distances(self.bridges, self.links, &self.ends, &self.costs, &mut memory[16..end]);
-        let guards = memory[..16].iter().chain(&memory[end..]);
-        assert!(guards.into_iter().all(|&x| x == GUARD), "a write outside the lent table: {self:?}");
-        Outcome { reply, table: memory[16..end].to_vec() }
+        let mut table = Buffer::of(&self.table);
+        let reply = call::distances(self.bridges, self.links, &self.ends, &self.costs, table.numbers_mut());
+        Outcome { reply, table: table.back() }
     }
 
     /// What an accepted call does: every pair of bridges holds its distance, every other number is as before.
     pub fn filled(&self) -> Outcome {
-        let lists = dijkstra::neighbours(self.bridges, self.links, &self.ends, &self.costs);
+        let links = self.pairs();
         let mut table = self.table.clone();
-        for i in 0..self.bridges {
-            for (j, distance) in dijkstra::distances_from(i, &lists).into_iter().enumerate() {
-                table[16 * i + j] = distance.map_or(NONE, |d| u32::try_from(d).expect("a distance fits"));
+        for dest in 0..self.bridges {
+            let column = distances_to(dest, self.bridges, &links, &self.costs[..self.links]);
+            for (bridge, distance) in column.into_iter().enumerate() {
+                table[16 * bridge + dest] = distance;
             }
         }
         Outcome { reply: FILLED, table }
@@ -136,4 +138,39 @@ pub fn random_arguments(random: &mut Random, bridges: usize) -> Arguments {
         table.extend(random.numbers(t));
     }
     Arguments { bridges, links, ends, costs, table }
+}
+
+// ---- damage
+
+/// What is added to a number that is already out of its range.
+pub const LARGE: [usize; 5] = [0, 1, 100, (1 << 32) - 17, usize::MAX >> 1];
+
+impl Arguments {
+    /// Damages one point of an accepted call, by a kind below 8. False where there is nothing of that kind.
+    pub fn damage(&mut self, random: &mut Random, kind: usize) -> bool {
+        let link = random.below(self.links.max(1));
+        let side = random.below(2);
+        let large = random.pick(&LARGE);
+        match kind {
+            0 => self.bridges = random.pick(&[0, 1, 17 + large]),
+            1 => self.overfill(33 + random.below(4), side * large),
+            2 => self.table.truncate(random.below(TABLE)),
+            _ if self.links == 0 => return false,
+            3 => self.ends[2 * link + side] = self.ends[2 * link + 1 - side],
+            4 => self.ends[2 * link + side] = (self.bridges + random.below(256 - self.bridges)) as u8,
+            5 => self.costs[link] = MAX_COST + 1 + random.below((u32::MAX - MAX_COST) as usize) as u32,
+            6 => self.ends.truncate(random.below(2 * self.links)),
+            _ => self.costs.truncate(random.below(self.links)),
+        }
+        true
+    }
+
+    /// More links than there may be, in buffers that hold them all; and then some, in buffers that do not.
+    fn overfill(&mut self, links: usize, more: usize) {
+        self.ends.truncate(2 * self.links);
+        self.costs.truncate(self.links);
+        self.ends.extend([0, 1].repeat(links - self.links));
+        self.costs.resize(links, 1);
+        self.links = links + more;
+    }
 }

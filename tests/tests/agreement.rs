@@ -1,11 +1,13 @@
-//! The calls of layer 2 as compiled, against document 01 and against the implementation of these tests.
+//! The calls of layer 2 as compiled, against document 01 and against reference/.
 
-use bench_tests::agreement::Flaw;
 use bench_tests::call::REFUSED;
 use bench_tests::case::{compare, Call, Case, Outcome};
+use bench_tests::count::Met;
+use bench_tests::entry::too_great;
+use bench_tests::flaw::Flaw;
 use bench_tests::random::Random;
 use bench_tests::random_case::{damage, random_case};
-use std::collections::BTreeMap;
+use bench_tests::records_numbers::{Field, MESSAGE_FIELDS, RECORD_FIELDS};
 
 const CASES: u64 = 20_000;
 const CALLS: [Call; 6] = [Call::Offer, Call::Start, Call::Update, Call::Carry, Call::Deliver, Call::Port];
@@ -14,38 +16,22 @@ fn seed_of(which: Call, case: u64) -> u64 {
     (which as u64 + 1) * 1_000_000_000 + case
 }
 
-type Met = BTreeMap<String, usize>;
-
 /// Runs one case both ways, and counts what happened.
 fn try_case(label: &str, which: Call, case: &Case, met: &mut Met) {
     let expected = case.expected(which, None);
     if let Err(difference) = compare(&expected.outcome, &case.run(which)) {
         panic!("{which:?}, {label}: {difference}\n{case:?}");
     }
-    for event in expected.events {
-        *met.entry(event).or_default() += 1;
-    }
-}
-
-/// Every event was met this often, and there was no other.
-fn met_often(which: Call, met: &Met, events: &[&str], least: usize) {
-    println!("{which:?}: {met:?}");
-    for event in events {
-        let count = met.get(*event).copied().unwrap_or(0);
-        assert!(count >= least, "{which:?}: only {count} cases had: {event}");
-    }
-    for event in met.keys() {
-        assert!(events.contains(&event.as_str()), "{which:?}: not listed: {event}");
-    }
+    expected.events.into_iter().for_each(|event| met.note(event));
 }
 
 fn random_cases(which: Call, events: &[&str]) {
-    let mut met = Met::new();
+    let mut met = Met::default();
     for case in 0..CASES {
         let seed = seed_of(which, case);
         try_case(&format!("seed {seed}"), which, &random_case(&mut Random::new(seed), which), &mut met);
     }
-    met_often(which, &met, events, 200);
+    met.only(&format!("{which:?}"), events, 200);
 }
 
 #[test]
@@ -64,7 +50,7 @@ fn random_offers() {
 
 #[test]
 fn random_starts() {
-    random_cases(Call::Start, &["some offer", "no offer"]);
+    random_cases(Call::Start, &["some offer", "no offer", "over a record", "over numbers that are no record"]);
 }
 
 #[test]
@@ -104,7 +90,7 @@ fn random_deliveries() {
         "other distances",
         "number 0",
         "number 65535",
-        "numbers beyond a record's widths",
+        "flag above 1",
     ];
     random_cases(Call::Deliver, &events);
 }
@@ -144,7 +130,18 @@ const OF_A_VIEW: [&str; 8] = [
     "cost too large",
 ];
 
-fn causes(which: Call) -> Vec<&'static str> {
+/// The numbers that may be too great for their field.
+fn too_great_causes(which: Call) -> Vec<String> {
+    let of = |whose: &str, fields: [Field; 3]| fields.map(|(field, _)| too_great(field, whose)).to_vec();
+    match which {
+        Call::Offer | Call::Start => Vec::new(),
+        Call::Update | Call::Carry => of("the record", RECORD_FIELDS),
+        Call::Deliver => [of("the record", RECORD_FIELDS), of("the message", MESSAGE_FIELDS)].concat(),
+        Call::Port => [of("a record", RECORD_FIELDS), of("a record past the links", RECORD_FIELDS)].concat(),
+    }
+}
+
+fn causes(which: Call) -> Vec<String> {
     let limits = ["sent limits short", "held limits short"];
     let record = ["view count", "no such view", "record short", "received view of the record"];
     let own: &[&[&str]] = match which {
@@ -162,14 +159,14 @@ fn causes(which: Call) -> Vec<&'static str> {
             &["flags short", "records short", "out short", "received view of a record"],
         ],
     };
-    own.concat()
+    own.concat().into_iter().map(String::from).chain(too_great_causes(which)).collect()
 }
 
 /// Each reason for a refusal is met often, and alone: so each by itself suffices.
 #[test]
 fn random_damage_is_refused() {
     for which in CALLS {
-        let mut met = Met::new();
+        let mut met = Met::default();
         for case in 0..CASES {
             let seed = seed_of(which, 500_000_000 + case);
             let mut random = Random::new(seed);
@@ -179,8 +176,8 @@ fn random_damage_is_refused() {
             try_case(&format!("seed {seed}, damaged"), which, &case, &mut met);
         }
         let alone: Vec<String> = causes(which).iter().map(|c| format!("refused by this alone: {c}")).collect();
-        met.retain(|event, _| !event.starts_with("refused among others"));
-        met_often(which, &met, &alone.iter().map(String::as_str).collect::<Vec<_>>(), 200);
+        met.0.retain(|event, _| !event.starts_with("refused among others"));
+        met.only(&format!("{which:?}"), &alone, 200);
     }
 }
 
@@ -211,7 +208,7 @@ fn the_comparison_notices_damage() {
     }
 }
 
-/// Each error, put into the implementation of these tests, makes many of the random cases differ.
+/// Each error, put around the reference's calls, makes many of the random cases differ.
 #[test]
 fn wrong_rules_are_noticed() {
     let flaws = [

@@ -1,9 +1,9 @@
-//! The distance call as compiled, against document 01 and against Dijkstra's method.
+//! The distance call as compiled, against document 01 and against reference/.
 
 use bench_tests::call::{FILLED, TABLE};
+use bench_tests::count::Met;
 use bench_tests::random::Random;
 use bench_tests::view::{compare, random_arguments, Arguments, Outcome, MAX_COST, NONE};
-use std::collections::BTreeMap;
 
 const VIEWS: u64 = 5_000;
 
@@ -38,9 +38,9 @@ fn accepted(change: impl FnOnce(&mut Arguments)) -> Arguments {
 
 const BY_OTHERS: &str = "a path by way of another bridge";
 
-/// What a view has that random views are to meet often; a run that misses one tests less than it says.
+/// What a view has that random views are to meet often.
 fn features(a: &Arguments, filled: &Outcome) -> [(&'static str, bool); 10] {
-    let pairs: Vec<[usize; 2]> = (0..a.links).map(|l| [2 * l, 2 * l + 1].map(|e| usize::from(a.ends[e]))).collect();
+    let pairs = a.pairs();
     let same = |p: &[usize; 2], q: &[usize; 2]| p == q || *p == [q[1], q[0]];
     let joined = |i, j| pairs.iter().any(|p| same(p, &[i, j]));
     let costs = &a.costs[..a.links];
@@ -62,22 +62,21 @@ fn features(a: &Arguments, filled: &Outcome) -> [(&'static str, bool); 10] {
 }
 
 fn random_views(bridges: usize) {
-    let mut met: BTreeMap<&str, usize> = BTreeMap::new();
+    let mut met = Met::default();
     for view in 0..VIEWS {
         let seed = bridges as u64 * 1_000_000 + view;
         let arguments = random_arguments(&mut Random::new(seed), bridges);
         let filled = arguments.filled();
         for (name, present) in features(&arguments, &filled) {
-            *met.entry(name).or_default() += usize::from(present);
+            met.note_times(name, present.into());
         }
         expect(&format!("seed {seed}"), &arguments, &filled);
     }
     if bridges == 2 {
-        assert_eq!(met.remove(BY_OTHERS), Some(0), "two bridges have no other between them");
+        assert_eq!(met.0.remove(BY_OTHERS), Some(0), "two bridges have no other between them");
     }
-    for (name, count) in met {
-        assert!(count >= 100, "only {count} of {VIEWS} views had {name}");
-    }
+    let names: Vec<&String> = met.0.keys().collect();
+    met.at_least(&format!("{bridges} bridges"), &names, 100);
 }
 
 #[test]
@@ -218,23 +217,6 @@ fn refused_short_buffers() {
     }
 }
 
-/// Damages one point of an accepted call.
-fn damage(random: &mut Random, a: &mut Arguments) {
-    let kinds = if a.links == 0 { 3 } else { 8 };
-    let link = random.below(a.links.max(1));
-    let side = random.below(2);
-    match random.below(kinds) {
-        0 => a.bridges = [0, 1, 17 + random.below(1_000)][random.below(3)],
-        1 => a.links = 33 + random.below(1_000),
-        2 => a.table.truncate(random.below(TABLE)),
-        3 => a.ends[2 * link + side] = a.ends[2 * link + 1 - side],
-        4 => a.ends[2 * link + side] = (a.bridges + random.below(256 - a.bridges)) as u8,
-        5 => a.costs[link] = MAX_COST + 1 + random.below((u32::MAX - MAX_COST) as usize) as u32,
-        6 => a.ends.truncate(random.below(2 * a.links)),
-        _ => a.costs.truncate(random.below(a.links)),
-    }
-}
-
 #[test]
 fn random_damage_is_refused() {
     for view in 0..VIEWS {
@@ -243,7 +225,11 @@ fn random_damage_is_refused() {
         let bridges = 2 + random.below(15);
         let mut arguments = random_arguments(&mut random, bridges);
         expect_filled(&format!("seed {seed}, before the damage"), &arguments);
-        damage(&mut random, &mut arguments);
+        let mut damaged = false;
+        while !damaged {
+            let kind = random.below(8);
+            damaged = arguments.damage(&mut random, kind);
+        }
         expect_refused(&format!("seed {seed}, damaged"), &arguments);
     }
 }

@@ -1,11 +1,17 @@
 //! Single calls of layer 3 as compiled: refusals at the entry, document 01's known examples, the limits of its numbers.
 
-use bench_tests::network::{Answer, Call, Plan, Reply, Way};
-use bench_tests::network_call::Lent;
-use bench_tests::network_numbers::{compare, expect, is_turned_down, needed, network_in, plan_in, put_fresh};
-use bench_tests::network_random::{damage, lend, random_call, random_plan};
-use bench_tests::network_run::{name, Met, Run};
+use bench_tests::count::Met;
+use bench_tests::model::{Call, Model, Reply};
+use bench_tests::network_call::{Lent, BENCH, ENDS, NUMBER};
+use bench_tests::network_entry::{field_at, is_turned_down, needed};
+use bench_tests::network_numbers::{compare, expect, network_in, put_fresh};
+use bench_tests::network_random::{damage, lend, map_of, random_call, random_map, widen, widened};
+use bench_tests::network_run::{name, Run};
 use bench_tests::random::Random;
+use bench_tests::view::NONE;
+use reference::forwarding::PathEnd;
+use reference::map::Map;
+use reference::records::Answer;
 
 // ---- refusals at the entry
 
@@ -23,24 +29,44 @@ const KINDS: [Option<Call>; 11] = [
     Some(Call::Path(0, 0)),
 ];
 
-/// Makes the call on a copy, whose outcome must be a refusal with 17 that changes nothing.
-fn expect_turned_down(label: &str, lent: &Lent, call: Option<Call>) {
-    assert!(is_turned_down(lent, call), "{label}, {call:?}: the test itself does not expect 17");
+/// Makes the call on a copy, which must give this reply and these buffers. `None` is `fresh`.
+fn expect_outcome(label: &str, lent: &Lent, call: Option<Call>, reply: u8, expected: &Lent) {
     let mut found = lent.clone();
-    let reply = match call {
+    let found_reply = match call {
         None => found.fresh(),
         Some(call) => found.call(call),
     };
-    assert_eq!(reply, 17, "{label}, {call:?}");
-    if let Err(difference) = compare(lent, &found) {
+    assert_eq!(found_reply, reply, "{label}, {call:?}");
+    if let Err(difference) = compare(expected, &found) {
         panic!("{label}, {call:?}: {difference}");
     }
 }
 
+/// The outcome must be a refusal with 17 that changes nothing.
+fn expect_turned_down(label: &str, lent: &Lent, call: Option<Call>) {
+    assert!(is_turned_down(lent, call), "{label}, {call:?}: the test itself does not expect 17");
+    expect_outcome(label, lent, call, 17, lent);
+}
+
+/// `fresh` must be accepted, and leave what it leaves of this map.
+fn expect_fresh(label: &str, lent: &Lent, map: &Map) {
+    assert!(!is_turned_down(lent, None), "{label}: the test itself expects 17");
+    let mut expected = lent.clone();
+    put_fresh(map, &mut expected);
+    expect_outcome(label, lent, None, 0, &expected);
+}
+
+/// The outcome must be that of the call on this network.
+fn expect_taken(label: &str, lent: &Lent, call: Call, mut model: Model) {
+    let mut expected = lent.clone();
+    let reply = expect(&mut model, call, &mut expected).err().unwrap_or(0);
+    expect_outcome(label, lent, Some(call), reply, &expected);
+}
+
 /// The triangle of document 01 with two views, fresh.
 fn known_run(costs: [Vec<u32>; 2]) -> Run {
-    let plan = Plan { bridges: 3, links: vec![(0, 1), (1, 2), (0, 2)], views: costs.to_vec() };
-    Run::fresh(&mut Random::new(7), &plan).expect("a fresh network")
+    let map = map_of(3, &[[0, 1], [1, 2], [0, 2]], &costs);
+    Run::fresh(&mut Random::new(7), &map).expect("a fresh network")
 }
 
 fn triangle() -> Run {
@@ -76,7 +102,7 @@ fn exact_buffers_are_enough() {
         for (which, length) in needed(Some(call)).into_iter().enumerate() {
             exact = exact.resized(which, length);
         }
-        let outcome = expect(&mut run.network, call, &mut run.expected);
+        let outcome = expect(&mut run.model, call, &mut run.expected);
         assert_eq!(exact.call(call), outcome.err().unwrap_or(0), "{call:?}");
         for ((name, e), (_, f)) in run.expected.buffers().into_iter().zip(exact.buffers()) {
             assert_eq!(e.numbers()[..f.numbers().len()], *f.numbers(), "{call:?}: {name}");
@@ -85,37 +111,137 @@ fn exact_buffers_are_enough() {
     }
 }
 
+/// One number is damaged: the call is refused, or it is not lent that number and does what it does without the damage.
 #[test]
 fn numbers_out_of_range_are_refused() {
-    let mut met = Met::new();
-    for case in 0..6_000 {
+    let (mut met, mut causes) = (Met::default(), Met::default());
+    for case in 0..12_000 {
         let seed = 70_000_000 + case;
         let mut random = Random::new(seed);
-        let plan = random_plan(&mut random);
-        let run = Run::handed_in(&mut random, &plan).expect("a network");
+        let map = random_map(&mut random);
+        let run = Run::handed_in(&mut random, &map).expect("a network");
         let mut lent = run.expected.clone();
-        if !damage(&mut random, &mut lent) {
-            continue;
+        let Some(cause) = damage(&mut random, &mut lent) else { continue };
+        let call = if random.one_in(11) { None } else { Some(random_call(&mut random, run.network())) };
+        let (label, kind) = (format!("seed {seed}"), kind(call));
+        let refused = is_turned_down(&lent, call);
+        match call {
+            _ if refused => expect_turned_down(&label, &lent, call),
+            None => expect_fresh(&label, &lent, &map),
+            Some(call) => expect_taken(&label, &lent, call, run.model),
         }
-        let call = if random.one_in(11) { None } else { Some(random_call(&mut random, &run.network)) };
-        let kind = call.map_or("fresh".into(), name);
-        if is_turned_down(&lent, call) {
-            expect_turned_down(&format!("seed {seed}"), &lent, call);
-            *met.entry(format!("{kind} refused")).or_default() += 1;
-        } else if let Some(call) = call {
-            // the call is not lent what was damaged, and does not see it: only costs and messages are read by some calls alone
-            let mut undamaged = run.expected.clone();
-            let reply = undamaged.call(call);
-            assert_eq!(lent.call(call), reply, "seed {seed}, {call:?}");
-            assert_eq!(lent.bench.numbers(), undamaged.bench.numbers(), "seed {seed}, {call:?}");
-            *met.entry(format!("{kind} unaffected")).or_default() += 1;
+        met.note(format!("{kind} {}", if refused { "refused" } else { "unaffected" }));
+        causes.note_times(cause, refused.into());
+    }
+    let refused = KINDS.map(|call| format!("{} refused", kind(call)));
+    // deliver and repeat are lent every number that is damaged
+    let others = KINDS.into_iter().filter(|call| !matches!(call, Some(Call::Deliver(_) | Call::Repeat(_))));
+    let unaffected: Vec<String> = others.map(|call| format!("{} unaffected", kind(call))).collect();
+    met.only("damaged", &[&refused[..], &unaffected].concat(), 10);
+    met.at_least("damaged", &refused, 20);
+    let too_great: Vec<String> = widened().into_iter().collect();
+    causes.only("refused for", &[OUT_OF_RANGE.map(String::from).to_vec(), too_great].concat(), 50);
+}
+
+const OUT_OF_RANGE: [&str; 14] = [
+    "bridge count",
+    "link count",
+    "view count",
+    "messages in flight",
+    "view",
+    "end that is no bridge",
+    "link with equal ends",
+    "received view",
+    "cost too large",
+    "link of a message",
+    "direction of a message",
+    "view of a message",
+    "number of a message",
+    "discarded number of a message",
+];
+
+/// At every place of a bench, also past the counts, every call refuses a number that does not fit.
+#[test]
+fn numbers_that_do_not_fit_are_refused() {
+    let mut met = Met::default();
+    for seed in 120_000_000..120_000_020 {
+        let mut random = Random::new(seed);
+        let map = random_map(&mut random);
+        let run = Run::handed_in(&mut random, &map).expect("a network");
+        for place in 0..BENCH {
+            let mut lent = run.found.clone();
+            let Some(cause) = widen(&mut random, &mut lent, place) else { continue };
+            for call in KINDS {
+                expect_turned_down(&format!("seed {seed}, place {place}"), &lent, call);
+                met.note(format!("{}, {cause}", kind(call)));
+            }
         }
     }
-    println!("{met:?}");
-    for call in KINDS {
-        let kind = call.map_or("fresh".into(), name);
-        assert!(met[&format!("{kind} refused")] >= 20, "{kind}: {met:?}");
+    let all: Vec<String> =
+        KINDS.iter().flat_map(|&call| widened().into_iter().map(move |cause| format!("{}, {cause}", kind(call)))).collect();
+    met.only("too great", &all, 50);
+}
+
+fn kind(call: Option<Call>) -> String {
+    call.map_or("fresh".into(), name)
+}
+
+/// What of these buffers `fresh` reads: the counts but that of messages, the ends, the costs.
+fn is_read_by_fresh(map: &Map, buffer: &str, place: usize) -> bool {
+    match buffer {
+        "bench" => place < 3 || (ENDS..ENDS + 2 * map.link_count()).contains(&place),
+        "costs" => place / 32 < map.view_count() && place % 32 < map.link_count(),
+        _ => false,
     }
+}
+
+/// `fresh` with one number damaged: refused where it reads the number or the number does not fit, and else as without the damage.
+fn expect_fresh_damaged(label: &str, map: &Map, lent: &Lent, which: usize, place: usize) -> Vec<&'static str> {
+    let (buffer, _) = lent.buffers()[which];
+    let values = if buffer == "bench" { field_at(place).map(|(_, values)| values) } else { None };
+    // the greatest that fits and the least that does not
+    let limits = values.map_or(vec![], |values| vec![values - 1, values]);
+    let outcome = |number: u32| {
+        let mut damaged = lent.clone();
+        damaged.buffer_mut(which).numbers_mut()[place] = number;
+        let label = format!("{label}, {buffer}, place {place}, number {number}");
+        let fits = values.map_or(true, |values| number < values);
+        if fits && !is_read_by_fresh(map, buffer, place) {
+            expect_fresh(&label, &damaged, map);
+            return "not read";
+        }
+        expect_turned_down(&label, &damaged, None);
+        if fits {
+            "read"
+        } else {
+            "does not fit"
+        }
+    };
+    limits.into_iter().chain([NONE]).map(outcome).collect()
+}
+
+#[test]
+fn fresh_reads_counts_ends_and_costs() {
+    let known = triangle();
+    let lent = lend(&mut Random::new(90_000_000), known.map());
+    let mut met = Met::default();
+    for (which, (_, buffer)) in lent.buffers().into_iter().enumerate() {
+        let outcomes = |place| expect_fresh_damaged("the triangle", known.map(), &lent, which, place);
+        (0..buffer.numbers().len()).flat_map(outcomes).for_each(|outcome| met.note(outcome));
+    }
+    for seed in 90_000_001..90_000_200 {
+        let mut random = Random::new(seed);
+        let map = random_map(&mut random);
+        let lent = lend(&mut random, &map);
+        for (which, length) in needed(None).into_iter().enumerate().take(2) {
+            for _ in 0..20 {
+                let place = random.below(length);
+                let outcomes = expect_fresh_damaged(&format!("seed {seed}"), &map, &lent, which, place);
+                outcomes.into_iter().for_each(|outcome| met.note(outcome));
+            }
+        }
+    }
+    met.only("fresh", &["read", "not read", "does not fit"], 500);
 }
 
 // ---- known answers
@@ -129,33 +255,33 @@ fn known_examples_e2_to_e8() {
         run.round(&mut Random::new(3)).expect("a round");
     }
     assert_eq!(run.ports(0), [None, Some(0), Some(1)], "E3");
-    assert_eq!(run.make(Call::Path(2, 0)), Reply::Path(Way::Delivered { hops: 2 }), "E3");
+    assert_eq!(run.make(Call::Path(2, 0)), Reply::Path(PathEnd { last: 0, hops: 2 }), "E3");
     // of number 1, and late
     run.make(Call::Send(1, 1));
     run.make(Call::Cut(0));
     run.make(Call::Update(1, 1));
-    assert_eq!(run.distance_and_port(1, 0), (Some(4), None), "E4");
-    assert_eq!(run.make(Call::Path(2, 0)), Reply::Path(Way::Stops { last: 1, hops: 1 }), "E4");
+    assert_eq!(run.distance_and_port(1, 0), (4, None), "E4");
+    assert_eq!(run.make(Call::Path(2, 0)), Reply::Path(PathEnd { last: 1, hops: 1 }), "E4");
     run.make(Call::Update(2, 1));
     assert_eq!(run.distance_and_port(2, 0).1, Some(2), "E5");
-    assert_eq!(run.tell(2, 1), Answer::Agreed(2, 1), "E6");
+    assert_eq!(run.tell(2, 1), (Answer::Agreed, 2, 1), "E6");
     assert_eq!(run.found.held.numbers()[16 * 2], 4, "E6");
     assert_eq!(run.found.sent.numbers()[16 * 2], 2, "E6");
-    assert_eq!(run.distance_and_port(1, 0), (Some(4), None), "E6");
-    assert_eq!(run.tell(1, 1), Answer::Agreed(2, 1), "E7");
-    assert_eq!(run.tell(2, 1), Answer::Agreed(2, 1), "E7");
-    assert_eq!(run.distance_and_port(1, 0), (Some(4), Some(1)), "E7");
+    assert_eq!(run.distance_and_port(1, 0), (4, None), "E6");
+    assert_eq!(run.tell(1, 1), (Answer::Agreed, 2, 1), "E7");
+    assert_eq!(run.tell(2, 1), (Answer::Agreed, 2, 1), "E7");
+    assert_eq!(run.distance_and_port(1, 0), (4, Some(1)), "E7");
     let before = run.found.clone();
-    assert_eq!(run.make(Call::Repeat(0)), Reply::Answered(Answer::Stale), "E8");
+    assert!(matches!(run.make(Call::Repeat(0)), Reply::Answered(Answer::Stale, _)), "E8");
     assert_eq!(before.bench.numbers(), run.found.bench.numbers(), "E8");
-    assert_eq!(run.make(Call::Deliver(0)), Reply::Answered(Answer::Stale), "E8");
+    assert!(matches!(run.make(Call::Deliver(0)), Reply::Answered(Answer::Stale, _)), "E8");
 }
 
 /// E9 by calls: the greatest cost is accepted, one more is refused, with 17 since no plan is read here.
 #[test]
 fn known_example_e9() {
     let mut run = known_run([vec![16_777_215; 3], vec![0; 3]]);
-    assert_eq!(run.distance_and_port(1, 0).0, Some(16_777_215));
+    assert_eq!(run.distance_and_port(1, 0).0, 16_777_215);
     let mut lent = run.found.clone();
     lent.costs.numbers_mut()[2] = 16_777_216;
     expect_turned_down("a cost", &lent, None);
@@ -207,21 +333,21 @@ fn the_first_refusal_counts() {
 fn numbers_end_at_65535() {
     let mut run = triangle();
     for lent in [&mut run.expected, &mut run.found] {
-        lent.bench.numbers_mut()[84 + 1] = 65_534;
+        lent.bench.numbers_mut()[NUMBER + 1] = 65_534;
     }
-    run.network = network_in(&run.expected);
+    run.model.network = network_in(&run.expected);
     run.make(Call::Update(1, 1));
-    assert_eq!(run.found.bench.numbers()[84 + 1], 65_535);
+    assert_eq!(run.found.bench.numbers()[NUMBER + 1], 65_535);
     run.make(Call::Update(1, 1));
     run.refused(Call::Update(1, 0), 16);
     run.refused(Call::Update(1, 2), 10);
     run.refused(Call::Update(3, 0), 10);
     run.make(Call::Update(1, 1));
     // an agreement of the last number still works
-    assert_eq!(run.tell(1, 1), Answer::Noted(65_535, 1));
+    assert_eq!(run.tell(1, 1), (Answer::Noted, 65_535, 1));
     run.make(Call::Update(2, 1));
-    assert_eq!(run.tell(1, 1), Answer::Agreed(65_535, 1));
-    assert_eq!(run.tell(2, 1), Answer::Agreed(2, 1));
+    assert_eq!(run.tell(1, 1), (Answer::Agreed, 65_535, 1));
+    assert_eq!(run.tell(2, 1), (Answer::Agreed, 2, 1));
 }
 
 // ---- the tests themselves
@@ -233,25 +359,8 @@ fn the_comparison_notices_damage() {
     for which in 0..7 {
         for place in 0..run.found.buffers()[which].1.numbers().len() {
             let mut damaged = run.found.clone();
-            let Lent { bench, costs, tables, sent, held, messages, out } = &mut damaged;
-            [bench, costs, tables, sent, held, messages, out][which].numbers_mut()[place] ^= 1;
+            damaged.buffer_mut(which).numbers_mut()[place] ^= 1;
             assert!(compare(&run.found, &damaged).is_err(), "buffer {which}, place {place}");
         }
-    }
-}
-
-/// What `fresh` refuses: counts, ends and costs; it reads nothing else of the bench.
-#[test]
-fn fresh_reads_counts_ends_and_costs() {
-    for seed in 0..200 {
-        let mut random = Random::new(90_000_000 + seed);
-        let plan = random_plan(&mut random);
-        let mut expected = lend(&mut random, &plan);
-        let mut found = expected.clone();
-        assert!(!is_turned_down(&expected, None));
-        assert_eq!(found.fresh(), 0, "seed {seed}");
-        put_fresh(&mut expected);
-        compare(&expected, &found).unwrap_or_else(|difference| panic!("seed {seed}: {difference}"));
-        assert_eq!(plan_in(&found).bridges, plan.bridges);
     }
 }

@@ -1,12 +1,16 @@
 //! The calls on messages as a slice of structs, as compiled, against the same calls over numbers: the same lists of calls through both,
 //! on buffers of their own, compared after each call.
 
-use bench_tests::network::{Call, Plan};
+use bench_tests::count::Met;
+use bench_tests::model::Call;
 use bench_tests::network_call::{Lent, MESSAGES};
-use bench_tests::network_numbers::{compare, is_turned_down, needed};
-use bench_tests::network_random::{damage, random_call, random_plan};
-use bench_tests::network_run::{name, Met, Run};
+use bench_tests::network_entry::{is_turned_down, needed};
+use bench_tests::network_numbers::{compare, is_question};
+use bench_tests::network_random::{damage, map_of, random_call, random_map, widened};
+use bench_tests::network_run::{name, Run};
 use bench_tests::random::Random;
+use bench_tests::view::NONE;
+use reference::map::Map;
 
 const LISTS: u64 = 400;
 const CALLS: usize = 250;
@@ -23,11 +27,7 @@ struct Both {
 
 impl Both {
     fn of(lent: &Lent) -> Both {
-        Both { numbers: lent.clone(), slices: lent.clone(), met: Met::new() }
-    }
-
-    fn count(&mut self, event: String) {
-        *self.met.entry(event).or_default() += 1;
+        Both { numbers: lent.clone(), slices: lent.clone(), met: Met::default() }
     }
 
     /// Makes a call both ways. An error says where they differ.
@@ -38,19 +38,17 @@ impl Both {
             return Err(format!("{call:?}: reply {found} in place of {reply}"));
         }
         compare(&self.numbers, &self.slices).map_err(|difference| format!("{call:?}: {difference}"))?;
-        self.count(format!("{} {reply}", name(call)));
+        self.met.note(format!("{} {reply}", name(call)));
         if reply == 0 && matches!(call, Call::Deliver(_) | Call::Repeat(_)) {
-            self.count(format!("{} answers {}", name(call), self.slices.out.numbers()[0]));
+            self.met.note(format!("{} answers {}", name(call), self.slices.out.numbers()[0]));
         }
         Ok(reply)
     }
 
-    /// A call on copies with one number out of range. What the call does not read it must not see.
+    /// A call on copies with one number damaged. What the call does not read it must not see.
     fn make_damaged(&mut self, random: &mut Random) -> Result<(), String> {
         let mut lent = self.slices.clone();
-        if !damage(random, &mut lent) {
-            return Ok(());
-        }
+        let Some(cause) = damage(random, &mut lent) else { return Ok(()) };
         let place = random.below(64);
         let call = [Call::Send(0, 0), Call::Lose(place), Call::Deliver(place), Call::Repeat(place)][random.below(4)];
         let mut damaged = Both::of(&lent);
@@ -60,18 +58,14 @@ impl Both {
         }
         if reply == 17 {
             compare(&lent, &damaged.slices).map_err(|difference| format!("{call:?} with 17: {difference}"))?;
-            self.count(format!("{} 17", name(call)));
+            self.met.note(format!("{} 17", name(call)));
+            self.met.note(format!("17 for {cause}"));
         }
         Ok(())
     }
 }
 
-/// Only what changes a network; reports, ports and paths have one form.
-fn is_change(call: &Call) -> bool {
-    !matches!(call, Call::Port(..) | Call::Report(_) | Call::Path(..))
-}
-
-/// A list of calls as a network takes them, so that most are accepted.
+/// A list of calls as a network takes them, so that most are accepted. Reports, ports and paths have one form.
 fn random_list(random: &mut Random, run: &mut Run) -> Result<Vec<Call>, String> {
     while run.events() < CALLS {
         match random.below(80) {
@@ -82,24 +76,26 @@ fn random_list(random: &mut Random, run: &mut Run) -> Result<Vec<Call>, String> 
             7..=9 => run.overtake(random)?,
             // mostly over a link that the bridge is not at
             10 => {
-                let plan = &run.network.plan;
-                let (bridge, link) = (random.below(plan.bridges), random.below(plan.links.len().max(1)));
+                let map = run.map();
+                let (bridge, link) = (random.below(map.bridge_count()), random.below(map.link_count().max(1)));
                 run.call(Call::Send(bridge, link))?;
             }
             _ => {
-                let call = random_call(random, &run.network);
+                let call = random_call(random, run.network());
                 run.call(call)?;
             }
         }
     }
-    Ok(run.trail.iter().copied().filter(is_change).collect())
+    Ok(run.trail.iter().copied().filter(|&call| !is_question(call)).collect())
 }
 
 /// One list, from a fresh network, or from one that no fresh network leads to: how many calls, and what happened.
-fn one_list(seed: u64, plan: &Plan, random: &mut Random) -> Result<(usize, Met), String> {
+fn one_list(seed: u64, map: &Map, random: &mut Random) -> Result<(usize, Met), String> {
     let start = if seed % 4 == 3 { Run::handed_in } else { Run::fresh };
-    let mut run = start(random, plan)?;
-    let mut both = Both::of(&run.found.resized(MESSAGES_AT, MESSAGES));
+    let mut run = start(random, map)?;
+    let mut both = Both::of(&run.found);
+    let past = run.found.messages.numbers()[MESSAGES..].to_vec();
+    both.met.note(if past.is_empty() { "exact messages" } else { "longer messages" });
     let list = random_list(random, &mut run)?;
     for (k, &call) in list.iter().enumerate() {
         let at = |difference: String| format!("call {k}: {difference}");
@@ -111,6 +107,9 @@ fn one_list(seed: u64, plan: &Plan, random: &mut Random) -> Result<(usize, Met),
     if both.slices.bench.numbers() != run.found.bench.numbers() {
         return Err("the list ends in another bench than when it was made".into());
     }
+    if both.slices.messages.numbers()[MESSAGES..] != past {
+        return Err("a write past the messages".into());
+    }
     Ok((list.len(), both.met))
 }
 
@@ -121,29 +120,24 @@ const ANSWERS: [u8; 3] = [0, 1, 2];
 
 #[test]
 fn both_forms_do_the_same() {
-    let (mut calls, mut met) = (0, Met::new());
+    let (mut calls, mut met) = (0, Met::default());
     for seed in 110_000_000..110_000_000 + LISTS {
         let mut random = Random::new(seed);
-        let plan = random_plan(&mut random);
+        let map = random_map(&mut random);
         let (length, events) =
-            one_list(seed, &plan, &mut random).unwrap_or_else(|difference| panic!("seed {seed}, {difference}\n{plan:?}"));
+            one_list(seed, &map, &mut random).unwrap_or_else(|difference| panic!("seed {seed}, {difference}\n{map:?}"));
         calls += length;
-        for (event, count) in events {
-            *met.entry(event).or_default() += count;
-        }
+        met.add(&events);
     }
-    println!("{LISTS} lists, {calls} calls: {met:?}");
-    let often = |event: String| assert!(met.get(&event).is_some_and(|&count| count >= 200), "too seldom: {event}");
-    for (call, replies) in REPLIES {
-        replies.iter().for_each(|reply| often(format!("{call} {reply}")));
-    }
-    for call in ["deliver", "repeat"] {
-        ANSWERS.iter().for_each(|answer| often(format!("{call} answers {answer}")));
-    }
-    let listed = |event: &str| REPLIES.iter().any(|(call, replies)| replies.iter().any(|r| event == format!("{call} {r}")));
-    for event in met.keys().filter(|event| REPLIES.iter().any(|(call, _)| event.starts_with(call))) {
-        assert!(event.contains("answers") || listed(event), "not expected: {event}");
-    }
+    met.at_least("lists", &["exact messages", "longer messages"], 100);
+    let too_great: Vec<String> = widened().into_iter().map(|cause| format!("17 for {cause}")).collect();
+    met.at_least("damaged", &too_great, 50);
+    println!("{:?}", too_great.iter().map(|cause| (cause, met.times(cause))).collect::<Vec<_>>());
+    // update, cut and restore have one form
+    met.0.retain(|event, _| REPLIES.iter().any(|(call, _)| event.starts_with(call)));
+    let replies = REPLIES.iter().flat_map(|(call, replies)| replies.iter().map(move |reply| format!("{call} {reply}")));
+    let answers = ["deliver", "repeat"].into_iter().flat_map(|call| ANSWERS.map(|answer| format!("{call} answers {answer}")));
+    met.only(&format!("{LISTS} lists, {calls} calls"), &replies.chain(answers).collect::<Vec<_>>(), 200);
 }
 
 fn expect_refused(label: &str, lent: &Lent, call: Call) {
@@ -152,25 +146,56 @@ fn expect_refused(label: &str, lent: &Lent, call: Call) {
     compare(lent, &found).unwrap_or_else(|difference| panic!("{label}, {call:?}: {difference}"));
 }
 
-/// Only 320 numbers are taken, also where the call over numbers takes more; and no list that is too short.
+/// Two bridges and a link, with so many messages in flight, in 320 numbers.
+fn in_flight(count: usize) -> Lent {
+    let map = map_of(2, &[[0, 1]], &[vec![1]]);
+    let mut run = Run::fresh(&mut Random::new(5), &map).expect("a fresh network");
+    for k in 0..count {
+        run.make(Call::Send(k % 2, 0));
+    }
+    run.found.resized(MESSAGES_AT, MESSAGES)
+}
+
 #[test]
-fn other_lengths_are_refused() {
-    let plan = Plan { bridges: 2, links: vec![(0, 1)], views: vec![vec![1]] };
-    let mut run = Run::fresh(&mut Random::new(5), &plan).expect("a fresh network");
-    run.make(Call::Send(0, 0));
-    let whole = run.found.resized(MESSAGES_AT, MESSAGES);
+fn short_buffers_are_refused() {
+    let whole = in_flight(1);
     for call in [Call::Send(1, 0), Call::Lose(0), Call::Deliver(0), Call::Repeat(0)] {
         assert_eq!(whole.clone().slice_call(call), 0, "{call:?}");
-        for length in [0, 5, 319, 321, 325] {
-            let lent = whole.resized(MESSAGES_AT, length);
-            expect_refused(&format!("{length} numbers"), &lent, call);
-            assert_eq!(lent.clone().call(call), if length < MESSAGES { 17 } else { 0 }, "{length} numbers, {call:?}");
-        }
         for (which, length) in needed(Some(call)).into_iter().enumerate().filter(|(_, length)| *length > 0) {
             let (buffer, _) = whole.buffers()[which];
-            for short in [0, length - 1] {
+            for short in [0, 5, length - 1].into_iter().filter(|&short| short < length) {
                 expect_refused(&format!("{buffer} of {short}"), &whole.resized(which, short), call);
             }
         }
     }
+}
+
+/// With these numbers past the 320 of the messages.
+fn followed_by(lent: &Lent, past: &[u32]) -> Lent {
+    let mut longer = lent.resized(MESSAGES_AT, MESSAGES + past.len());
+    longer.messages.numbers_mut()[MESSAGES..].copy_from_slice(past);
+    longer
+}
+
+/// What lies past the 320 numbers of the messages is neither read nor written: a further message, or no message.
+#[test]
+fn longer_messages_are_taken() {
+    let pasts: [&[u32]; 4] = [&[0], &[NONE], &[0, 1, 0, 1, 0], &[NONE; 5]];
+    let mut met = Met::default();
+    for (count, place) in [(0, 0), (1, 0), (1, 1), (63, 62), (64, 0), (64, 63), (64, 64)] {
+        let whole = in_flight(count);
+        for call in [Call::Send(1, 0), Call::Lose(place), Call::Deliver(place), Call::Repeat(place)] {
+            let mut exact = whole.clone();
+            let reply = exact.slice_call(call);
+            met.note(format!("{} {reply}", name(call)));
+            for past in pasts {
+                let label = format!("{count} in flight, {call:?}, then {past:?}");
+                let mut longer = followed_by(&whole, past);
+                assert_eq!(longer.slice_call(call), reply, "{label}");
+                compare(&followed_by(&exact, past), &longer).unwrap_or_else(|difference| panic!("{label}: {difference}"));
+            }
+        }
+    }
+    let replies = ["send 0", "send 14", "lose 0", "lose 15", "deliver 0", "deliver 15", "repeat 0", "repeat 15"];
+    met.only("longer messages", &replies, 3);
 }

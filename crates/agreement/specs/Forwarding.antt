@@ -15,7 +15,7 @@ use Rattle.agreement.specs.declared.EndRecord.{EndRecord}
 use Rattle.agreement.specs.declared.Port.{Port}
 use Rattle.agreement.specs.declared.Port.the-variants.{Closed, Open}
 
--- what a bridge knows of its links: which are cut, the record of each end, its two rows of limits
+-- what a bridge knows of its links: which are cut, the record of each end, its "sent limits" and "held limits" by end and destination
 pub record Records : Type 0 where
   pub cut : ℕ → Bool
   pub ends : ℕ → EndRecord

@@ -49,6 +49,7 @@ isStale r m = ltb (m .number) (r .received)
 unfoldable pub isAgreed : ℕ → Agreement → Bool
 isAgreed v m = eqb (m .view) v
 
+-- "noted" otherwise
 unfoldable pub answer : ℕ → EndRecord → Agreement → Answer
 answer v r m =
     cond (isStale r m) Stale (cond (isAgreed v m) (Agreed (m .number) (m .view)) (Noted (m .number) (m .view)))

@@ -12,7 +12,7 @@ use Rattle.bench.specs.Calls.{Call, Check, change, update, cut, restore,
 use Rattle.bench.specs.Calls as calls
 use Rattle.bench.specs.State.{State, network, networkOf, messageFrom}
 use Rattle.bench.specs.Ranges.{benchInRange, messagesInRange}
-use Rattle.bench.specs.Changes.{Changed, changed, Rewritten, rewritten, refusalOf, settled, stateInRange, updateOf, cutOf, restoreOf}
+use Rattle.bench.specs.Changes.{Changed, changed, Rewritten, rewritten, refusalOf, orRefused, stateInRange, updateOf, cutOf, restoreOf}
 use Rattle.bench.specs.Flights.{Flown, flown, sendOf, loseOf}
 use Rattle.bench.specs.Deliveries.{Delivered, received, deliveryReady, deliveryRefused, deliverOf, repeatOf}
 use Rattle.bench.specs.Answers.{Reported, report, reportOf}
@@ -37,7 +37,7 @@ module _ (s : State) where
   changed-kept :
       (k : ℕ) (done : Changed) →
       done .reply ≡ 0 →
-      let o : Changed = settled k (λ j. changed j (s .bench)) done in
+      let o : Changed = orRefused k (λ j. changed j (s .bench)) done in
       (o .reply ≡ 0 → ⊥) →
       withChanged s o ≡ s
   changed-kept k done zero some = ap (withChanged s) (reply-some (λ o. o .reply) k (λ j. changed j (s .bench)) done (λ j. refl) (λ e. zero) some)
@@ -66,7 +66,7 @@ module _ (s : State) where
   flown-kept :
       (k : ℕ) (done : Flown) →
       done .reply ≡ 0 →
-      let o : Flown = settled k (λ j. flown j (s .bench) (s .messages)) done in
+      let o : Flown = orRefused k (λ j. flown j (s .bench) (s .messages)) done in
       (o .reply ≡ 0 → ⊥) →
       withFlown s o ≡ s
   flown-kept k done zero some = ap (withFlown s) (reply-some (λ o. o .reply) k (λ j. flown j (s .bench) (s .messages)) done (λ j. refl) (λ e. zero) some)
@@ -100,7 +100,7 @@ module _ (s : State) where
   delivered-kept :
       (c : Call) (done : Delivered) →
       (refusalOf (deliveryReady s) (network s) c ≡ 0 → done .reply .number ≡ 0) →
-      let o : Delivered = settled (refusalOf (deliveryReady s) (network s) c) (deliveryRefused s) done in
+      let o : Delivered = orRefused (refusalOf (deliveryReady s) (network s) c) (deliveryRefused s) done in
       (o .reply .number ≡ 0 → ⊥) →
       withDelivered s o ≡ s
   delivered-kept c done zero some = ap (withDelivered s) (reply-some (λ o. o .reply .number) _ (deliveryRefused s) done (λ j. refl) zero some)

@@ -10,20 +10,20 @@ use lib.Dec.{eqb}
 use Rattle.distances.proofs.Booleans.{below}
 use Rattle.bench.specs.Net.{Network}
 use Rattle.bench.specs.Calls.{Call, Check, refusal, refuse, noSuchLink}
-use Rattle.bench.specs.Changes.{refusalOf, settled}
+use Rattle.bench.specs.Changes.{refusalOf, orRefused}
 use Rattle.distances.proofs.Refusals.{passed}
 use Rattle.bench.proofs.TieRefusals.{refusal-out, refusal-ready}
 
 module _ {A : Type 0} (ok : Bool) (n : Network) (c : Call) (refused : ℕ → A) (done : A) where
-  pub out-of-range : ok ≡ false → refused 17 ≡ settled (refusalOf ok n c) refused done
+  pub out-of-range : ok ≡ false → refused 17 ≡ orRefused (refusalOf ok n c) refused done
   out-of-range e = rw (← refusal-out ok n c e)
 
   -- in range, and the table's number k
   module _ (e : ok ≡ true) (k : ℕ) (same : k ≡ refuse n c) where
-    pub turned-down : (k ≡ 0 → ⊥) → refused k ≡ settled (refusalOf ok n c) refused done
+    pub turned-down : (k ≡ 0 → ⊥) → refused k ≡ orRefused (refusalOf ok n c) refused done
     turned-down some = rw (refusal-ready ok n c e, ← same, ne-eqb k 0 some)
 
-    pub goes-on : k ≡ 0 → done ≡ settled (refusalOf ok n c) refused done
+    pub goes-on : k ≡ 0 → done ≡ orRefused (refusalOf ok n c) refused done
     goes-on none = rw (refusal-ready ok n c e, ← same, none)
 
 -- a call that is settled by the number k, and its reply's number
@@ -35,7 +35,7 @@ module _
     (done : A)
     (says : (j : ℕ) → reply (refused j) ≡ j)
     (zero : k ≡ 0 → reply done ≡ 0) where
-  pub reply-is : reply (settled k refused done) ≡ k
+  pub reply-is : reply (orRefused k refused done) ≡ k
   reply-is = go (eqb k 0) refl
     where
       go : (b : Bool) → eqb k 0 ≡ b → reply (cond b done (refused k)) ≡ k
@@ -43,7 +43,7 @@ module _
       go false e = says k
 
   -- other than 0: it was refused
-  pub reply-some : (reply (settled k refused done) ≡ 0 → ⊥) → settled k refused done ≡ refused k
+  pub reply-some : (reply (orRefused k refused done) ≡ 0 → ⊥) → orRefused k refused done ≡ refused k
   reply-some some = rw (ne-eqb k 0 (λ e. some (reply-is ∙ e)))
 
 -- the link of a call that the table lets pass

@@ -15,14 +15,14 @@ use Rattle.agreement.specs.Forwarding
 use Rattle.bench.specs.Net.{PlanInRange, fresh}
 use Rattle.bench.specs.Calls.{refusal, noSuchBridge, noSuchView, noSuchLink, noNumberLeft, notOnLink, linkCut, noRoom, noMessage, already, changeChecks, checks, refuse, accepted, moved, updatedTo, withCut, endOf, messageOf, sentOver, without, receivedAt, delivered, changed, act, step, run}
 use Rattle.bench.specs.Ports.{portOf}
-use Rattle.bench.specs.Rounds.{movedUp, fate, fateBy, orLater, isDelivered, isSendFrom, isHeard, hasRound, isChange, hasNoChange}
+use Rattle.bench.specs.Rounds.{movedUp, fate, fateBy, orLater, isDelivered, isSendFrom, isSentAndDelivered, hasRound, isChange, hasNoChange}
 use Rattle.bench.specs.Demand3.{Settling}
 use Rattle.bench.specs.Examples.{costsIn, plan}
 use Rattle.bench.specs.SettlingMet.{before, opening, closing, first, second, start, SettlingCanBeMet}
 
 -- all that computes below
 computing : Bool
-unfolding costsIn before opening closing first second start present joins crossing unjoined joinedBelow relaxed relaxedBelow dist every allBelow firstBelow offer updated sentUpdated heldUpdated isStale isAgreed answer recorded isClearing sentDelivered heldDelivered reaches chosenEnd isNotDestination hasPath isUp heldSuffices sentAllows everySentAllows conditions portFrom Rattle.agreement.specs.Forwarding.port fresh refusal noSuchBridge noSuchView noSuchLink noNumberLeft notOnLink linkCut noRoom noMessage already changeChecks checks refuse accepted moved updatedTo withCut endOf messageOf sentOver without receivedAt delivered changed act step run portOf movedUp fate fateBy orLater isDelivered isSendFrom isHeard hasRound isChange hasNoChange
+unfolding costsIn before opening closing first second start present joins crossing unjoined joinedBelow relaxed relaxedBelow dist every allBelow firstBelow offer updated sentUpdated heldUpdated isStale isAgreed answer recorded isClearing sentDelivered heldDelivered reaches chosenEnd isNotDestination hasPath isUp heldSuffices sentAllows everySentAllows conditions portFrom Rattle.agreement.specs.Forwarding.port fresh refusal noSuchBridge noSuchView noSuchLink noNumberLeft notOnLink linkCut noRoom noMessage already changeChecks checks refuse accepted moved updatedTo withCut endOf messageOf sentOver without receivedAt delivered changed act step run portOf movedUp fate fateBy orLater isDelivered isSendFrom isSentAndDelivered hasRound isChange hasNoChange
 computing = true
 
 below-three : (P : ℕ → Type 0) → P 0 → P 1 → P 2 → (l : ℕ) → l < 3 → P l

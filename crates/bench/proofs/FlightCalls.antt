@@ -16,7 +16,7 @@ use Rattle.bench.specs.Net.{Network}
 use Rattle.bench.specs.Calls.{Call, send, deliver, repeat, lose, refuse, accepted, checks, noSuchBridge, noSuchLink, notOnLink, linkCut, noRoom, noMessage, endOf, messageOf}
 use Rattle.bench.specs.State.{State, network, networkOf}
 use Rattle.bench.specs.Ranges.{messageInRange}
-use Rattle.bench.specs.Changes.{Changed, changed, refusalOf, settled, stateInRange}
+use Rattle.bench.specs.Changes.{Changed, changed, refusalOf, orRefused, stateInRange}
 use Rattle.bench.specs.Flights.{withCount, takenOut, flown, numbersOf}
 use Rattle.bench.specs.Deliveries.{Delivered, delivered, received, deliveryReady, deliveryRefused, deliverOf, repeatOf, refusedBy}
 use Rattle.bench.specs.Steps.{Ready}
@@ -39,10 +39,10 @@ refusal-none ok n c e =
 
 -- a call that is settled by the number k
 module _ {A : Type 0} (refused : ℕ → A) (done : A) (k n : ℕ) (same : k ≡ n) where
-  pub settled-refused : (k ≡ 0 → ⊥) → refused k ≡ settled n refused done
+  pub settled-refused : (k ≡ 0 → ⊥) → refused k ≡ orRefused n refused done
   settled-refused some = rw (← same, ne-eqb k 0 some)
 
-  pub settled-done : k ≡ 0 → done ≡ settled n refused done
+  pub settled-done : k ≡ 0 → done ≡ orRefused n refused done
   settled-done none = rw (← same, none)
 
 -- a refused reply, beside the messages

@@ -16,7 +16,7 @@ use Rattle.agreement.specs.Offer.{linkOf, opposite}
 use Rattle.agreement.proofs.Ends.{opposite-opposite, opposite-below, linkOf-opposite}
 use Rattle.bench.specs.Net.{Network, Message}
 use Rattle.bench.specs.Calls.{Call, change, send, deliver, repeat, lose, port, report, path, accepted, endOf, messageOf, sentOver, act, step, run}
-use Rattle.bench.specs.Rounds.{Fate, taken, lost, waits, fateBy, orLater, isDelivered, isSendFrom, isHeard, hasRound, hasNoChange}
+use Rattle.bench.specs.Rounds.{Fate, taken, lost, waits, fateBy, orLater, isDelivered, isSendFrom, isSentAndDelivered, hasRound, hasNoChange}
 use Rattle.bench.proofs.Links.{end-of-link}
 use Rattle.bench.proofs.Accepted.{SendListed, send-listed}
 use Rattle.bench.proofs.Steps.{invariant-step}
@@ -102,19 +102,19 @@ module _ (t : ℕ) where
             (fixed-step (λ p v k cut. Current p k t e W x) (allowed-step n c allowed) current) q
 
     -- a message that is sent and delivered in the list
-    heard : (n : Network) (cs : List Call) → hasNoChange n cs ≡ true → OneView n t → e < 2 * n .plan .graph .links → (W → ToldAt n t (opposite e)) → isHeard n cs (opposite e) ≡ true → Heard t e W (run n cs)
-    unfolding isHeard run
+    heard : (n : Network) (cs : List Call) → hasNoChange n cs ≡ true → OneView n t → e < 2 * n .plan .graph .links → (W → ToldAt n t (opposite e)) → isSentAndDelivered n cs (opposite e) ≡ true → Heard t e W (run n cs)
+    unfolding isSentAndDelivered run
     heard n [] h oneView there told q = absurd (false≢true q)
     heard n (c ∷ cs) h oneView there told q =
-        go (one-true (isSendFrom n (opposite e) c && isDelivered (step n c) cs (length (n .messages))) (isHeard (step n c) cs (opposite e)) q) (heard (step n c) cs)
+        go (one-true (isSendFrom n (opposite e) c && isDelivered (step n c) cs (length (n .messages))) (isSentAndDelivered (step n c) cs (opposite e)) q) (heard (step n c) cs)
       where
         allowed : Allowed n c
         allowed = first-allowed n c cs h
 
         Later : Type 0
-        Later = hasNoChange (step n c) cs ≡ true → OneView (step n c) t → e < 2 * step n c .plan .graph .links → (W → ToldAt (step n c) t (opposite e)) → isHeard (step n c) cs (opposite e) ≡ true → Heard t e W (run (step n c) cs)
+        Later = hasNoChange (step n c) cs ≡ true → OneView (step n c) t → e < 2 * step n c .plan .graph .links → (W → ToldAt (step n c) t (opposite e)) → isSentAndDelivered (step n c) cs (opposite e) ≡ true → Heard t e W (run (step n c) cs)
 
-        go : ((isSendFrom n (opposite e) c && isDelivered (step n c) cs (length (n .messages))) ≡ true) ⊎ (isHeard (step n c) cs (opposite e) ≡ true) → Later → Heard t e W (run (step n c) cs)
+        go : ((isSendFrom n (opposite e) c && isDelivered (step n c) cs (length (n .messages))) ≡ true) ⊎ (isSentAndDelivered (step n c) cs (opposite e) ≡ true) → Later → Heard t e W (run (step n c) cs)
         go (inl q) later =
             let parts : (isSendFrom n (opposite e) c ≡ true) × (isDelivered (step n c) cs (length (n .messages)) ≡ true) = both-true (isSendFrom n (opposite e) c) (isDelivered (step n c) cs (length (n .messages))) q in
             let s : Sent t e W n (step n c) = sent t e W n c oneView there told (parts .0) in
@@ -126,14 +126,14 @@ module _ (t : ℕ) where
             (λ w. told-kept n t oneView (opposite e) (allowed-step n c allowed) (told w)) q
 
   -- in a round every end of an uncut link is heard from
-  end-heard : (n : Network) (cs : List Call) (e : ℕ) → hasRound n cs ≡ true → e < 2 * n .plan .graph .links → n .records .cut (linkOf e) ≡ false → isHeard n cs e ≡ true
+  end-heard : (n : Network) (cs : List Call) (e : ℕ) → hasRound n cs ≡ true → e < 2 * n .plan .graph .links → n .records .cut (linkOf e) ≡ false → isSentAndDelivered n cs e ≡ true
   unfolding hasRound
-  end-heard n cs e q = each-end (λ k. n .records .cut (linkOf k) ≡ false → isHeard n cs k ≡ true) (n .plan .graph .links) both-heard e
+  end-heard n cs e q = each-end (λ k. n .records .cut (linkOf k) ≡ false → isSentAndDelivered n cs k ≡ true) (n .plan .graph .links) both-heard e
     where
-      both-heard : (l : ℕ) → l < n .plan .graph .links → (n .records .cut (linkOf (2 * l)) ≡ false → isHeard n cs (2 * l) ≡ true) × (n .records .cut (linkOf (2 * l + 1)) ≡ false → isHeard n cs (2 * l + 1) ≡ true)
+      both-heard : (l : ℕ) → l < n .plan .graph .links → (n .records .cut (linkOf (2 * l)) ≡ false → isSentAndDelivered n cs (2 * l) ≡ true) × (n .records .cut (linkOf (2 * l + 1)) ≡ false → isSentAndDelivered n cs (2 * l + 1) ≡ true)
       both-heard l h =
-          let heard : n .records .cut l ≡ false → (isHeard n cs (2 * l) ≡ true) × (isHeard n cs (2 * l + 1) ≡ true) =
-          λ up. both-true (isHeard n cs (2 * l)) (isHeard n cs (2 * l + 1)) (otherwise (n .records .cut l) (isHeard n cs (2 * l) && isHeard n cs (2 * l + 1)) (allBelow-true (n .plan .graph .links) (λ l. n .records .cut l || isHeard n cs (2 * l) && isHeard n cs (2 * l + 1)) q l h) up) in
+          let heard : n .records .cut l ≡ false → (isSentAndDelivered n cs (2 * l) ≡ true) × (isSentAndDelivered n cs (2 * l + 1) ≡ true) =
+          λ up. both-true (isSentAndDelivered n cs (2 * l)) (isSentAndDelivered n cs (2 * l + 1)) (otherwise (n .records .cut l) (isSentAndDelivered n cs (2 * l) && isSentAndDelivered n cs (2 * l + 1)) (allBelow-true (n .plan .graph .links) (λ l. n .records .cut l || isSentAndDelivered n cs (2 * l) && isSentAndDelivered n cs (2 * l + 1)) q l h) up) in
           let first : linkOf (2 * l) ≡ l = omega arith in
           let second : linkOf (2 * l + 1) ≡ l = omega arith in
           (λ up. heard (rw first at up) .0, λ up. heard (rw second at up) .1)

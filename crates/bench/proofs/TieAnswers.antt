@@ -23,7 +23,7 @@ use Rattle.bench.specs.Ports.{Hop, stays, crosses, hop}
 use Rattle.bench.specs.Ports as ports
 use Rattle.bench.specs.Paths.{Way, delivered, follow, onward, path}
 use Rattle.bench.specs.State.{State, network, lentView}
-use Rattle.bench.specs.Changes.{refusalOf, settled, stateInRange}
+use Rattle.bench.specs.Changes.{refusalOf, orRefused, stateInRange}
 use Rattle.bench.specs.Deliveries.{refusedBy}
 use Rattle.bench.specs.Answers.{found, portIn, portOf, hopIn, pathOf}
 use Rattle.bench.specs.Whole.{Represents}
@@ -116,7 +116,7 @@ module _ (s : State) (n : Network) (r : Represents s n) where
   asked : (c : Call) → refusalOf (stateInRange s) (network s) c ≡ refuse n c
   asked c = refusal-same s n r (stateInRange s) c (network-ready s inside)
 
-  pub port-answered : (y d : ℕ) → portOf s y d ≡ settled (refuse n (calls.port y d)) refusedBy (says (ports.portOf n y d))
+  pub port-answered : (y d : ℕ) → portOf s y d ≡ orRefused (refuse n (calls.port y d)) refusedBy (says (ports.portOf n y d))
   unfolding portOf refuse checks
   port-answered y d =
       rw (asked (calls.port y d))
@@ -141,7 +141,7 @@ module _ (s : State) (n : Network) (r : Represents s n) where
       onward-same (hopIn s d) (hop n d) d (s .bench .bridges) (hop-same d hd) (hop-below d) (s .bench .bridges - 1) 0 y hy
       ∙ ap (λ (p : Plan). onward (hop n d) d (p .graph .bridges - 1) 0 y) (sym (r .plan))
 
-  pub path-answered : (y d : ℕ) → pathOf s y d ≡ settled (refuse n (calls.path y d)) refusedBy (says (path n y d))
+  pub path-answered : (y d : ℕ) → pathOf s y d ≡ orRefused (refuse n (calls.path y d)) refusedBy (says (path n y d))
   unfolding pathOf refuse checks
   path-answered y d =
       rw (asked (calls.path y d))

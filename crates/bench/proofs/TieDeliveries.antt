@@ -9,7 +9,7 @@ use Rattle.bench.specs.Net.{Network, sender}
 use Rattle.bench.specs.Calls.{Check, deliver, repeat, refusal, noMessage, refuse, act, step, messageAt, answerAt, checks}
 use Rattle.bench.specs.Calls as calls
 use Rattle.bench.specs.State.{State, messageFrom}
-use Rattle.bench.specs.Changes.{settled}
+use Rattle.bench.specs.Changes.{orRefused}
 use Rattle.bench.specs.Deliveries.{Delivered, refusedBy, deliveryReady, deliveryRefused, receivedAt, received, repeatOf, deliverOf}
 use Rattle.bench.specs.Whole.{Represents, stepBy}
 use Rattle.bench.proofs.CallSteps.{withDelivered}
@@ -55,13 +55,13 @@ module _ (s : State) (n : Network) (r : Represents s n) (p : ℕ) where
       rw (same-message-at s n r p h)
       (received-answer s (told s (r .inRange)) (opposite (sender (messageFrom (s .messages) p))) (omega (arith, inside .link, inside .direction)) _ inside n r)
 
-  pub repeat-replied : repeatOf s p .reply ≡ settled (refuse n (repeat p)) refusedBy (says (answerAt n p))
+  pub repeat-replied : repeatOf s p .reply ≡ orRefused (refuse n (repeat p)) refusedBy (says (answerAt n p))
   unfolding repeatOf refuse checks
   repeat-replied =
       rw (refusal-same s n r (deliveryReady s) (repeat p) (r .inRange))
       (settled-same (λ (o : Delivered). o .reply) (refuse n (repeat p)) (deliveryRefused s) refusedBy _ _ refl (λ e. placed-answer (placed _ e)))
 
-  pub deliver-replied : deliverOf s p .reply ≡ settled (refuse n (deliver p)) refusedBy (says (answerAt n p))
+  pub deliver-replied : deliverOf s p .reply ≡ orRefused (refuse n (deliver p)) refusedBy (says (answerAt n p))
   unfolding deliverOf refuse checks
   deliver-replied =
       rw (refusal-same s n r (deliveryReady s) (deliver p) (r .inRange))

@@ -8,7 +8,7 @@ use Rattle.distances.proofs.Refusals.{First.here, first, later}
 use Rattle.bench.specs.Net.{Network}
 use Rattle.bench.specs.Calls.{Call, checks, refuse, accepted, act, step}
 use Rattle.bench.specs.State.{State}
-use Rattle.bench.specs.Changes.{refusalOf, settled}
+use Rattle.bench.specs.Changes.{refusalOf, orRefused}
 use Rattle.bench.specs.Whole.{Represents}
 
 -- out of range: 17
@@ -26,7 +26,7 @@ pub settled-same :
     {A B : Type 0} (reply : A → B) (k : ℕ) (refused : ℕ → A) (other : ℕ → B) (done : A) (value : B) →
     reply (refused k) ≡ other k →
     (k ≡ 0 → reply done ≡ value) →
-    reply (settled k refused done) ≡ settled k other value
+    reply (orRefused k refused done) ≡ orRefused k other value
 settled-same reply k refused other done value refuses does = go (eqb k 0) refl
   where
     go : (b : Bool) → eqb k 0 ≡ b → reply (cond b done (refused k)) ≡ cond b value (other k)
@@ -40,7 +40,7 @@ pub settled-step :
     k ≡ refuse n c →
     ((m : ℕ) → Represents (next (refused m)) n) →
     (accepted n c ≡ true → Represents (next done) (act n c)) →
-    Represents (next (settled k refused done)) (step n c)
+    Represents (next (orRefused k refused done)) (step n c)
 unfolding step accepted
 settled-step next n c k refused done same stays goes = rw same (go (eqb (refuse n c) 0) refl)
   where

@@ -15,7 +15,7 @@ use Rattle.bench.specs.Ports.{Hop, hopBy}
 use Rattle.bench.specs.Paths.{onward}
 use Rattle.bench.specs.Paths as paths
 use Rattle.bench.specs.State.{State, network, lentView, part}
-use Rattle.bench.specs.Changes.{refusalOf, settled, stateInRange}
+use Rattle.bench.specs.Changes.{refusalOf, orRefused, stateInRange}
 use Rattle.bench.specs.Deliveries.{refusedBy}
 use Rattle.bench.specs.declared.Bench.{Bench}
 use Rattle.bench.specs.declared.Forwarding.{Forwarding}
@@ -46,7 +46,7 @@ portIn s y d =
 -- The forwarding port of bridge y for destination d
 unfoldable pub portOf : State → ℕ → ℕ → Said Port
 portOf s y d =
-    settled (refusalOf (stateInRange s) (network s) (calls.port y d)) refusedBy (says (portIn s y d))
+    orRefused (refusalOf (stateInRange s) (network s) (calls.port y d)) refusedBy (says (portIn s y d))
 
 -- The report of destination d: for each bridge below k its distance in its own view and its link, NONE for no port
 abbrev pub linkNumber : Port → ℕ
@@ -74,7 +74,7 @@ report reply rows = record { reply = reply; rows = rows }
 
 unfoldable pub reportOf : State → ℕ → List ℕ → Reported
 reportOf s d rows =
-    settled (refusalOf (stateInRange s && leb 32 (length rows)) (network s) (calls.report d)) (λ k. report k rows)
+    orRefused (refusalOf (stateInRange s && leb 32 (length rows)) (network s) (calls.report d)) (λ k. report k rows)
     (report 0 (reported s d (s .bench .bridges) rows))
 
 -- The path from bridge y to destination d, by the ports found
@@ -83,5 +83,5 @@ hopIn s d y = hopBy (graphOf (s .bench .bridges) (s .bench .links) (s .bench .en
 
 unfoldable pub pathOf : State → ℕ → ℕ → Said paths.Way
 pathOf s y d =
-    settled (refusalOf (stateInRange s) (network s) (calls.path y d)) refusedBy
+    orRefused (refusalOf (stateInRange s) (network s) (calls.path y d)) refusedBy
     (says (onward (hopIn s d) d (s .bench .bridges - 1) 0 y))

@@ -99,7 +99,7 @@ withRecords n r = record { plan = n .plan; view = n .view; number = n .number; r
 abbrev pub withMessages : Network → List Message → Network
 withMessages n ms = record { plan = n .plan; view = n .view; number = n .number; records = n .records; messages = ms }
 
--- Update of bridge b to view t: nothing changes where t is the present view
+-- Update of bridge b to view t, which is not the present one: its number rises by one, and each of its ends is updated
 unfoldable pub moved : Network → ℕ → ℕ → Network
 moved n b t =
     record {
@@ -121,6 +121,7 @@ moved n b t =
       messages = n .messages;
     }
 
+-- "If t is the present view, nothing changes"
 unfoldable pub updatedTo : Network → ℕ → ℕ → Network
 updatedTo n b t = cond (eqb (n .view b) t) n (moved n b t)
 

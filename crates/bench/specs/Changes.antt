@@ -38,8 +38,8 @@ abbrev pub changed : ℕ → Bench → Changed
 changed reply bench = record { reply = reply; bench = bench }
 
 -- refused: the old one
-abbrev pub settled : {A : Type 0} → ℕ → (ℕ → A) → A → A
-settled k refused done = cond (eqb k 0) done (refused k)
+abbrev pub orRefused : {A : Type 0} → ℕ → (ℕ → A) → A → A
+orRefused k refused done = cond (eqb k 0) done (refused k)
 
 -- Cut and restore
 abbrev pub benchWithCut : Bench → ℕ → Bool → Bench
@@ -58,11 +58,11 @@ benchWithCut b l so =
 
 unfoldable pub cutOf : Bench → ℕ → Changed
 cutOf b l =
-    settled (refusalOf (benchInRange b) (networkOf b []) (change (cut l))) (λ k. changed k b) (changed 0 (benchWithCut b l true))
+    orRefused (refusalOf (benchInRange b) (networkOf b []) (change (cut l))) (λ k. changed k b) (changed 0 (benchWithCut b l true))
 
 unfoldable pub restoreOf : Bench → ℕ → Changed
 restoreOf b l =
-    settled (refusalOf (benchInRange b) (networkOf b []) (change (restore l))) (λ k. changed k b) (changed 0 (benchWithCut b l false))
+    orRefused (refusalOf (benchInRange b) (networkOf b []) (change (restore l))) (λ k. changed k b) (changed 0 (benchWithCut b l false))
 
 -- one end's record, and the limit tables
 pub record Ended : Type 0 where
@@ -133,7 +133,7 @@ stateInRange s = networkInRange (s .bench) (s .costs) (length (s .tables)) (leng
 unfoldable pub updateOf : State → ℕ → ℕ → Rewritten
 updateOf s y t =
     let b : Bench = s .bench in
-    settled (refusalOf (stateInRange s) (network s) (change (update y t))) (λ k. rewritten k b (s .sent) (s .held))
+    orRefused (refusalOf (stateInRange s) (network s) (change (update y t))) (λ k. rewritten k b (s .sent) (s .held))
     (cond (eqb (getD (b .view) y 0) t) (rewritten 0 b (s .sent) (s .held))
     (movedBench b y t
     (movedEnds (lentView b (s .costs) (s .tables) t) (b .views) y t (2 * b .links) (ends (b .records) (s .sent) (s .held)))))

@@ -13,7 +13,7 @@ use Rattle.bench.specs.Net.{sender}
 use Rattle.bench.specs.Calls.{Call, deliver, repeat}
 use Rattle.bench.specs.State.{State, network, lentView, messageFrom}
 use Rattle.bench.specs.Ranges.{messagesInRange}
-use Rattle.bench.specs.Changes.{refusalOf, settled, stateInRange}
+use Rattle.bench.specs.Changes.{refusalOf, orRefused, stateInRange}
 use Rattle.bench.specs.Flights.{withCount, takenOut}
 use Rattle.bench.specs.declared.Bench.{Bench}
 use Rattle.bench.specs.declared.Reaction.{Reaction}
@@ -76,11 +76,11 @@ abbrev pub deliveryRefused : State → ℕ → Delivered
 deliveryRefused s k = delivered (refusedBy k) (s .bench) (s .sent) (s .held) (s .messages)
 
 unfoldable pub repeatOf : State → ℕ → Delivered
-repeatOf s p = settled (refusalOf (deliveryReady s) (network s) (repeat p)) (deliveryRefused s) (received s p)
+repeatOf s p = orRefused (refusalOf (deliveryReady s) (network s) (repeat p)) (deliveryRefused s) (received s p)
 
 unfoldable pub deliverOf : State → ℕ → Delivered
 deliverOf s p =
     let r : Delivered = received s p in
     let count : ℕ = s .bench .messages in
-    settled (refusalOf (deliveryReady s) (network s) (deliver p)) (deliveryRefused s)
+    orRefused (refusalOf (deliveryReady s) (network s) (deliver p)) (deliveryRefused s)
     (delivered (r .reply) (withCount (r .bench) (count - 1)) (r .sent) (r .held) (takenOut count p (s .messages)))

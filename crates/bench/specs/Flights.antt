@@ -11,7 +11,7 @@ use Rattle.bench.specs.Net.{Message}
 use Rattle.bench.specs.Calls.{Call, send, lose, messageOf}
 use Rattle.bench.specs.State.{networkOf}
 use Rattle.bench.specs.Ranges.{benchInRange, messagesInRange}
-use Rattle.bench.specs.Changes.{refusalOf, settled}
+use Rattle.bench.specs.Changes.{refusalOf, orRefused}
 use Rattle.bench.specs.declared.Bench.{Bench}
 
 -- a message's five numbers
@@ -49,10 +49,10 @@ flown reply bench messages = record { reply = reply; bench = bench; messages = m
 
 unfoldable pub sendOf : Bench → List ℕ → ℕ → ℕ → Flown
 sendOf b m y l =
-    settled (refusalOf (benchInRange b && messagesInRange b m) (networkOf b m) (send y l)) (λ k. flown k b m)
+    orRefused (refusalOf (benchInRange b && messagesInRange b m) (networkOf b m) (send y l)) (λ k. flown k b m)
     (flown 0 (withCount b (b .messages + 1)) (sets m (5 * b .messages) (numbersOf (messageOf (networkOf b m) y l))))
 
 unfoldable pub loseOf : Bench → List ℕ → ℕ → Flown
 loseOf b m p =
-    settled (refusalOf (benchInRange b && messagesInRange b m) (networkOf b m) (lose p)) (λ k. flown k b m)
+    orRefused (refusalOf (benchInRange b && messagesInRange b m) (networkOf b m) (lose p)) (λ k. flown k b m)
     (flown 0 (withCount b (b .messages - 1)) (takenOut (b .messages) p m))

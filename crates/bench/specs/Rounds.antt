@@ -55,15 +55,15 @@ isSendFrom n e (report d) = false
 isSendFrom n e (path s d) = false
 
 -- some accepted send of the list is from end e, and its message is delivered later in the list
-unfoldable pub isHeard : Network → List Call → ℕ → Bool
-isHeard n [] e = false
-isHeard n (c ∷ cs) e = isSendFrom n e c && isDelivered (step n c) cs (length (n .messages)) || isHeard (step n c) cs e
+unfoldable pub isSentAndDelivered : Network → List Call → ℕ → Bool
+isSentAndDelivered n [] e = false
+isSentAndDelivered n (c ∷ cs) e = isSendFrom n e c && isDelivered (step n c) cs (length (n .messages)) || isSentAndDelivered (step n c) cs e
 
 -- the list holds a "round": every bridge sends over each of its uncut links, and all those messages are delivered
 unfoldable pub hasRound : Network → List Call → Bool
-hasRound n cs = allBelow (n .plan .graph .links) (λ l. n .records .cut l || isHeard n cs (2 * l) && isHeard n cs (2 * l + 1))
+hasRound n cs = allBelow (n .plan .graph .links) (λ l. n .records .cut l || isSentAndDelivered n cs (2 * l) && isSentAndDelivered n cs (2 * l + 1))
 
--- the list has no accepted update, cut or restore
+-- update, cut and restore
 unfoldable pub isChange : Call → Bool
 isChange (change x) = true
 isChange (send b l) = false
@@ -74,6 +74,7 @@ isChange (port b d) = false
 isChange (report d) = false
 isChange (path s d) = false
 
+-- the list has no accepted update, cut or restore
 unfoldable pub hasNoChange : Network → List Call → Bool
 hasNoChange n [] = true
 hasNoChange n (c ∷ cs) = not (isChange c && accepted n c) && hasNoChange (step n c) cs

@@ -14,7 +14,7 @@ use Rattle.bench.specs.Ports.{ownDistance}
 use Rattle.bench.specs.Ports as ports
 use Rattle.bench.specs.Paths as paths
 use Rattle.bench.specs.State.{State, state, network, part}
-use Rattle.bench.specs.Changes.{settled, cutOf, restoreOf, updateOf, freshOf}
+use Rattle.bench.specs.Changes.{orRefused, cutOf, restoreOf, updateOf, freshOf}
 use Rattle.bench.specs.Flights.{sendOf, loseOf}
 use Rattle.bench.specs.Deliveries.{refusedBy, deliveryReady, deliverOf, repeatOf}
 use Rattle.bench.specs.Answers.{portOf, linkNumber, reportOf, pathOf}
@@ -86,10 +86,10 @@ pub record Answers (s : State) (n : Network) : Type 0 where
   pub restoreReply : (l : ℕ) → restoreOf (s .bench) l .reply ≡ refuse n (change (restore l))
   pub sendReply : (y l : ℕ) → sendOf (s .bench) (s .messages) y l .reply ≡ refuse n (send y l)
   pub loseReply : (p : ℕ) → loseOf (s .bench) (s .messages) p .reply ≡ refuse n (lose p)
-  pub deliverReply : (p : ℕ) → deliverOf s p .reply ≡ settled (refuse n (deliver p)) refusedBy (says (answerAt n p))
-  pub repeatReply : (p : ℕ) → repeatOf s p .reply ≡ settled (refuse n (repeat p)) refusedBy (says (answerAt n p))
-  pub portReply : (y d : ℕ) → portOf s y d ≡ settled (refuse n (port y d)) refusedBy (says (ports.portOf n y d))
-  pub pathReply : (y d : ℕ) → pathOf s y d ≡ settled (refuse n (path y d)) refusedBy (says (paths.path n y d))
+  pub deliverReply : (p : ℕ) → deliverOf s p .reply ≡ orRefused (refuse n (deliver p)) refusedBy (says (answerAt n p))
+  pub repeatReply : (p : ℕ) → repeatOf s p .reply ≡ orRefused (refuse n (repeat p)) refusedBy (says (answerAt n p))
+  pub portReply : (y d : ℕ) → portOf s y d ≡ orRefused (refuse n (port y d)) refusedBy (says (ports.portOf n y d))
+  pub pathReply : (y d : ℕ) → pathOf s y d ≡ orRefused (refuse n (path y d)) refusedBy (says (paths.path n y d))
   pub reportReply : (d : ℕ) (rows : List ℕ) → 32 ≤ length rows → reportOf s d rows .reply ≡ refuse n (report d)
   pub reportRows : (d : ℕ) (rows : List ℕ) → 32 ≤ length rows → refuse n (report d) ≡ 0 → (y : ℕ) → y < n .plan .graph .bridges → Reports n d y (reportOf s d rows .rows)
 

@@ -17,7 +17,8 @@ mod replies;
 mod starts;
 mod walks;
 
-// Link l joins ends[2 l] and ends[2 l + 1]; `messages` is how many are in flight.
+// Link l joins ends[2 l] and ends[2 l + 1]; `messages` is how many are in flight; `view` and `number` are each bridge's view and agreement
+// number.
 pub struct Bench {
     pub bridges: usize,
     pub links: usize,

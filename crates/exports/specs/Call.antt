@@ -1,5 +1,6 @@
 -- What each exported call of layer 2 does, for every input: its reply and every list that it may write. Each is the call of the same
--- name in `agreement`, with its values as numbers; lists too short for these are refused first. Assumes nothing.
+-- name in `agreement`, with its values as numbers; lists too short for these, and numbers that do not fit their field, are refused
+-- first. Assumes nothing.
 use Prim.Native.Nat.{ℕ}
 use mathlib.Core.Bool.{Bool, cond, _&&_}
 use mathlib.Core.List.{List, [], _∷_}
@@ -8,7 +9,19 @@ use lib.Seq.{sets}
 use lib.Dec.{eqb, leb}
 use Rattle.agreement.specs.Call.{Said, Outcome, Lent, offerOutcome, freshOutcome, updateOutcome, carryOutcome, deliverOutcome, portOutcome}
 use Rattle.agreement.specs.declared.Answer.{Answer}
-use Rattle.exports.specs.Numbers.{recordAt, messageIn, recordsIn, flagsIn, recordNumbers, messageNumbers, answerNumbers, portNumbers}
+use Rattle.exports.specs.Numbers.{
+  recordAt,
+  messageIn,
+  recordsIn,
+  flagsIn,
+  holdsRecord,
+  holdsMessage,
+  holdsRecords,
+  recordNumbers,
+  messageNumbers,
+  answerNumbers,
+  portNumbers,
+}
 
 -- a reply's number, and the lists that the call may write, afterwards
 pub record Told : Type 0 where
@@ -57,27 +70,27 @@ freshTold v e fields sent held =
 unfoldable pub updateTold : Lent → ℕ → ℕ → ℕ → List ℕ → List ℕ → List ℕ → Told
 updateTold v views t e fields sent held =
     ifLong
-    (leb 4 (length fields))
+    (holdsRecord fields)
     (fields ∷ sent ∷ held ∷ [])
     (endTold fields (updateOutcome v views t e (recordAt fields 0) sent held))
 
 unfoldable pub carryTold : ℕ → ℕ → ℕ → List ℕ → List ℕ → Told
 carryTold views t n fields out =
     ifLong
-    (leb 4 (length fields) && leb 3 (length out))
+    (holdsRecord fields && leb 3 (length out))
     (out ∷ [])
     (saidTold messageNumbers out (carryOutcome views t n (recordAt fields 0)))
 
 unfoldable pub deliverTold : Lent → ℕ → ℕ → ℕ → ℕ → List ℕ → List ℕ → List ℕ → List ℕ → List ℕ → Told
 deliverTold v views t n e fields message sent held out =
     ifLong
-    (leb 4 (length fields) && (leb 3 (length message) && leb 3 (length out)))
+    (holdsRecord fields && (holdsMessage message && leb 3 (length out)))
     (fields ∷ out ∷ sent ∷ held ∷ [])
     (deliveryTold fields out (deliverOutcome v views t n e (recordAt fields 0) (messageIn message) sent held))
 
 unfoldable pub portTold : Lent → ℕ → List ℕ → List ℕ → List ℕ → List ℕ → ℕ → ℕ → List ℕ → Told
 portTold v views cut records sent held y d out =
     ifLong
-    (leb 32 (length cut) && (leb 256 (length records) && leb 1 (length out)))
+    (leb 32 (length cut) && (holdsRecords records && leb 1 (length out)))
     (out ∷ [])
     (saidTold portNumbers out (portOutcome v views (flagsIn cut) (recordsIn records) sent held y d))

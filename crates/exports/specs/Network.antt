@@ -1,12 +1,13 @@
 -- A bench as numbers in a list, and what each exported call of layer 3 does, for every input: its reply and every list that it may
--- write. Each is the call of the same name in `bench`; lists too short for the bench or for the answer are refused first.
--- Assumes nothing.
+-- write. Each is the call of the same name in `bench`; a list too short for the bench or for the answer, and a number that does not
+-- fit its field, are refused first. Assumes nothing.
 use Prim.Native.Nat.{ℕ, _+_, _-_, _*_, _/_, _%_}
 use mathlib.Core.Bool.{Bool, false, cond, _&&_}
 use mathlib.Core.List.{List, [], _∷_}
 use lib.ListN.{length, getD, take, drop}
 use lib.Dec.{eqb, leb, ltb}
 use Rattle.distances.specs.Table.{rewritten}
+use Rattle.distances.specs.Call.{allBelow}
 use Rattle.agreement.specs.Record.{freshRecord}
 use Rattle.agreement.specs.Call.{Said}
 use Rattle.agreement.specs.declared.Answer.{Answer}
@@ -17,7 +18,7 @@ use Rattle.bench.specs.Changes.{Changed, Rewritten, Started, freshOf, updateOf,
 use Rattle.bench.specs.Flights.{Flown, sendOf, loseOf}
 use Rattle.bench.specs.Deliveries.{Delivered, deliverOf, repeatOf}
 use Rattle.bench.specs.Answers.{Reported, portOf, reportOf, pathOf}
-use Rattle.exports.specs.Numbers.{isSet, listed, recordsIn, recordNumbers, answerNumbers, portNumbers}
+use Rattle.exports.specs.Numbers.{isSet, listed, recordsIn, holdsRecords, recordNumbers, answerNumbers, portNumbers}
 use Rattle.exports.specs.Call.{Told, told, ifLong, withValue, saidTold}
 
 -- ---- a bench in 388 numbers
@@ -39,6 +40,15 @@ benchIn xs =
       records = recordsIn (take 256 (drop 100 xs));
       cut = each 32 356 isSet xs;
     }
+
+-- each of the n numbers from place k on is below the limit
+abbrev pub eachBelow : ℕ → ℕ → ℕ → List ℕ → Bool
+eachBelow n k limit xs = allBelow n (λ i. ltb (getD xs (k + i) 0) limit)
+
+-- there are 388 numbers, and each fits its field: ends and views have 8 bits, agreement numbers 16; any number fits a count or a flag
+abbrev pub holdsBench : List ℕ → Bool
+holdsBench xs =
+    leb 388 (length xs) && (eachBelow 80 4 256 xs && (eachBelow 16 84 65536 xs && holdsRecords (take 256 (drop 100 xs))))
 
 -- a count as a number of 32 bits
 abbrev pub low : ℕ → ℕ
@@ -102,10 +112,6 @@ reportedTold o = told (o .reply) (o .rows ∷ [])
 abbrev pub wayNumbers : paths.Way → List ℕ
 wayNumbers (paths.delivered hops) = 0 ∷ 0 ∷ low hops ∷ []
 wayNumbers (paths.stops last hops) = 1 ∷ low last ∷ low hops ∷ []
-
--- is there room for a bench
-abbrev pub holdsBench : List ℕ → Bool
-holdsBench xs = leb 388 (length xs)
 
 unfoldable pub netFreshTold : List ℕ → List ℕ → List ℕ → List ℕ → List ℕ → Told
 netFreshTold xs costs tables sent held =

@@ -1,11 +1,12 @@
--- Records, messages, answers and ports as numbers in lists. A number beyond a field's width is taken modulo 65,536 or 256, and any
--- number but 0 stands for true. Assumes nothing.
+-- Records, messages, answers and ports as numbers in lists. Views have 8 bits and other numbers 16; any number but 0 stands for true.
+-- A list holds a record or a message where each number fits its field, and there the remainders change nothing. Assumes nothing.
 use Prim.Native.Nat.{ℕ, zero, suc, _+_, _*_, _%_}
-use mathlib.Core.Bool.{Bool, cond, not}
+use mathlib.Core.Bool.{Bool, cond, _&&_, not}
 use mathlib.Core.List.{List, [], _∷_, _++_}
-use lib.ListN.{getD}
-use lib.Dec.{eqb}
+use lib.ListN.{length, getD}
+use lib.Dec.{eqb, leb, ltb}
 use Rattle.distances.specs.View.{NONE}
+use Rattle.distances.specs.Call.{allBelow}
 use Rattle.agreement.specs.declared.EndRecord.{EndRecord}
 use Rattle.agreement.specs.declared.Agreement.{Agreement}
 use Rattle.agreement.specs.declared.Answer.{Answer}
@@ -27,9 +28,21 @@ recordAt xs k =
       holding = isSet (getD xs (k + 3) 0);
     }
 
+-- do they fit their fields
+unfoldable pub recordFits : List ℕ → ℕ → Bool
+recordFits xs k = ltb (getD xs k 0) 65536 && (ltb (getD xs (k + 1) 0) 256 && ltb (getD xs (k + 2) 0) 65536)
+
+-- does the list begin with a record
+abbrev pub holdsRecord : List ℕ → Bool
+holdsRecord xs = leb 4 (length xs) && recordFits xs 0
+
 -- the message in the first three numbers
 unfoldable pub messageIn : List ℕ → Agreement
 messageIn xs = record { view = getD xs 0 0 % 256; number = getD xs 1 0 % 65536; discarded = getD xs 2 0 % 65536 }
+
+-- does the list begin with a message
+abbrev pub holdsMessage : List ℕ → Bool
+holdsMessage xs = leb 3 (length xs) && (ltb (getD xs 0 0) 256 && (ltb (getD xs 1 0) 65536 && ltb (getD xs 2 0) 65536))
 
 -- f of each number below n
 unfoldable pub listed : {A : Type 0} → ℕ → (ℕ → A) → List A
@@ -42,6 +55,10 @@ recordsIn xs = listed 64 (λ e. recordAt xs (4 * e))
 
 abbrev pub flagsIn : List ℕ → List Bool
 flagsIn xs = listed 32 (λ l. isSet (getD xs l 0))
+
+-- does the list begin with 64 records
+abbrev pub holdsRecords : List ℕ → Bool
+holdsRecords xs = leb 256 (length xs) && allBelow 64 (λ e. recordFits xs (4 * e))
 
 -- the numbers of each
 abbrev pub recordNumbers : EndRecord → List ℕ

@@ -1,14 +1,15 @@
 // A bench as 388 numbers: the counts of bridges, links, views and messages in flight, then ends (64), view (16), number (16), four
-// numbers for each of 64 records, and cut (32). A number beyond a field's width is taken modulo 65,536 or 256, and any number but 0
-// stands for true.
+// numbers for each of 64 records, and cut (32). Any number but 0 stands for true. A list holds a bench where each number fits its
+// field, and there the remainders change nothing.
 use crate::numbers;
 use agreement::EndRecord;
 use bench::Bench;
+use distances::ready::both;
 ghost use mathlib.Core.Path.{_≡_};
-ghost use Prim.Native.Nat.{_%_, _≤_, _<_};
+ghost use Prim.Native.Nat.{_+_, _%_, _≤_, _<_};
 ghost use lib.ListN.{length, getD};
 ghost use Rattle.exports.specs.Numbers.{isSet, recordNumbers};
-ghost use Rattle.exports.specs.Network.{each, low, benchIn, countAt, numberAt, stored};
+ghost use Rattle.exports.specs.Network.{each, eachBelow, holdsBench, low, benchIn, countAt, numberAt, stored};
 
 fn ends_in(numbers: &[u32]) -> [u8; 64]
     requires { ⌜ 388 ≤ length (now numbers) ⌝ }
@@ -82,6 +83,32 @@ pub(crate) fn load(numbers: &[u32]) -> Bench
         records,
         cut,
     }
+}
+
+fn each_below(numbers: &[u32], count: usize, first: usize, limit: u32) -> bool
+    requires { ⌜ first + count ≤ length (now numbers) ⌝ }
+    ensures { λ r. ⌜ r ≡ eachBelow count first limit (now (numbers .entry)) ⌝ }
+{
+    let mut ok = true;
+    let mut k = 0;
+    while k < count {
+        ok = both(ok, numbers[first + k] < limit);
+        k += 1;
+    }
+    ok
+}
+
+// Are there the numbers of a bench, and does each fit its field?
+pub(crate) fn holds(numbers: &[u32]) -> bool
+    ensures { λ r. ⌜ r ≡ holdsBench (now (numbers .entry)) ⌝ }
+{
+    if numbers.len() < 388 {
+        return false;
+    }
+    let narrow = each_below(numbers, 80, 4, 256);
+    let wide = each_below(numbers, 16, 84, 65536);
+    let records = numbers::holds_records(&numbers[100..356]);
+    both(narrow, both(wide, records))
 }
 
 pub(crate) fn low_of(number: usize) -> u32

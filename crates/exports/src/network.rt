@@ -1,5 +1,5 @@
 // The public calls of layer 3 over numbers, a bench as `benches` has it. Each answers document 01's number, 0 where nothing is refused;
-// a refused call changes nothing. A list too short for a bench or for the answer is refused with 17.
+// a refused call changes nothing. A list that does not hold a bench, or is too short for the answer, is refused with 17.
 use crate::benches;
 use crate::numbers;
 use bench::Changed;
@@ -10,7 +10,6 @@ use bench::Reply;
 use bench::Way;
 use bench::answers;
 use bench::changes;
-use distances::ready::both;
 ghost use mathlib.Core.Path.{_≡_};
 ghost use mathlib.Core.List.{[], _∷_};
 ghost use Prim.Native.Nat.{_≤_};
@@ -70,7 +69,7 @@ pub extern "C" fn bench_net_fresh(
 ) -> u8
     ensures { λ r. ⌜ told r (now (bench .exit) ∷ now (tables .exit) ∷ now (sent .exit) ∷ now (held .exit) ∷ []) ≡ netFreshTold (now (bench .entry)) (now (costs .entry)) (now (tables .entry)) (now (sent .entry)) (now (held .entry)) ⌝ }
 {
-    if bench.len() < 388 {
+    if !benches::holds(bench) {
         return 17;
     }
     let old = benches::load(bench);
@@ -91,7 +90,7 @@ pub extern "C" fn bench_net_update(
 ) -> u8
     ensures { λ r. ⌜ told r (now (bench .exit) ∷ now (sent .exit) ∷ now (held .exit) ∷ []) ≡ netUpdateTold (now (bench .entry)) (now (costs .entry)) (now (tables .entry)) (now (sent .entry)) (now (held .entry)) bridge view ⌝ }
 {
-    if bench.len() < 388 {
+    if !benches::holds(bench) {
         return 17;
     }
     let old = benches::load(bench);
@@ -104,7 +103,7 @@ pub extern "C" fn bench_net_update(
 pub extern "C" fn bench_net_cut(bench: &mut [u32], link: usize) -> u8
     ensures { λ r. ⌜ told r (now (bench .exit) ∷ []) ≡ netCutTold (now (bench .entry)) link ⌝ }
 {
-    if bench.len() < 388 {
+    if !benches::holds(bench) {
         return 17;
     }
     let old = benches::load(bench);
@@ -117,7 +116,7 @@ pub extern "C" fn bench_net_cut(bench: &mut [u32], link: usize) -> u8
 pub extern "C" fn bench_net_restore(bench: &mut [u32], link: usize) -> u8
     ensures { λ r. ⌜ told r (now (bench .exit) ∷ []) ≡ netRestoreTold (now (bench .entry)) link ⌝ }
 {
-    if bench.len() < 388 {
+    if !benches::holds(bench) {
         return 17;
     }
     let old = benches::load(bench);
@@ -135,7 +134,7 @@ pub extern "C" fn bench_net_send(
 ) -> u8
     ensures { λ r. ⌜ told r (now (bench .exit) ∷ now (messages .exit) ∷ []) ≡ netSendTold (now (bench .entry)) (now (messages .entry)) bridge link ⌝ }
 {
-    if bench.len() < 388 {
+    if !benches::holds(bench) {
         return 17;
     }
     let old = benches::load(bench);
@@ -148,7 +147,7 @@ pub extern "C" fn bench_net_send(
 pub extern "C" fn bench_net_lose(bench: &mut [u32], messages: &mut [u32], place: usize) -> u8
     ensures { λ r. ⌜ told r (now (bench .exit) ∷ now (messages .exit) ∷ []) ≡ netLoseTold (now (bench .entry)) (now (messages .entry)) place ⌝ }
 {
-    if bench.len() < 388 {
+    if !benches::holds(bench) {
         return 17;
     }
     let old = benches::load(bench);
@@ -170,7 +169,7 @@ pub extern "C" fn bench_net_deliver(
 ) -> u8
     ensures { λ r. ⌜ told r (now (bench .exit) ∷ now (out .exit) ∷ now (sent .exit) ∷ now (held .exit) ∷ now (messages .exit) ∷ []) ≡ netDeliverTold (now (bench .entry)) (now (costs .entry)) (now (tables .entry)) (now (sent .entry)) (now (held .entry)) (now (messages .entry)) (now (out .entry)) place ⌝ }
 {
-    if bench.len() < 388 {
+    if !benches::holds(bench) {
         return 17;
     }
     if out.len() < 3 {
@@ -195,7 +194,7 @@ pub extern "C" fn bench_net_repeat(
 ) -> u8
     ensures { λ r. ⌜ told r (now (bench .exit) ∷ now (out .exit) ∷ now (sent .exit) ∷ now (held .exit) ∷ now (messages .entry) ∷ []) ≡ netRepeatTold (now (bench .entry)) (now (costs .entry)) (now (tables .entry)) (now (sent .entry)) (now (held .entry)) (now (messages .entry)) (now (out .entry)) place ⌝ }
 {
-    if bench.len() < 388 {
+    if !benches::holds(bench) {
         return 17;
     }
     if out.len() < 3 {
@@ -220,7 +219,7 @@ pub extern "C" fn bench_net_port(
 ) -> u8
     ensures { λ r. ⌜ told r (now (out .exit) ∷ []) ≡ netPortTold (now (bench .entry)) (now (costs .entry)) (now (tables .entry)) (now (sent .entry)) (now (held .entry)) bridge dest (now (out .entry)) ⌝ }
 {
-    if bench.len() < 388 {
+    if !benches::holds(bench) {
         return 17;
     }
     if out.len() < 1 {
@@ -250,7 +249,7 @@ pub extern "C" fn bench_net_report(
 ) -> u8
     ensures { λ r. ⌜ told r (now (rows .exit) ∷ []) ≡ netReportTold (now (bench .entry)) (now (costs .entry)) (now (tables .entry)) (now (sent .entry)) (now (held .entry)) dest (now (rows .entry)) ⌝ }
 {
-    if bench.len() < 388 {
+    if !benches::holds(bench) {
         return 17;
     }
     let old = benches::load(bench);
@@ -272,7 +271,7 @@ pub extern "C" fn bench_net_path(
 ) -> u8
     ensures { λ r. ⌜ told r (now (out .exit) ∷ []) ≡ netPathTold (now (bench .entry)) (now (costs .entry)) (now (tables .entry)) (now (sent .entry)) (now (held .entry)) start dest (now (out .entry)) ⌝ }
 {
-    if bench.len() < 388 {
+    if !benches::holds(bench) {
         return 17;
     }
     if out.len() < 3 {

@@ -1,17 +1,18 @@
-// Records, messages, answers and ports as numbers in lent slices. A number beyond a field's width is taken modulo 65,536 or 256, and
-// any number but 0 stands for true.
+// Records, messages, answers and ports as numbers in lent slices. Views have 8 bits and other numbers 16; any number but 0 stands for
+// true. A list holds a record or a message where each number fits its field, and there the remainders change nothing.
 use agreement::Agreement;
 use agreement::Answer;
 use agreement::EndRecord;
 use agreement::Port;
 use agreement::calls;
+use distances::ready::both;
 ghost use mathlib.Core.Path.{_≡_};
 ghost use mathlib.Core.Bool.{cond};
 ghost use mathlib.Core.List.{[], _∷_};
 ghost use Prim.Native.Nat.{_+_, _≤_};
 ghost use lib.ListN.{length};
 ghost use lib.Seq.{sets};
-ghost use Rattle.exports.specs.Numbers.{isSet, recordAt, messageIn, recordsIn, flagsIn, recordNumbers, messageNumbers, answerNumbers, portNumbers};
+ghost use Rattle.exports.specs.Numbers.{isSet, recordAt, messageIn, recordsIn, flagsIn, recordFits, holdsRecord, holdsMessage, holdsRecords, recordNumbers, messageNumbers, answerNumbers, portNumbers};
 
 const NONE: u32 = 4294967295;
 
@@ -28,6 +29,25 @@ pub(crate) fn record_at(numbers: &[u32], first: usize) -> EndRecord
     }
 }
 
+fn record_fits(numbers: &[u32], first: usize) -> bool
+    requires { ⌜ first + 4 ≤ length (now numbers) ⌝ }
+    ensures { λ r. ⌜ r ≡ recordFits (now (numbers .entry)) first ⌝ }
+{
+    both(
+        numbers[first] < 65536,
+        both(numbers[first + 1] < 256, numbers[first + 2] < 65536),
+    )
+}
+
+pub(crate) fn holds_record(numbers: &[u32]) -> bool
+    ensures { λ r. ⌜ r ≡ holdsRecord (now (numbers .entry)) ⌝ }
+{
+    if numbers.len() < 4 {
+        return false;
+    }
+    record_fits(numbers, 0)
+}
+
 // The message in three numbers: view, number, discarded.
 pub(crate) fn message_in(numbers: &[u32]) -> Agreement
     requires { ⌜ 3 ≤ length (now numbers) ⌝ }
@@ -38,6 +58,18 @@ pub(crate) fn message_in(numbers: &[u32]) -> Agreement
         number: (numbers[1] % 65536) as u16,
         discarded: (numbers[2] % 65536) as u16,
     }
+}
+
+pub(crate) fn holds_message(numbers: &[u32]) -> bool
+    ensures { λ r. ⌜ r ≡ holdsMessage (now (numbers .entry)) ⌝ }
+{
+    if numbers.len() < 3 {
+        return false;
+    }
+    both(
+        numbers[0] < 256,
+        both(numbers[1] < 65536, numbers[2] < 65536),
+    )
 }
 
 // The records of 64 ends, four numbers each.
@@ -52,6 +84,21 @@ pub(crate) fn records_in(numbers: &[u32]) -> [EndRecord; 64]
         e += 1;
     }
     records
+}
+
+pub(crate) fn holds_records(numbers: &[u32]) -> bool
+    ensures { λ r. ⌜ r ≡ holdsRecords (now (numbers .entry)) ⌝ }
+{
+    if numbers.len() < 256 {
+        return false;
+    }
+    let mut ok = true;
+    let mut e = 0;
+    while e < 64 {
+        ok = both(ok, record_fits(numbers, 4 * e));
+        e += 1;
+    }
+    ok
 }
 
 pub(crate) fn is_set(number: u8) -> bool

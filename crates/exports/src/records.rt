@@ -1,6 +1,6 @@
 // The public calls of layer 2 over numbers: a record is four numbers (received, view, discarded, holding), a message three (view,
-// number, discarded). A number beyond a field's width is taken modulo 65,536 or 256, and any number but 0 stands for true.
-// Each answers 17 where it refuses and 0 where it does not; a refused call changes nothing.
+// number, discarded); any number but 0 stands for true. Each answers 17 where it refuses, also where a number does not fit its field,
+// and 0 where it does not; a refused call changes nothing.
 use crate::numbers;
 use agreement::Carrying;
 use agreement::Forwarding;
@@ -8,7 +8,6 @@ use agreement::Offered;
 use agreement::Reaction;
 use agreement::Reply;
 use agreement::calls;
-use distances::ready::both;
 ghost use mathlib.Core.Path.{_≡_};
 ghost use mathlib.Core.List.{[], _∷_};
 ghost use Rattle.agreement.specs.Call.{lent};
@@ -87,7 +86,7 @@ pub extern "C" fn bench_update_end(
 ) -> u8
     ensures { λ r. ⌜ told r (now (fields .exit) ∷ now (sent .exit) ∷ now (held .exit) ∷ []) ≡ updateTold (lent bridges links (now (ends .entry)) (now (costs .entry)) (now (table .entry))) views view end (now (fields .entry)) (now (sent .entry)) (now (held .entry)) ⌝ }
 {
-    if fields.len() < 4 {
+    if !numbers::holds_record(fields) {
         return 17;
     }
     let old = numbers::record_at(fields, 0);
@@ -125,7 +124,10 @@ pub extern "C" fn bench_carry(
 ) -> u8
     ensures { λ r. ⌜ told r (now (out .exit) ∷ []) ≡ carryTold views view number (now (fields .entry)) (now (out .entry)) ⌝ }
 {
-    if !both(4 <= fields.len(), 3 <= out.len()) {
+    if !numbers::holds_record(fields) {
+        return 17;
+    }
+    if out.len() < 3 {
         return 17;
     }
     let old = numbers::record_at(fields, 0);
@@ -159,7 +161,13 @@ pub extern "C" fn bench_deliver_end(
 ) -> u8
     ensures { λ r. ⌜ told r (now (fields .exit) ∷ now (out .exit) ∷ now (sent .exit) ∷ now (held .exit) ∷ []) ≡ deliverTold (lent bridges links (now (ends .entry)) (now (costs .entry)) (now (table .entry))) views view number end (now (fields .entry)) (now (message .entry)) (now (sent .entry)) (now (held .entry)) (now (out .entry)) ⌝ }
 {
-    if !both(4 <= fields.len(), both(3 <= message.len(), 3 <= out.len())) {
+    if !numbers::holds_record(fields) {
+        return 17;
+    }
+    if !numbers::holds_message(message) {
+        return 17;
+    }
+    if out.len() < 3 {
         return 17;
     }
     let old = numbers::record_at(fields, 0);
@@ -210,7 +218,13 @@ pub extern "C" fn bench_port(
 ) -> u8
     ensures { λ r. ⌜ told r (now (out .exit) ∷ []) ≡ portTold (lent bridges links (now (ends .entry)) (now (costs .entry)) (now (table .entry))) views (now (cut .entry)) (now (records .entry)) (now (sent .entry)) (now (held .entry)) bridge dest (now (out .entry)) ⌝ }
 {
-    if !both(32 <= cut.len(), both(256 <= records.len(), 1 <= out.len())) {
+    if cut.len() < 32 {
+        return 17;
+    }
+    if !numbers::holds_records(records) {
+        return 17;
+    }
+    if out.len() < 1 {
         return 17;
     }
     let flags = numbers::flags_in(cut);

@@ -8,3 +8,6 @@ pub mod RunFuel
 pub mod RunEvents
 pub mod RunSetup
 pub mod RunWhole
+pub mod FillTexts
+pub mod FillTurns
+pub mod FillLaws

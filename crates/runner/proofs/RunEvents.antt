@@ -16,7 +16,7 @@ use Rattle.plan.specs.declared.Event.{Event}
 use Rattle.plan.specs.declared.Field.{Field}
 use Rattle.plan.specs.declared.Read.{Read}
 use Rattle.plan.proofs.Laws.{Told, field-told}
-use Rattle.runner.specs.Desk.{Desk, stateOn, progressOf}
+use Rattle.runner.specs.Buffers.{Buffers, stateOn, progressOf}
 use Rattle.runner.specs.Events.{callOf, replyOf}
 use Rattle.runner.specs.Turns.{Turn, lastTurn, eventTurn, fieldTurn, opened, stepOf}
 use Rattle.runner.specs.Whole.{Place, place, stateAt, callRead, calls, leaves}
@@ -30,17 +30,17 @@ pub record Ran (s : State) (end : Place) (cs : List Call) : Type 0 where
 
 -- what follows a turn
 abbrev pub callsAfter : ℕ → List ℕ → List Call → Turn → List Call
-callsAfter fuel rest read t = cond (t .going) (read ++ calls fuel (t .runner) (t .desk) (drop (t .used) rest)) []
+callsAfter fuel rest read t = cond (t .going) (read ++ calls fuel (t .runner) (t .buffers) (drop (t .used) rest)) []
 
 abbrev pub endAfter : ℕ → List ℕ → Turn → Place
-endAfter fuel rest t = cond (t .going) (leaves fuel (t .runner) (t .desk) (drop (t .used) rest)) (place (t .runner) (t .desk))
+endAfter fuel rest t = cond (t .going) (leaves fuel (t .runner) (t .buffers) (drop (t .used) rest)) (place (t .runner) (t .buffers))
 
 -- events from now on
 abbrev pub Follows : ℕ → Type 0
-Follows fuel = (r : Runner) (k : Desk) (rest : List ℕ) → r .stage ≡ 3 → Ran (stateOn (r .bench) k) (leaves fuel r k rest) (calls fuel r k rest)
+Follows fuel = (r : Runner) (k : Buffers) (rest : List ℕ) → r .stage ≡ 3 → Ran (stateOn (r .bench) k) (leaves fuel r k rest) (calls fuel r k rest)
 
 pub event-ran :
-    (fuel : ℕ) → Follows fuel → (s : State) (e : Event) (used : ℕ) (r : Runner) (k : Desk) (rest : List ℕ) →
+    (fuel : ℕ) → Follows fuel → (s : State) (e : Event) (used : ℕ) (r : Runner) (k : Buffers) (rest : List ℕ) →
     Ran s (endAfter fuel rest (eventTurn s e used r k)) (callsAfter fuel rest (callOf e ∷ []) (eventTurn s e used r k))
 unfolding eventTurn
 event-ran fuel follows s e used r k rest = go (eqb (replyOf s (k .rows) e) 0) refl
@@ -50,7 +50,7 @@ event-ran fuel follows s e used r k rest = go (eqb (replyOf s (k .rows) e) 0) re
     go false q = rw q (record { state = sym (run-none s); stage = refl })
 
 -- at stage 3 none but an event is read, and the network stands already
-opened-on : (r : Runner) (k : Desk) → r .stage ≡ 3 → opened r k ≡ stateOn (r .bench) k
+opened-on : (r : Runner) (k : Buffers) → r .stage ≡ 3 → opened r k ≡ stateOn (r .bench) k
 unfolding opened
 opened-on r k e = rw (ne-eqb (r .stage) 2 (omega arith))
 

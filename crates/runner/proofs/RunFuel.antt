@@ -13,7 +13,7 @@ use Rattle.plan.specs.Reading.{readReply}
 use Rattle.plan.specs.declared.Event.{Event}
 use Rattle.plan.specs.declared.Field.{Field}
 use Rattle.plan.proofs.Laws.{field-size}
-use Rattle.runner.specs.Desk.{Desk, progressOf}
+use Rattle.runner.specs.Buffers.{Buffers, progressOf}
 use Rattle.runner.specs.Events.{replyOf}
 use Rattle.runner.specs.Turns.{lastTurn, setupTurn, eventTurn, fieldTurn, stepOf}
 use Rattle.runner.specs.Plans.{prints}
@@ -22,7 +22,7 @@ use Rattle.runner.specs.declared.Runner.{Runner}
 use Rattle.runner.proofs.RunSteps.{Step, refused, ended, carried, step-is}
 
 -- the bytes of a field that goes on are those that were read
-event-used : (s : State) (e : Event) (used : ℕ) (r : Runner) (k : Desk) → eventTurn s e used r k .going ≡ true → eventTurn s e used r k .used ≡ used
+event-used : (s : State) (e : Event) (used : ℕ) (r : Runner) (k : Buffers) → eventTurn s e used r k .going ≡ true → eventTurn s e used r k .used ≡ used
 unfolding eventTurn
 event-used s e used r k = go (eqb (replyOf s (k .rows) e) 0) refl
   where
@@ -30,14 +30,14 @@ event-used s e used r k = go (eqb (replyOf s (k .rows) e) 0) refl
     go true q h = rw q
     go false q h = absurd (false≢true (rw q at h))
 
-field-used : (rest : List ℕ) (f : Field) (used : ℕ) (r : Runner) (k : Desk) → fieldTurn rest f used r k .going ≡ true → fieldTurn rest f used r k .used ≡ used
+field-used : (rest : List ℕ) (f : Field) (used : ℕ) (r : Runner) (k : Buffers) → fieldTurn rest f used r k .going ≡ true → fieldTurn rest f used r k .used ≡ used
 unfolding fieldTurn setupTurn
 field-used rest (Field.Bridges n) used r k e = refl
 field-used rest (Field.Link x y) used r k e = refl
 field-used rest Field.View used r k e = refl
 field-used rest (Field.Event v) used r k e = event-used _ v used r k e
 
-pub uses : (r : Runner) (k : Desk) (rest : List ℕ) → stepOf r k rest .going ≡ true → length (drop (stepOf r k rest .used) rest) < length rest
+pub uses : (r : Runner) (k : Buffers) (rest : List ℕ) → stepOf r k rest .going ≡ true → length (drop (stepOf r k rest .used) rest) < length rest
 unfolding lastTurn
 uses r k rest = go (step-is r k rest)
   where
@@ -52,10 +52,10 @@ pub fuel-enough : FuelEnough
 unfolding prints calls leaves setsUp
 fuel-enough r k rest zero more h g = absurd (not-suc-le-zero h)
 fuel-enough r k rest (suc fuel) zero h g = absurd (not-suc-le-zero g)
-fuel-enough r k rest (suc fuel) (suc more) h g = go (stepOf r k rest .going) refl (fuel-enough (stepOf r k rest .runner) (stepOf r k rest .desk) (drop (stepOf r k rest .used) rest) fuel more)
+fuel-enough r k rest (suc fuel) (suc more) h g = go (stepOf r k rest .going) refl (fuel-enough (stepOf r k rest .runner) (stepOf r k rest .buffers) (drop (stepOf r k rest .used) rest) fuel more)
   where
     go : (b : Bool) → stepOf r k rest .going ≡ b →
-        (length (drop (stepOf r k rest .used) rest) < fuel → length (drop (stepOf r k rest .used) rest) < more → Same fuel more (stepOf r k rest .runner) (stepOf r k rest .desk) (drop (stepOf r k rest .used) rest)) →
+        (length (drop (stepOf r k rest .used) rest) < fuel → length (drop (stepOf r k rest .used) rest) < more → Same fuel more (stepOf r k rest .runner) (stepOf r k rest .buffers) (drop (stepOf r k rest .used) rest)) →
         Same (suc fuel) (suc more) r k rest
     go true e next =
         let less = uses r k rest e in
@@ -65,20 +65,20 @@ fuel-enough r k rest (suc fuel) (suc more) h g = go (stepOf r k rest .going) ref
 
 -- what is printed from here, a step at a time: the bytes of the step, and what is printed from the next field on
 pub prints-next :
-    (r : Runner) (k : Desk) (rest : List ℕ) →
+    (r : Runner) (k : Buffers) (rest : List ℕ) →
     stepOf r k rest .going ≡ true →
     prints (suc (length rest)) r k rest
-    ≡ take (stepOf r k rest .written) (stepOf r k rest .desk .out)
-    ++ prints (suc (length (drop (stepOf r k rest .used) rest))) (stepOf r k rest .runner) (stepOf r k rest .desk) (drop (stepOf r k rest .used) rest)
+    ≡ take (stepOf r k rest .written) (stepOf r k rest .buffers .out)
+    ++ prints (suc (length (drop (stepOf r k rest .used) rest))) (stepOf r k rest .runner) (stepOf r k rest .buffers) (drop (stepOf r k rest .used) rest)
 unfolding prints
 prints-next r k rest e =
     let less = uses r k rest e in
-    let same = fuel-enough (stepOf r k rest .runner) (stepOf r k rest .desk) (drop (stepOf r k rest .used) rest) (length rest) (suc (length (drop (stepOf r k rest .used) rest))) less (omega arith) in
+    let same = fuel-enough (stepOf r k rest .runner) (stepOf r k rest .buffers) (drop (stepOf r k rest .used) rest) (length rest) (suc (length (drop (stepOf r k rest .used) rest))) less (omega arith) in
     rw (e, same .printed)
 
 pub prints-last :
-    (r : Runner) (k : Desk) (rest : List ℕ) →
+    (r : Runner) (k : Buffers) (rest : List ℕ) →
     stepOf r k rest .going ≡ false →
-    prints (suc (length rest)) r k rest ≡ take (stepOf r k rest .written) (stepOf r k rest .desk .out)
+    prints (suc (length rest)) r k rest ≡ take (stepOf r k rest .written) (stepOf r k rest .buffers .out)
 unfolding prints
 prints-last r k rest e = rw (e, append-nil)

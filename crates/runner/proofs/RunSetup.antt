@@ -22,7 +22,7 @@ use Rattle.plan.specs.Reading.{costsReply}
 use Rattle.plan.proofs.CostRows.{row-length, row-cost}
 use Rattle.plan.proofs.Laws.{ViewRead}
 use Rattle.runner.specs.Turns.{withBridges, withLink, withView, withRow}
-use Rattle.runner.specs.Plans.{firstRunner, firstDesk}
+use Rattle.runner.specs.Plans.{firstRunner, firstBuffers}
 
 -- the costs with one more row: the rows before it are as they were, and it holds what was read
 row-old : (rest : List ℕ) (b : Bench) (costs : List ℕ) (i : ℕ) → i < 32 * b .views → 32 * b .views ≤ length costs → getD (withRow rest b costs) i 0 ≡ getD costs i 0
@@ -64,7 +64,7 @@ pub record Begun (stage : ℕ) (b : Bench) (costs : List ℕ) : Type 0 where
   pub joins : (l : ℕ) → l < b .links → Joins (b .bridges) (getD (b .ends) (2 * l) 0) (getD (b .ends) (2 * l + 1) 0)
   pub cost : (t l : ℕ) → t < b .views → l < b .links → getD costs (32 * t + l) 0 ≤ 16777215
 
-pub begun-first : Begun 0 (firstRunner .bench) (firstDesk .costs)
+pub begun-first : Begun 0 (firstRunner .bench) (firstBuffers .costs)
 begun-first =
     record {
       early = omega arith;

@@ -21,26 +21,26 @@ use Rattle.plan.specs.declared.Event.{Event}
 use Rattle.plan.specs.declared.Field.{Field}
 use Rattle.plan.specs.declared.Read.{Read}
 use Rattle.plan.proofs.Laws.{Told, field-told}
-use Rattle.runner.specs.Desk.{Desk, deskLong, progressOf}
+use Rattle.runner.specs.Buffers.{Buffers, buffersLong, progressOf}
 use Rattle.runner.specs.Events.{callOf}
 use Rattle.runner.specs.Turns.{lastTurn, setupTurn, eventTurn, fieldTurn, opened, stepOf}
-use Rattle.runner.specs.Plans.{firstRunner, firstDesk}
+use Rattle.runner.specs.Plans.{firstRunner, firstBuffers}
 use Rattle.runner.specs.Whole.{Place, place, stateAt, freshAt, calls, leaves, setsUp, NoEvent, RunsFrom, PlanRuns}
 use Rattle.runner.specs.declared.Runner.{Runner}
 use Rattle.runner.proofs.RunSteps.{Step, refused, ended, carried, step-is}
 use Rattle.runner.proofs.RunEvents.{endAfter, callsAfter, event-ran, follows}
 use Rattle.runner.proofs.RunSetup.{Begun, begun-first, bridges-begun, link-begun, view-begun, begun-accepted}
 
--- the buffers of a desk that is long enough
-record Long (k : Desk) : Type 0 where
+-- buffers that are long enough
+record Long (k : Buffers) : Type 0 where
   costs : 1024 ≤ length (k .costs)
   tables : 8192 ≤ length (k .tables)
   sent : 1024 ≤ length (k .sent)
   held : 1024 ≤ length (k .held)
   messages : 320 ≤ length (k .messages)
 
-long-told : (k : Desk) → deskLong k ≡ true → Long k
-unfolding deskLong
+long-told : (k : Buffers) → buffersLong k ≡ true → Long k
+unfolding buffersLong
 long-told k e =
     let one = both-true (leb 1024 (length (k .costs))) _ e in
     let two = both-true (leb 8192 (length (k .tables))) _ (one .1) in
@@ -55,25 +55,25 @@ long-told k e =
       messages = leb-true _ _ (five .0);
     }
 
-opened-fresh : (r : Runner) (k : Desk) → r .stage ≡ 2 → opened r k ≡ freshAt (place r k)
+opened-fresh : (r : Runner) (k : Buffers) → r .stage ≡ 2 → opened r k ≡ freshAt (place r k)
 unfolding opened
 opened-fresh r k e = rw (eq-eqb (r .stage) 2 e, fresh-leaves)
 
 -- an event came, and all but demand 3 itself
 record Opens (p : Place) (end : Place) (cs : List Call) : Type 0 where
   stage : end .runner .stage ≡ 3
-  accepted : freshOf (p .runner .bench) (p .desk .costs) (p .desk .tables) (p .desk .sent) (p .desk .held) .reply ≡ 0
-  room : 320 ≤ length (p .desk .messages)
+  accepted : freshOf (p .runner .bench) (p .buffers .costs) (p .buffers .tables) (p .buffers .sent) (p .buffers .held) .reply ≡ 0
+  room : 320 ≤ length (p .buffers .messages)
   ran : stateAt end ≡ runBy (freshAt p) cs
 
 abbrev Outcome : Place → Place → List Call → Type 0
 Outcome p end cs = NoEvent end cs ⊎ Opens p end cs
 
-abbrev SetUp : Runner → Desk → Type 0
+abbrev SetUp : Runner → Buffers → Type 0
 SetUp r k = Begun (r .stage) (r .bench) (k .costs)
 
 -- the first event
-first-event : (fuel : ℕ) (v : Event) (used : ℕ) (r : Runner) (k : Desk) (rest : List ℕ) → SetUp r k → 2 ≤ r .stage → Long k →
+first-event : (fuel : ℕ) (v : Event) (used : ℕ) (r : Runner) (k : Buffers) (rest : List ℕ) → SetUp r k → 2 ≤ r .stage → Long k →
     Opens (place r k) (endAfter fuel rest (eventTurn (opened r k) v used r k)) (callsAfter fuel rest (callOf v ∷ []) (eventTurn (opened r k) v used r k))
 first-event fuel v used r k rest s ready long =
     let two : r .stage ≡ 2 = omega (arith, s .early) in
@@ -85,12 +85,12 @@ first-event fuel v used r k rest s ready long =
       ran = e .state ∙ ap (λ (x : State). runBy x (callsAfter fuel rest (callOf v ∷ []) (eventTurn (opened r k) v used r k))) (opened-fresh r k two);
     }
 
-set-up : (fuel : ℕ) (r : Runner) (k : Desk) (rest : List ℕ) → SetUp r k → Outcome (setsUp fuel r k rest) (leaves fuel r k rest) (calls fuel r k rest)
+set-up : (fuel : ℕ) (r : Runner) (k : Buffers) (rest : List ℕ) → SetUp r k → Outcome (setsUp fuel r k rest) (leaves fuel r k rest) (calls fuel r k rest)
 unfolding setsUp leaves calls lastTurn fieldTurn setupTurn
 set-up zero r k rest s = inl (record { stage = omega (arith, s .early); none = refl })
 set-up (suc fuel) r k rest s = go (set-up fuel) (step-is r k rest)
   where
-    go : ((r : Runner) (k : Desk) (rest : List ℕ) → SetUp r k → Outcome (setsUp fuel r k rest) (leaves fuel r k rest) (calls fuel r k rest)) → Step r k rest →
+    go : ((r : Runner) (k : Buffers) (rest : List ℕ) → SetUp r k → Outcome (setsUp fuel r k rest) (leaves fuel r k rest) (calls fuel r k rest)) → Step r k rest →
         Outcome (setsUp (suc fuel) r k rest) (leaves (suc fuel) r k rest) (calls (suc fuel) r k rest)
     go next (refused e) = inl (rw e (record { stage = omega (arith, s .early); none = refl }))
     go next (ended number d e) = inl (rw e (record { stage = omega (arith, s .early); none = refl }))
@@ -105,7 +105,7 @@ set-up (suc fuel) r k rest s = go (set-up fuel) (step-is r k rest)
         field (Field.Event v) d e told = rw (e, d) (inr (first-event fuel v used r k rest s told (long-told k long)))
 
 pub plan-runs : PlanRuns
-plan-runs plan = go _ _ _ (set-up (suc (length plan)) firstRunner firstDesk plan begun-first)
+plan-runs plan = go _ _ _ (set-up (suc (length plan)) firstRunner firstBuffers plan begun-first)
   where
     go : (p end : Place) (cs : List Call) → Outcome p end cs → NoEvent end cs ⊎ RunsFrom p end cs
     go p end cs (inl n) = inl n
@@ -114,5 +114,5 @@ plan-runs plan = go _ _ _ (set-up (suc (length plan)) firstRunner firstDesk plan
           stage = o .stage;
           accepted = o .accepted;
           ran = o .ran;
-          meets = whole-lists (p .runner .bench) (p .desk .costs) (p .desk .tables) (p .desk .sent) (p .desk .held) (p .desk .messages) (o .accepted) (o .room) cs;
+          meets = whole-lists (p .runner .bench) (p .buffers .costs) (p .buffers .tables) (p .buffers .sent) (p .buffers .held) (p .buffers .messages) (o .accepted) (o .room) cs;
         })

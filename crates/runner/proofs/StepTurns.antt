@@ -18,39 +18,39 @@ use Rattle.plan.specs.declared.Event.{Event}
 use Rattle.plan.specs.declared.Field.{Field}
 use Rattle.plan.specs.declared.Read.{Read}
 use Rattle.plan.proofs.Laws.{Told, field-size, field-told}
-use Rattle.runner.specs.Desk.{Desk, desk, deskLong, stateOn, progressOf}
+use Rattle.runner.specs.Buffers.{Buffers, buffers, buffersLong, stateOn, progressOf}
 use Rattle.runner.specs.Events.{Happening, callOf, happenedOf, replyOf}
 use Rattle.runner.specs.Turns.{Turn, turn, lastTurn, lastText, setupTurn, Opened, openedAs, opened, openedOf, eventTurn, fieldTurn, readTurn, stepOf, stopNumber, runnerInRange, fieldFits}
 use Rattle.runner.specs.declared.Runner.{Runner}
 use Rattle.runner.proofs.StepRefused.{refused-state, refused-rows}
 
--- a private call is lent nothing, or the bytes to be printed alone: its turn on the whole desk
+-- a private call is lent nothing, or the bytes to be printed alone: its turn on all of the buffers
 pub setup-on :
-    (used : ℕ) (b : Bench) (stage : ℕ) (r : Runner) (k : Desk) {reply : ℕ} {going : Bool} {taken written : ℕ} {runner : Runner} →
-    turn reply going taken written runner (desk [] [] [] [] [] [] []) ≡ setupTurn used b stage r (desk [] [] [] [] [] [] []) →
+    (used : ℕ) (b : Bench) (stage : ℕ) (r : Runner) (k : Buffers) {reply : ℕ} {going : Bool} {taken written : ℕ} {runner : Runner} →
+    turn reply going taken written runner (buffers [] [] [] [] [] [] []) ≡ setupTurn used b stage r (buffers [] [] [] [] [] [] []) →
     turn reply going taken written runner k ≡ setupTurn used b stage r k
 unfolding setupTurn
 setup-on used b stage r k e = ap (λ (t : Turn). turn (t .reply) (t .going) (t .used) (t .written) (t .runner) k) e
 
 pub ended-on :
-    (number : ℕ) (text : List ℕ) (r : Runner) (k : Desk) {reply : ℕ} {going : Bool} {taken written : ℕ} {runner : Runner} {out : List ℕ} →
-    turn reply going taken written runner (desk [] [] [] [] [] [] out) ≡ lastTurn number text r (desk [] [] [] [] [] [] (k .out)) →
-    turn reply going taken written runner (desk (k .costs) (k .tables) (k .sent) (k .held) (k .messages) (k .rows) out)
+    (number : ℕ) (text : List ℕ) (r : Runner) (k : Buffers) {reply : ℕ} {going : Bool} {taken written : ℕ} {runner : Runner} {out : List ℕ} →
+    turn reply going taken written runner (buffers [] [] [] [] [] [] out) ≡ lastTurn number text r (buffers [] [] [] [] [] [] (k .out)) →
+    turn reply going taken written runner (buffers (k .costs) (k .tables) (k .sent) (k .held) (k .messages) (k .rows) out)
     ≡ lastTurn number text r k
 unfolding lastTurn
 ended-on number text r k e =
     ap
     (λ (t : Turn).
     turn (t .reply) (t .going) (t .used) (t .written) (t .runner)
-    (desk (k .costs) (k .tables) (k .sent) (k .held) (k .messages) (k .rows) (t .desk .out)))
+    (buffers (k .costs) (k .tables) (k .sent) (k .held) (k .messages) (k .rows) (t .buffers .out)))
     e
 
 -- ---- events
 
 -- the state that stands when the network was opened
 pub opened-state :
-    (r : Runner) (k : Desk) {b : Bench} {tables sent held : List ℕ} →
-    openedAs b tables sent held ≡ openedOf r (desk (k .costs) (k .tables) (k .sent) (k .held) [] [] []) →
+    (r : Runner) (k : Buffers) {b : Bench} {tables sent held : List ℕ} →
+    openedAs b tables sent held ≡ openedOf r (buffers (k .costs) (k .tables) (k .sent) (k .held) [] [] []) →
     state b (k .costs) tables sent held (k .messages) ≡ opened r k
 unfolding opened
 opened-state r k {b} {tables} {sent} {held} = go (eqb (r .stage) 2)
@@ -68,7 +68,7 @@ opened-state r k {b} {tables} {sent} {held} = go (eqb (r .stage) 2)
     go false e = ap (λ (o : Opened). state (o .bench) (k .costs) (o .tables) (o .sent) (o .held) (k .messages)) e
 
 -- what happened, carried into a turn
-module _ (s : State) (e : Event) (used : ℕ) (r : Runner) (k : Desk) (h : Happening) (same : h ≡ happenedOf s (k .rows) (k .out) e) where
+module _ (s : State) (e : Event) (used : ℕ) (r : Runner) (k : Buffers) (h : Happening) (same : h ≡ happenedOf s (k .rows) (k .out) e) where
   same-reply : h .reply ≡ replyOf s (k .rows) e
   unfolding happenedOf
   same-reply = ap (λ (x : Happening). x .reply) same
@@ -77,7 +77,7 @@ module _ (s : State) (e : Event) (used : ℕ) (r : Runner) (k : Desk) (h : Happe
       h .reply ≡ 0 →
       turn 0 true used (h .written)
       (record { bench = h .bench; stage = 3; events = r .events + 1; offset = r .offset + used })
-      (desk (s .costs) (s .tables) (h .sent) (h .held) (h .messages) (h .rows) (h .out))
+      (buffers (s .costs) (s .tables) (h .sent) (h .held) (h .messages) (h .rows) (h .out))
       ≡ eventTurn s e used r k
   unfolding happenedOf eventTurn
   accepted-turn none = rw (same, eq-eqb _ 0 (sym same-reply ∙ none), step-lasting s (callOf e) .0, step-lasting s (callOf e) .1)
@@ -86,7 +86,7 @@ module _ (s : State) (e : Event) (used : ℕ) (r : Runner) (k : Desk) (h : Happe
       (h .reply ≡ 0 → ⊥) →
       lastTurn (h .reply) (lastText (h .reply) (r .events) (r .offset))
       (record { bench = h .bench; stage = 3; events = r .events; offset = r .offset })
-      (desk (s .costs) (s .tables) (h .sent) (h .held) (h .messages) (h .rows) (h .out))
+      (buffers (s .costs) (s .tables) (h .sent) (h .held) (h .messages) (h .rows) (h .out))
       ≡ eventTurn s e used r k
   unfolding happenedOf eventTurn lastTurn lastText
   refused-turn some =
@@ -95,15 +95,15 @@ module _ (s : State) (e : Event) (used : ℕ) (r : Runner) (k : Desk) (h : Happe
 
 -- ---- what a step's checks tell
 
-pub record StepTold (r : Runner) (k : Desk) : Type 0 where
+pub record StepTold (r : Runner) (k : Buffers) : Type 0 where
   pub events : r .events ≤ 61440
   pub offset : r .offset ≤ 61440
   pub costs : 1024 ≤ length (k .costs)
   pub rows : 32 ≤ length (k .rows)
   pub out : 544 ≤ length (k .out)
 
-pub step-told : (r : Runner) (k : Desk) → (runnerInRange r && deskLong k) ≡ true → StepTold r k
-unfolding runnerInRange deskLong
+pub step-told : (r : Runner) (k : Buffers) → (runnerInRange r && buffersLong k) ≡ true → StepTold r k
+unfolding runnerInRange buffersLong
 step-told r k ok =
     let all = both-true (leb (r .events) 61440 && leb (r .offset) 61440) _ ok in
     let counts = both-true (leb (r .events) 61440) _ (all .0) in
@@ -140,7 +140,7 @@ module _ (rest : List ℕ) (r : Runner) {f : Field} {used : ℕ} (read : readRep
 
 -- what was read: the plan's end or a field
 pub stop-turn :
-    (rest : List ℕ) (r : Runner) (k : Desk) (read : Read) (number : ℕ) {n : ℕ} →
+    (rest : List ℕ) (r : Runner) (k : Buffers) (read : Read) (number : ℕ) {n : ℕ} →
     number ≡ stopNumber read →
     read ≡ Read.Stop n →
     lastTurn number (lastText number (r .events) (r .offset)) r k ≡ readTurn rest read r k
@@ -148,18 +148,18 @@ unfolding readTurn
 stop-turn rest r k read number same stops = rw (same, stops)
 
 pub field-turn :
-    (rest : List ℕ) (r : Runner) (k : Desk) (read : Read) {f : Field} {used : ℕ} →
+    (rest : List ℕ) (r : Runner) (k : Buffers) (read : Read) {f : Field} {used : ℕ} →
     read ≡ Read.Field f used →
     fieldTurn rest f used r k ≡ readTurn rest read r k
 unfolding readTurn
 field-turn rest r k read same = rw same
 
-module _ (rest : List ℕ) (r : Runner) (k : Desk) where
+module _ (rest : List ℕ) (r : Runner) (k : Buffers) where
   -- turned down, or read
-  pub step-out : (runnerInRange r && deskLong k) ≡ false → turn 17 false 0 0 r k ≡ stepOf r k rest
+  pub step-out : (runnerInRange r && buffersLong k) ≡ false → turn 17 false 0 0 r k ≡ stepOf r k rest
   unfolding stepOf
   step-out e = rw e
 
-  pub step-read : (runnerInRange r && deskLong k) ≡ true → (read : Read) → read ≡ readReply rest (progressOf r) → readTurn rest read r k ≡ stepOf r k rest
+  pub step-read : (runnerInRange r && buffersLong k) ≡ true → (read : Read) → read ≡ readReply rest (progressOf r) → readTurn rest read r k ≡ stepOf r k rest
   unfolding stepOf
   step-read e read same = rw (same, e)

@@ -1,5 +1,6 @@
-pub mod Desk
+pub mod Buffers
 pub mod Events
 pub mod Turns
 pub mod Plans
+pub mod Fills
 pub mod Whole

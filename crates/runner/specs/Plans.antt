@@ -7,7 +7,7 @@ use lib.Dec.{ltb}
 use Rattle.agreement.specs.Record.{freshRecord}
 use Rattle.bench.specs.declared.Bench.{Bench}
 use Rattle.text.specs.Lines.{refusedText}
-use Rattle.runner.specs.Desk.{Desk, desk}
+use Rattle.runner.specs.Buffers.{Buffers, buffers}
 use Rattle.runner.specs.Turns.{Turn, stepOf}
 use Rattle.runner.specs.declared.Runner.{Runner}
 
@@ -32,18 +32,18 @@ firstRunner =
       offset = 0;
     }
 
-abbrev pub firstDesk : Desk
-firstDesk =
-    desk (replicate 1024 0) (replicate 8192 0) (replicate 1024 0) (replicate 1024 0) (replicate 320 0) (replicate 32 0) (replicate 544 0)
+abbrev pub firstBuffers : Buffers
+firstBuffers =
+    buffers (replicate 1024 0) (replicate 8192 0) (replicate 1024 0) (replicate 1024 0) (replicate 320 0) (replicate 32 0) (replicate 544 0)
 
 -- field after field, with fuel for so many
-unfoldable pub prints : ℕ → Runner → Desk → List ℕ → List ℕ
+unfoldable pub prints : ℕ → Runner → Buffers → List ℕ → List ℕ
 prints zero r k rest = []
 prints (suc fuel) r k rest =
     let t : Turn = stepOf r k rest in
-    take (t .written) (t .desk .out) ++ cond (t .going) (prints fuel (t .runner) (t .desk) (drop (t .used) rest)) []
+    take (t .written) (t .buffers .out) ++ cond (t .going) (prints fuel (t .runner) (t .buffers) (drop (t .used) rest)) []
 
 -- the whole output: 18 for a plan longer than 61,440 bytes
 unfoldable pub printed : List ℕ → List ℕ
 printed plan =
-    cond (ltb 61440 (length plan)) (refusedText 18 61440) (prints (suc (length plan)) firstRunner firstDesk plan)
+    cond (ltb 61440 (length plan)) (refusedText 18 61440) (prints (suc (length plan)) firstRunner firstBuffers plan)

@@ -13,29 +13,29 @@ use Rattle.plan.specs.declared.Field.{Field}
 use Rattle.plan.specs.declared.Read.{Read}
 use Rattle.text.specs.Lines.{endText, refusedText}
 use Rattle.text.specs.declared.Written.{Written}
-use Rattle.runner.specs.Desk.{Desk, desk, deskLong, stateOn, deskWith, progressOf}
+use Rattle.runner.specs.Buffers.{Buffers, buffers, buffersLong, stateOn, buffersWith, progressOf}
 use Rattle.runner.specs.Events.{replyOf, rowsAfter, textOf, stateAfter}
 use Rattle.runner.specs.declared.Runner.{Runner}
 
--- after a step: document 01's number, whether the plan goes on, the bytes used and those to be printed, the runner and the desk
+-- after a step: document 01's number, whether the plan goes on, the bytes used and those to be printed, the runner and the buffers
 pub record Turn : Type 0 where
   pub reply : ℕ
   pub going : Bool
   pub used : ℕ
   pub written : ℕ
   pub runner : Runner
-  pub desk : Desk
+  pub buffers : Buffers
 
-abbrev pub turn : ℕ → Bool → ℕ → ℕ → Runner → Desk → Turn
+abbrev pub turn : ℕ → Bool → ℕ → ℕ → Runner → Buffers → Turn
 turn reply going used written runner k =
-    record { reply = reply; going = going; used = used; written = written; runner = runner; desk = k }
+    record { reply = reply; going = going; used = used; written = written; runner = runner; buffers = k }
 
 -- the plan ends here, with its last line
-unfoldable pub lastTurn : ℕ → List ℕ → Runner → Desk → Turn
-lastTurn reply text r k = turn reply false 0 (length text) r (deskWith (stateOn (r .bench) k) (k .rows) text k)
+unfoldable pub lastTurn : ℕ → List ℕ → Runner → Buffers → Turn
+lastTurn reply text r k = turn reply false 0 (length text) r (buffersWith (stateOn (r .bench) k) (k .rows) text k)
 
 -- the plan goes on after a setup of so many bytes
-unfoldable pub setupTurn : ℕ → Bench → ℕ → Runner → Desk → Turn
+unfoldable pub setupTurn : ℕ → Bench → ℕ → Runner → Buffers → Turn
 setupTurn used b stage r k =
     turn 0 true used 0 (record { bench = b; stage = stage; events = r .events; offset = r .offset + used }) k
 
@@ -88,33 +88,33 @@ withRow rest b costs =
     take (32 * b .views) costs
     ++ (costsReply rest (b .links) (part 32 (b .views) costs) .row ++ drop 32 (drop (32 * b .views) costs))
 
-abbrev pub deskWithCosts : List ℕ → Desk → Desk
-deskWithCosts costs k = desk costs (k .tables) (k .sent) (k .held) (k .messages) (k .rows) (k .out)
+abbrev pub buffersWithCosts : List ℕ → Buffers → Buffers
+buffersWithCosts costs k = buffers costs (k .tables) (k .sent) (k .held) (k .messages) (k .rows) (k .out)
 
 -- the network is fresh before the first event
-unfoldable pub opened : Runner → Desk → State
+unfoldable pub opened : Runner → Buffers → State
 opened r k =
     let o = freshOf (r .bench) (k .costs) (k .tables) (k .sent) (k .held) in
     cond (eqb (r .stage) 2) (state (o .bench) (k .costs) (o .tables) (o .sent) (o .held) (k .messages)) (stateOn (r .bench) k)
 
 -- an event carried out on a state: accepted, it is counted and printed; refused, it ends the plan
-unfoldable pub eventTurn : State → Event → ℕ → Runner → Desk → Turn
+unfoldable pub eventTurn : State → Event → ℕ → Runner → Buffers → Turn
 eventTurn s e used r k =
     let reply : ℕ = replyOf s (k .rows) e in
     cond (eqb reply 0)
     (turn 0 true used (length (textOf s (k .rows) e))
     (record { bench = stateAfter s e .bench; stage = 3; events = r .events + 1; offset = r .offset + used })
-    (deskWith (stateAfter s e) (rowsAfter s (k .rows) e) (textOf s (k .rows) e) k))
+    (buffersWith (stateAfter s e) (rowsAfter s (k .rows) e) (textOf s (k .rows) e) k))
     (turn reply false 0 (length (refusedText reply (r .offset)))
     (record { bench = s .bench; stage = 3; events = r .events; offset = r .offset })
-    (deskWith s (k .rows) (refusedText reply (r .offset)) k))
+    (buffersWith s (k .rows) (refusedText reply (r .offset)) k))
 
 -- the field
-unfoldable pub fieldTurn : List ℕ → Field → ℕ → Runner → Desk → Turn
+unfoldable pub fieldTurn : List ℕ → Field → ℕ → Runner → Buffers → Turn
 fieldTurn rest (Field.Bridges n) used r k = setupTurn used (withBridges (r .bench) n) 1 r k
 fieldTurn rest (Field.Link x y) used r k = setupTurn used (withLink (r .bench) x y) 1 r k
 fieldTurn rest Field.View used r k =
-    setupTurn used (withView (r .bench)) 2 r (deskWithCosts (withRow rest (r .bench) (k .costs)) k)
+    setupTurn used (withView (r .bench)) 2 r (buffersWithCosts (withRow rest (r .bench) (k .costs)) k)
 fieldTurn rest (Field.Event e) used r k = eventTurn (opened r k) e used r k
 
 -- the plan's last line: its proper end where the number is 0, else the refusal
@@ -122,7 +122,7 @@ unfoldable pub lastText : ℕ → ℕ → ℕ → List ℕ
 lastText number events offset = cond (eqb number 0) (endText events) (refusedText number offset)
 
 -- what was read: a field, or the plan's end
-unfoldable pub readTurn : List ℕ → Read → Runner → Desk → Turn
+unfoldable pub readTurn : List ℕ → Read → Runner → Buffers → Turn
 readTurn rest (Read.Field f used) r k = fieldTurn rest f used r k
 readTurn rest (Read.Stop number) r k = lastTurn number (lastText number (r .events) (r .offset)) r k
 
@@ -131,8 +131,8 @@ unfoldable pub runnerInRange : Runner → Bool
 runnerInRange r = leb (r .events) 61440 && leb (r .offset) 61440
 
 -- a step: 17 where a lent buffer is too short or the runner's counts of events and bytes are out of range, and then nothing is changed
-unfoldable pub stepOf : Runner → Desk → List ℕ → Turn
-stepOf r k rest = cond (runnerInRange r && deskLong k) (readTurn rest (readReply rest (progressOf r)) r k) (turn 17 false 0 0 r k)
+unfoldable pub stepOf : Runner → Buffers → List ℕ → Turn
+stepOf r k rest = cond (runnerInRange r && buffersLong k) (readTurn rest (readReply rest (progressOf r)) r k) (turn 17 false 0 0 r k)
 
 -- for private functions: the count of bytes of a reply, the number of a plan that ends
 abbrev pub countOf : Written → ℕ
@@ -161,7 +161,7 @@ pub record Opened : Type 0 where
 abbrev pub openedAs : Bench → List ℕ → List ℕ → List ℕ → Opened
 openedAs bench tables sent held = record { bench = bench; tables = tables; sent = sent; held = held }
 
-abbrev pub openedOf : Runner → Desk → Opened
+abbrev pub openedOf : Runner → Buffers → Opened
 openedOf r k = let s : State = opened r k in openedAs (s .bench) (s .tables) (s .sent) (s .held)
 
 -- what the reader has told of a field

@@ -13,10 +13,10 @@ use Rattle.bench.specs.Whole.{runBy, freshBy, Meets}
 use Rattle.plan.specs.Reading.{readReply}
 use Rattle.plan.specs.declared.Field.{Field}
 use Rattle.plan.specs.declared.Read.{Read}
-use Rattle.runner.specs.Desk.{Desk, stateOn, progressOf}
+use Rattle.runner.specs.Buffers.{Buffers, stateOn, progressOf}
 use Rattle.runner.specs.Events.{callOf}
 use Rattle.runner.specs.Turns.{Turn, stepOf}
-use Rattle.runner.specs.Plans.{firstRunner, firstDesk, prints}
+use Rattle.runner.specs.Plans.{firstRunner, firstBuffers, prints}
 use Rattle.runner.specs.declared.Runner.{Runner}
 
 -- the call that was read: none but an event is one
@@ -36,50 +36,50 @@ setupRead (Read.Field (Field.Event e) used) = false
 setupRead (Read.Stop number) = false
 
 -- the calls of the accepted events, in order, with fuel for so many fields
-unfoldable pub calls : ℕ → Runner → Desk → List ℕ → List Call
+unfoldable pub calls : ℕ → Runner → Buffers → List ℕ → List Call
 calls zero r k rest = []
 calls (suc fuel) r k rest =
     let t : Turn = stepOf r k rest in
-    cond (t .going) (callRead (readReply rest (progressOf r)) ++ calls fuel (t .runner) (t .desk) (drop (t .used) rest)) []
+    cond (t .going) (callRead (readReply rest (progressOf r)) ++ calls fuel (t .runner) (t .buffers) (drop (t .used) rest)) []
 
--- the runner and the desk at some place of a plan
+-- the runner and the buffers at some place of a plan
 pub record Place : Type 0 where
   pub runner : Runner
-  pub desk : Desk
+  pub buffers : Buffers
 
-abbrev pub place : Runner → Desk → Place
-place r k = record { runner = r; desk = k }
+abbrev pub place : Runner → Buffers → Place
+place r k = record { runner = r; buffers = k }
 
 abbrev pub stateAt : Place → State
-stateAt p = stateOn (p .runner .bench) (p .desk)
+stateAt p = stateOn (p .runner .bench) (p .buffers)
 
 -- what `fresh` leaves of what was set up
 abbrev pub freshAt : Place → State
-freshAt p = freshBy (p .runner .bench) (p .desk .costs) (p .desk .tables) (p .desk .sent) (p .desk .held) (p .desk .messages)
+freshAt p = freshBy (p .runner .bench) (p .buffers .costs) (p .buffers .tables) (p .buffers .sent) (p .buffers .held) (p .buffers .messages)
 
 -- where the plan ends
-unfoldable pub leaves : ℕ → Runner → Desk → List ℕ → Place
+unfoldable pub leaves : ℕ → Runner → Buffers → List ℕ → Place
 leaves zero r k rest = place r k
 leaves (suc fuel) r k rest =
     let t : Turn = stepOf r k rest in
-    cond (t .going) (leaves fuel (t .runner) (t .desk) (drop (t .used) rest)) (place (t .runner) (t .desk))
+    cond (t .going) (leaves fuel (t .runner) (t .buffers) (drop (t .used) rest)) (place (t .runner) (t .buffers))
 
 -- where the setup ends: before the first event, carried out or refused
-unfoldable pub setsUp : ℕ → Runner → Desk → List ℕ → Place
+unfoldable pub setsUp : ℕ → Runner → Buffers → List ℕ → Place
 setsUp zero r k rest = place r k
 setsUp (suc fuel) r k rest =
     let t : Turn = stepOf r k rest in
-    cond (setupRead (readReply rest (progressOf r)) && t .going) (setsUp fuel (t .runner) (t .desk) (drop (t .used) rest)) (place r k)
+    cond (setupRead (readReply rest (progressOf r)) && t .going) (setsUp fuel (t .runner) (t .buffers) (drop (t .used) rest)) (place r k)
 
 -- the calls of a whole plan, the place of its first event, its end
 abbrev pub planCalls : List ℕ → List Call
-planCalls plan = calls (suc (length plan)) firstRunner firstDesk plan
+planCalls plan = calls (suc (length plan)) firstRunner firstBuffers plan
 
 abbrev pub planStart : List ℕ → Place
-planStart plan = setsUp (suc (length plan)) firstRunner firstDesk plan
+planStart plan = setsUp (suc (length plan)) firstRunner firstBuffers plan
 
 abbrev pub planEnd : List ℕ → Place
-planEnd plan = leaves (suc (length plan)) firstRunner firstDesk plan
+planEnd plan = leaves (suc (length plan)) firstRunner firstBuffers plan
 
 -- no event came: none was carried out or refused
 pub record NoEvent (end : Place) (cs : List Call) : Type 0 where
@@ -90,9 +90,9 @@ pub record NoEvent (end : Place) (cs : List Call) : Type 0 where
 -- holds of the calls, and the network of Demand3 is the one that stands in the state at the end
 pub record RunsFrom (p : Place) (end : Place) (cs : List Call) : Type 0 where
   pub stage : end .runner .stage ≡ 3
-  pub accepted : freshOf (p .runner .bench) (p .desk .costs) (p .desk .tables) (p .desk .sent) (p .desk .held) .reply ≡ 0
+  pub accepted : freshOf (p .runner .bench) (p .buffers .costs) (p .buffers .tables) (p .buffers .sent) (p .buffers .held) .reply ≡ 0
   pub ran : stateAt end ≡ runBy (freshAt p) cs
-  pub meets : Meets (p .runner .bench) (p .desk .costs) (p .desk .tables) (p .desk .sent) (p .desk .held) (p .desk .messages) cs
+  pub meets : Meets (p .runner .bench) (p .buffers .costs) (p .buffers .tables) (p .buffers .sent) (p .buffers .held) (p .buffers .messages) cs
 
 abbrev pub PlanRuns : Type 0
 PlanRuns =
@@ -100,11 +100,11 @@ PlanRuns =
     NoEvent (planEnd plan) (planCalls plan) ⊎ RunsFrom (planStart plan) (planEnd plan) (planCalls plan)
 
 -- fuel for one field more than there are bytes is enough: with any more it is the same
-pub record Same (fuel more : ℕ) (r : Runner) (k : Desk) (rest : List ℕ) : Type 0 where
+pub record Same (fuel more : ℕ) (r : Runner) (k : Buffers) (rest : List ℕ) : Type 0 where
   pub printed : prints fuel r k rest ≡ prints more r k rest
   pub made : calls fuel r k rest ≡ calls more r k rest
   pub left : leaves fuel r k rest ≡ leaves more r k rest
   pub start : setsUp fuel r k rest ≡ setsUp more r k rest
 
 abbrev pub FuelEnough : Type 0
-FuelEnough = (r : Runner) (k : Desk) (rest : List ℕ) (fuel more : ℕ) → length rest < fuel → length rest < more → Same fuel more r k rest
+FuelEnough = (r : Runner) (k : Buffers) (rest : List ℕ) (fuel more : ℕ) → length rest < fuel → length rest < more → Same fuel more r k rest

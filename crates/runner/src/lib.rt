@@ -2,6 +2,7 @@
 use bench::Bench;
 
 mod events;
+pub mod fills;
 mod setup;
 pub mod steps;
 mod stops;
@@ -21,7 +22,7 @@ pub struct Happened {
     pub written: usize,
 }
 
-// After a step: whether the plan goes on, the bytes of it that were used, the bytes that are to be printed, and document 01's number,
+// After a step or several: whether the plan goes on, the bytes of it that were used, the bytes that are to be printed, and document 01's number,
 // 0 where nothing is refused.
 pub struct Stepped {
     pub runner: Runner,

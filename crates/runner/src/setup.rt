@@ -5,7 +5,7 @@ ghost use mathlib.Core.Path.{_≡_};
 ghost use mathlib.Core.List.{[]};
 ghost use Prim.Native.Nat.{_≤_, _<_};
 ghost use lib.ListN.{length};
-ghost use Rattle.runner.specs.Desk.{desk};
+ghost use Rattle.runner.specs.Buffers.{buffers};
 ghost use Rattle.runner.specs.Turns.{withBridges, withLink, withView, withRow, openedAs, openedOf};
 
 pub(crate) fn with_bridges(bench: Bench, count: u8) -> Bench
@@ -55,7 +55,7 @@ pub(crate) fn open(
     sent: &mut [u32],
     held: &mut [u32],
 ) -> Bench
-    ensures { λ b. ⌜ openedAs b (now (tables .exit)) (now (sent .exit)) (now (held .exit)) ≡ openedOf r (desk (now (costs .entry)) (now (tables .entry)) (now (sent .entry)) (now (held .entry)) [] [] []) ⌝ }
+    ensures { λ b. ⌜ openedAs b (now (tables .exit)) (now (sent .exit)) (now (held .exit)) ≡ openedOf r (buffers (now (costs .entry)) (now (tables .entry)) (now (sent .entry)) (now (held .entry)) [] [] []) ⌝ }
 {
     let bench = r.bench;
     if r.stage == 2 {

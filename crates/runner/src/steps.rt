@@ -17,7 +17,7 @@ ghost use mathlib.Core.List.{[]};
 ghost use Prim.Native.Nat.{_≤_};
 ghost use lib.ListN.{length};
 ghost use lib.Dec.{leb};
-ghost use Rattle.runner.specs.Desk.{desk};
+ghost use Rattle.runner.specs.Buffers.{buffers};
 ghost use Rattle.runner.specs.Turns.{turn, setupTurn, lastTurn, lastText, fieldTurn, fieldFits, runnerInRange, stepOf};
 ghost use Rattle.runner.specs.Plans.{firstRunner};
 
@@ -50,7 +50,7 @@ pub fn first() -> Runner
     }
 }
 
-fn desk_long(
+fn buffers_long(
     costs: usize,
     tables: usize,
     sent: usize,
@@ -85,7 +85,7 @@ fn runner_in_range(r: Runner) -> bool
 // The plan ends here.
 fn ended(r: Runner, number: u8, out: &mut [u8]) -> Stepped
     requires { ⌜ 544 ≤ length (now out) ⌝ }
-    ensures { λ s. ⌜ turn (s .reply) (s .going) (s .used) (s .written) (s .runner) (desk [] [] [] [] [] [] (now (out .exit))) ≡ lastTurn number (lastText number (r .events) (r .offset)) r (desk [] [] [] [] [] [] (now (out .entry))) ⌝ }
+    ensures { λ s. ⌜ turn (s .reply) (s .going) (s .used) (s .written) (s .runner) (buffers [] [] [] [] [] [] (now (out .exit))) ≡ lastTurn number (lastText number (r .events) (r .offset)) r (buffers [] [] [] [] [] [] (now (out .entry))) ⌝ }
 {
     let written = last_line(out, number, r.events, r.offset);
     Stepped {
@@ -99,7 +99,7 @@ fn ended(r: Runner, number: u8, out: &mut [u8]) -> Stepped
 
 fn set_up(r: Runner, bench: Bench, stage: usize, used: usize) -> Stepped
     requires { ⌜ (r .offset ≤ 61440) × (used ≤ 65538) ⌝ }
-    ensures { λ s. ⌜ turn (s .reply) (s .going) (s .used) (s .written) (s .runner) (desk [] [] [] [] [] [] []) ≡ setupTurn used bench stage r (desk [] [] [] [] [] [] []) ⌝ }
+    ensures { λ s. ⌜ turn (s .reply) (s .going) (s .used) (s .written) (s .runner) (buffers [] [] [] [] [] [] []) ≡ setupTurn used bench stage r (buffers [] [] [] [] [] [] []) ⌝ }
 {
     let runner = Runner {
         bench,
@@ -129,7 +129,7 @@ fn event_step(
     used: usize,
 ) -> Stepped
     requires { ⌜ (r .offset ≤ 61440) × (r .events ≤ 61440) × (used ≤ 65538) × (32 ≤ length (now rows)) × (544 ≤ length (now out)) ⌝ }
-    ensures { λ s. ⌜ turn (s .reply) (s .going) (s .used) (s .written) (s .runner) (desk (now (costs .entry)) (now (tables .exit)) (now (sent .exit)) (now (held .exit)) (now (messages .exit)) (now (rows .exit)) (now (out .exit))) ≡ fieldTurn [] (Field.Event event) used r (desk (now (costs .entry)) (now (tables .entry)) (now (sent .entry)) (now (held .entry)) (now (messages .entry)) (now (rows .entry)) (now (out .entry))) ⌝ }
+    ensures { λ s. ⌜ turn (s .reply) (s .going) (s .used) (s .written) (s .runner) (buffers (now (costs .entry)) (now (tables .exit)) (now (sent .exit)) (now (held .exit)) (now (messages .exit)) (now (rows .exit)) (now (out .exit))) ≡ fieldTurn [] (Field.Event event) used r (buffers (now (costs .entry)) (now (tables .entry)) (now (sent .entry)) (now (held .entry)) (now (messages .entry)) (now (rows .entry)) (now (out .entry))) ⌝ }
 {
     let bench = setup::open(r, costs, tables, sent, held);
     let happened = happen(bench, costs, tables, sent, held, messages, rows, out, event);
@@ -174,7 +174,7 @@ fn field_step(
 ) -> Stepped
     requires { ⌜ (r .offset ≤ 61440) × (r .events ≤ 61440) × (used ≤ 65538) × (1024 ≤ length (now costs)) × (32 ≤ length (now rows)) × (544 ≤ length (now out)) ⌝ }
     requires { ⌜ fieldFits (r .bench) field ⌝ }
-    ensures { λ s. ⌜ turn (s .reply) (s .going) (s .used) (s .written) (s .runner) (desk (now (costs .exit)) (now (tables .exit)) (now (sent .exit)) (now (held .exit)) (now (messages .exit)) (now (rows .exit)) (now (out .exit))) ≡ fieldTurn (now (rest .entry)) field used r (desk (now (costs .entry)) (now (tables .entry)) (now (sent .entry)) (now (held .entry)) (now (messages .entry)) (now (rows .entry)) (now (out .entry))) ⌝ }
+    ensures { λ s. ⌜ turn (s .reply) (s .going) (s .used) (s .written) (s .runner) (buffers (now (costs .exit)) (now (tables .exit)) (now (sent .exit)) (now (held .exit)) (now (messages .exit)) (now (rows .exit)) (now (out .exit))) ≡ fieldTurn (now (rest .entry)) field used r (buffers (now (costs .entry)) (now (tables .entry)) (now (sent .entry)) (now (held .entry)) (now (messages .entry)) (now (rows .entry)) (now (out .entry))) ⌝ }
 {
     let bench = r.bench;
     match field {
@@ -211,9 +211,9 @@ pub fn step(
     rows: &mut [u32],
     out: &mut [u8],
 ) -> Stepped
-    ensures { λ s. ⌜ turn (s .reply) (s .going) (s .used) (s .written) (s .runner) (desk (now (costs .exit)) (now (tables .exit)) (now (sent .exit)) (now (held .exit)) (now (messages .exit)) (now (rows .exit)) (now (out .exit))) ≡ stepOf r (desk (now (costs .entry)) (now (tables .entry)) (now (sent .entry)) (now (held .entry)) (now (messages .entry)) (now (rows .entry)) (now (out .entry))) (now (rest .entry)) ⌝ }
+    ensures { λ s. ⌜ turn (s .reply) (s .going) (s .used) (s .written) (s .runner) (buffers (now (costs .exit)) (now (tables .exit)) (now (sent .exit)) (now (held .exit)) (now (messages .exit)) (now (rows .exit)) (now (out .exit))) ≡ stepOf r (buffers (now (costs .entry)) (now (tables .entry)) (now (sent .entry)) (now (held .entry)) (now (messages .entry)) (now (rows .entry)) (now (out .entry))) (now (rest .entry)) ⌝ }
 {
-    let long = desk_long(
+    let long = buffers_long(
         costs.len(),
         tables.len(),
         sent.len(),

@@ -1,127 +1,102 @@
--- `carry_out` is safe and ends. The measure is the number of bytes that are left, and one more while the plan goes on. Assumes nothing.
-use Prim.Native.Nat.{ℕ, suc, _+_, _-_, _≤_, _<_}
+-- `carry_out` meets its contract: what was printed and what is still to be printed make up the whole. Assumes nothing.
 use native.Mathlib.Omega.{arith}
 use mathlib.Core.Path.{_≡_, refl, sym}
-use mathlib.Core.Bool.{Bool, true, false, cond, not}
 use lib.ListN.{length}
 use lib.Seq.{length-take-le}
-use lib.Dec.{eqb}
 use borrow.Author.Needs.{needs}
-use borrow.Author.Tests.{eqb-false}
+use Rattle.runner.specs.Buffers.{buffers}
+use Rattle.play.proofs.Printing.{left, Place, begun, ended, turned, fewer-left, whole-few}
 use Rattle.play.proofs.carry_out.Statement.{statement}
 use Rattle.play.proofs.carry_out.Tie as tie
 
 abbrev Inv-loop : tie.InvT-loop
-Inv-loop plan costs₀ tables₀ sent₀ held₀ messages₀ rows₀ out₀ waiting₀ r₀ at₀ going₀ costs tables sent held messages rows out waiting r at going =
-    (1024 ≡ length costs)
+Inv-loop plan out₀ costs₀ tables₀ sent₀ held₀ messages₀ rows₀ r₀ at₀ printed₀ going₀ out costs tables sent held messages rows r at printed going =
+    Place plan going at printed r (buffers costs tables sent held messages rows out)
+    × (1024 ≡ length costs)
     × (8192 ≡ length tables)
     × (1024 ≡ length sent)
     × (1024 ≡ length held)
     × (320 ≡ length messages)
     × (32 ≡ length rows)
-    × (length out ≡ 32768)
-    × (waiting ≤ 32224)
-    × (at ≤ length plan)
+    × (length out ≡ length out₀)
 
 abbrev μ-loop : tie.MeasureT-loop
-μ-loop plan costs₀ tables₀ sent₀ held₀ messages₀ rows₀ out₀ waiting₀ r₀ at₀ going₀ costs tables sent held messages rows out waiting r at going =
-    cond going (suc (length plan - at)) 0
-
--- a turn takes something of the plan, or is the last
-fewer :
-    (going : Bool) (used at len : ℕ) →
-    going ≡ true →
-    used ≤ len - at →
-    cond (not (eqb used 0)) (suc (len - (at + used))) 0 < cond going (suc (len - at)) 0
-fewer going used at len on h = rw on (go (eqb used 0) refl)
-  where
-    go : (b : Bool) → eqb used 0 ≡ b → cond (not b) (suc (len - (at + used))) 0 < suc (len - at)
-    go true q = omega arith
-    go false q = omega (arith, eqb-false used 0 q)
+μ-loop plan out₀ costs₀ tables₀ sent₀ held₀ messages₀ rows₀ r₀ at₀ printed₀ going₀ out costs tables sent held messages rows r at printed going =
+    left going plan at
 
 first-requires : tie.Need-first-requires Inv-loop μ-loop
 first-requires c κs = search needs
 
 loop-holds : tie.Need-loop-holds Inv-loop μ-loop
-loop-holds c = (refl, refl, refl, refl, refl, refl, refl, omega arith, omega arith)
+loop-holds c = (begun _ _ _ (c .before .before .before .pre .1) (c .first .ensures), refl, refl, refl, refl, refl, refl, refl)
 
-sub-step-behind : tie.Need-sub-step-behind Inv-loop μ-loop
-sub-step-behind c = omega arith
+sub-fill : tie.Need-sub-fill Inv-loop μ-loop
+sub-fill c = omega (arith, c .before .loop .inv .0 .within)
 
-part-step-behind-start : tie.Need-part-step-behind-start Inv-loop μ-loop
-part-step-behind-start c = omega arith
+part-fill-start : tie.Need-part-fill-start Inv-loop μ-loop
+part-fill-start c = omega (arith, c .before .loop .inv .0 .within)
 
-part-step-behind-end : tie.Need-part-step-behind-end Inv-loop μ-loop
-part-step-behind-end c = omega arith
+part-fill-end : tie.Need-part-fill-end Inv-loop μ-loop
+part-fill-end c = omega (arith, c .before .loop .inv .0 .within)
 
-slice-aggregate-step-behind : tie.Need-slice-aggregate-step-behind Inv-loop μ-loop
-slice-aggregate-step-behind c = search needs
+slice-aggregate-fill : tie.Need-slice-aggregate-fill Inv-loop μ-loop
+slice-aggregate-fill c = search needs
 
-slice-aggregate-step-behind-2 : tie.Need-slice-aggregate-step-behind-2 Inv-loop μ-loop
-slice-aggregate-step-behind-2 c = search needs
+slice-aggregate-fill-2 : tie.Need-slice-aggregate-fill-2 Inv-loop μ-loop
+slice-aggregate-fill-2 c = search needs
 
-slice-aggregate-step-behind-3 : tie.Need-slice-aggregate-step-behind-3 Inv-loop μ-loop
-slice-aggregate-step-behind-3 c = search needs
+slice-aggregate-fill-3 : tie.Need-slice-aggregate-fill-3 Inv-loop μ-loop
+slice-aggregate-fill-3 c = search needs
 
-slice-aggregate-step-behind-4 : tie.Need-slice-aggregate-step-behind-4 Inv-loop μ-loop
-slice-aggregate-step-behind-4 c = search needs
+slice-aggregate-fill-4 : tie.Need-slice-aggregate-fill-4 Inv-loop μ-loop
+slice-aggregate-fill-4 c = search needs
 
-slice-aggregate-step-behind-5 : tie.Need-slice-aggregate-step-behind-5 Inv-loop μ-loop
-slice-aggregate-step-behind-5 c = search needs
+slice-aggregate-fill-5 : tie.Need-slice-aggregate-fill-5 Inv-loop μ-loop
+slice-aggregate-fill-5 c = search needs
 
-slice-aggregate-step-behind-6 : tie.Need-slice-aggregate-step-behind-6 Inv-loop μ-loop
-slice-aggregate-step-behind-6 c = search needs
+slice-aggregate-fill-6 : tie.Need-slice-aggregate-fill-6 Inv-loop μ-loop
+slice-aggregate-fill-6 c = search needs
 
-slice-aggregate-step-behind-7 : tie.Need-slice-aggregate-step-behind-7 Inv-loop μ-loop
-slice-aggregate-step-behind-7 c = search needs
+fill-requires : tie.Need-fill-requires Inv-loop μ-loop
+fill-requires c κs = search needs
 
-step-behind-requires : tie.Need-step-behind-requires Inv-loop μ-loop
-step-behind-requires c κs = omega (arith, c .before .before .before .before .before .before .before .before .before .loop .inv)
+slice-reshare-prefix-write-all : tie.Need-slice-reshare-prefix-write-all Inv-loop μ-loop
+slice-reshare-prefix-write-all c = (turned _ _ _ (c .before .before .before .before .before .before .before .before .before .before .before .before .before .before .before .before .before .loop-test .taken) _ _ _ _ (c .before .before .before .before .before .before .before .before .before .before .before .before .before .before .before .before .before .before .loop .inv .0) (c .before .before .before .before .before .before .before .before .fill .ensures)) .written
 
-slice-aggregate-keep : tie.Need-slice-aggregate-keep Inv-loop μ-loop
-slice-aggregate-keep c = omega (arith, c .before .before .before .before .before .before .before .before .step-behind .kept, c .before .before .before .before .before .before .before .before .before .before .before .before .before .before .before .before .before .before .loop .inv .6)
+slice-aggregate-write-all : tie.Need-slice-aggregate-write-all Inv-loop μ-loop
+slice-aggregate-write-all c = sym (length-take-le _ _ ((turned _ _ _ (c .before .before .before .before .before .before .before .before .before .before .before .before .before .before .before .before .before .before .loop-test .taken) _ _ _ _ (c .before .before .before .before .before .before .before .before .before .before .before .before .before .before .before .before .before .before .before .loop .inv .0) (c .before .before .before .before .before .before .before .before .before .fill .ensures)) .written))
 
-keep-requires : tie.Need-keep-requires Inv-loop μ-loop
-keep-requires c κs = (omega (arith, c .before .before .before .before .before .before .before .before .step-behind .kept, c .before .before .before .before .before .before .before .before .before .before .before .before .before .before .before .before .before .before .loop .inv .6), c .before .before .before .before .before .before .before .before .before .before .before .before .before .before .before .before .before .before .loop .inv .7)
+write-all-requires : tie.Need-write-all-requires Inv-loop μ-loop
+write-all-requires c κs = search needs
 
-sub-taken : tie.Need-sub-taken Inv-loop μ-loop
-sub-taken c = omega (arith, c .before .before .before .before .before .before .before .before .before .before .before .before .before .before .before .before .before .before .before .loop .inv .8)
-
-taken-requires : tie.Need-taken-requires Inv-loop μ-loop
-taken-requires c κs = search needs
+add-printed : tie.Need-add-printed Inv-loop μ-loop
+add-printed c = record { fits = omega (arith, (turned _ _ _ (c .before .before .before .before .before .before .before .before .before .before .before .before .before .before .before .before .before .before .before .loop-test .taken) _ _ _ _ (c .before .before .before .before .before .before .before .before .before .before .before .before .before .before .before .before .before .before .before .before .loop .inv .0) (c .before .before .before .before .before .before .before .before .before .before .fill .ensures)) .fits, whole-few (c .before .before .before .before .before .before .before .before .before .before .before .before .before .before .before .before .before .before .before .before .before .before .before .before .args .plan .now) (c .before .before .before .before .before .before .before .before .before .before .before .before .before .before .before .before .before .before .before .before .before .before .before .before .pre .0)) }
 
 add-at : tie.Need-add-at Inv-loop μ-loop
-add-at c = record { fits = omega (arith, c .taken .ensures, c .before .before .before .before .before .before .before .before .before .before .before .before .before .before .before .before .before .before .before .before .loop .inv .8, c .before .before .before .before .before .before .before .before .before .before .before .before .before .before .before .before .before .before .before .before .before .before .before .good) }
+add-at c = record { fits = omega (arith, (turned _ _ _ (c .before .before .before .before .before .before .before .before .before .before .before .before .before .before .before .before .before .before .before .before .loop-test .taken) _ _ _ _ (c .before .before .before .before .before .before .before .before .before .before .before .before .before .before .before .before .before .before .before .before .before .loop .inv .0) (c .before .before .before .before .before .before .before .before .before .before .before .fill .ensures)) .place .within, c .before .before .before .before .before .before .before .before .before .before .before .before .before .before .before .before .before .before .before .before .before .before .before .before .before .pre .0) }
 
 loop-less : tie.Need-loop-less Inv-loop μ-loop
-loop-less c = fewer _ _ _ _ (c .before .before .before .before .before .before .before .before .before .before .before .before .before .before .before .before .before .before .before .before .loop-test .taken) (c .before .taken .ensures)
+loop-less c = fewer-left (c .before .before .before .before .before .before .before .before .before .before .before .before .before .before .before .before .before .before .before .before .before .before .before .before .before .before .args .plan .now) _ (c .before .before .before .before .before .before .before .before .before .before .before .before .before .before .before .before .before .before .before .before .before .before .loop .at) (c .before .before .before .before .before .before .before .before .before .before .before .before .before .before .before .before .before .before .before .before .before .loop-test .taken) _ ((turned _ _ _ (c .before .before .before .before .before .before .before .before .before .before .before .before .before .before .before .before .before .before .before .before .before .loop-test .taken) _ _ _ _ (c .before .before .before .before .before .before .before .before .before .before .before .before .before .before .before .before .before .before .before .before .before .before .loop .inv .0) (c .before .before .before .before .before .before .before .before .before .before .before .before .fill .ensures)) .fewer)
 
 loop-again : tie.Need-loop-again Inv-loop μ-loop
 loop-again c =
-    let kept = c .before .before .before .before .before .before .before .before .before .before .before .step-behind .kept in
-    let old = c .before .before .before .before .before .before .before .before .before .before .before .before .before .before .before .before .before .before .before .before .before .loop .inv in (
-      omega (arith, kept, old .0),
+    let kept = c .before .before .before .before .before .before .before .before .before .before .before .before .fill .kept in
+    let old = c .before .before .before .before .before .before .before .before .before .before .before .before .before .before .before .before .before .before .before .before .before .before .loop .inv in (
+      (turned _ _ _ (c .before .before .before .before .before .before .before .before .before .before .before .before .before .before .before .before .before .before .before .before .before .loop-test .taken) _ _ _ _ (c .before .before .before .before .before .before .before .before .before .before .before .before .before .before .before .before .before .before .before .before .before .before .loop .inv .0) (c .before .before .before .before .before .before .before .before .before .before .before .before .fill .ensures)) .place,
       omega (arith, kept, old .1),
       omega (arith, kept, old .2),
       omega (arith, kept, old .3),
       omega (arith, kept, old .4),
       omega (arith, kept, old .5),
       omega (arith, kept, old .6),
-      c .before .before .keep .ensures,
-      omega (arith, c .before .taken .ensures, old .8),
+      omega (arith, kept, old .7),
     )
 
-array-share-prefix-out : tie.Need-array-share-prefix-out Inv-loop μ-loop
-array-share-prefix-out c = search needs
-
-slice-aggregate-write-all : tie.Need-slice-aggregate-write-all Inv-loop μ-loop
-slice-aggregate-write-all c = sym (length-take-le _ _ (omega arith))
-
-write-all-requires : tie.Need-write-all-requires Inv-loop μ-loop
-write-all-requires c κs = search needs
+same-length : tie.Need-same-length Inv-loop μ-loop
+same-length c = omega (arith, c .before .loop .inv .7)
 
 returns : tie.Need-returns Inv-loop μ-loop
-returns c = tt
+returns c = ended _ _ _ _ _ _ (c .loop-test .left) (c .before .loop .inv .0)
 
 pub carry-out-spec : {M : Type 1} → statement M
 carry-out-spec =
@@ -131,25 +106,22 @@ carry-out-spec =
     μ-loop
     first-requires
     loop-holds
-    sub-step-behind
-    part-step-behind-start
-    part-step-behind-end
-    slice-aggregate-step-behind
-    slice-aggregate-step-behind-2
-    slice-aggregate-step-behind-3
-    slice-aggregate-step-behind-4
-    slice-aggregate-step-behind-5
-    slice-aggregate-step-behind-6
-    slice-aggregate-step-behind-7
-    step-behind-requires
-    slice-aggregate-keep
-    keep-requires
-    sub-taken
-    taken-requires
+    sub-fill
+    part-fill-start
+    part-fill-end
+    slice-aggregate-fill
+    slice-aggregate-fill-2
+    slice-aggregate-fill-3
+    slice-aggregate-fill-4
+    slice-aggregate-fill-5
+    slice-aggregate-fill-6
+    fill-requires
+    slice-reshare-prefix-write-all
+    slice-aggregate-write-all
+    write-all-requires
+    add-printed
     add-at
     loop-less
     loop-again
-    array-share-prefix-out
-    slice-aggregate-write-all
-    write-all-requires
+    same-length
     returns)

@@ -1,17 +1,20 @@
--- `network::bench_net_report` meets its contract. A list that is too short is refused first; else the call's own contract, over
--- the bench that was read, gives the outcome. Assumes nothing.
+-- `network::bench_net_report` meets its contract. A list that holds no bench or is too short is refused first; else the call's
+-- own contract, over the bench that was read, gives the outcome. Assumes nothing.
 use Rattle.exports.specs.Network.{netReportTold}
-use borrow.Author.Tests.{lt-leb, le-leb}
 use borrow.Author.Needs.{needs}
+use Rattle.exports.proofs.Entry.{passed, failed, room}
 use Rattle.exports.proofs.network.bench_net_report.Statement.{statement}
 use Rattle.exports.proofs.network.bench_net_report.Tie as tie
 
+holds-requires : tie.Need-holds-requires
+holds-requires c κs = search needs
+
 returns : tie.Need-returns
 unfolding netReportTold
-returns c = rw (lt-leb _ _ (c .if1 .taken))
+returns c = rw (failed (c .before .holds .ensures) (c .if1 .taken))
 
 load-requires : tie.Need-load-requires
-load-requires c κs = search needs
+load-requires c κs = room 388 _ _ (c .before .holds .ensures) (c .if1 .left)
 
 report-requires : tie.Need-report-requires
 report-requires c κs = search needs
@@ -24,9 +27,16 @@ same-length c = search needs
 
 returns-2 : tie.Need-returns-2
 unfolding netReportTold
-returns-2 c = rw (le-leb _ _ (c .before .before .before .before .before .before .if1 .left), ← c .before .before .before .before .before .load .ensures, ← c .before .before .before .report .ensures .0, c .number-of .ensures)
+returns-2 c = rw (passed (c .before .before .before .before .before .before .before .holds .ensures) (c .before .before .before .before .before .before .if1 .left), ← c .before .before .before .before .before .load .ensures, ← c .before .before .before .report .ensures .0, c .number-of .ensures)
 
 pub bench-net-report-spec : {M : Type 1} → statement M
 bench-net-report-spec =
     tie.close
-    (tie.spec returns load-requires report-requires number-of-requires same-length returns-2)
+    (tie.spec
+    holds-requires
+    returns
+    load-requires
+    report-requires
+    number-of-requires
+    same-length
+    returns-2)

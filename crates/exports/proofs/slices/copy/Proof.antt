@@ -2,11 +2,11 @@
 use Prim.Native.Nat.{ℕ, suc, _≤_, _<_, _-_, _+_}
 use native.Mathlib.Numerals.{add-one}
 use native.Mathlib.Omega.{arith}
-use mathlib.Core.List.{List, _++_, append-nil}
-use mathlib.Core.Path.{_≡_, refl, sym, _∙_}
+use mathlib.Core.List.{List, _++_}
+use mathlib.Core.Path.{_≡_, refl, sym}
 use borrow.Author.Needs.{needs}
-use lib.ListN.{length, getD, set, take, drop, length-set, drop-of-length-le}
-use lib.Seq.{length-take-le, take-all, take-suc, drop-cons, set-at, append-snoc}
+use lib.ListN.{length, getD, set, take, drop, length-set}
+use lib.Seq.{length-take-le, take-suc, drop-cons, set-at, append-snoc}
 use Rattle.exports.proofs.slices.copy.Statement.{statement}
 use Rattle.exports.proofs.slices.copy.Tie as tie
 
@@ -19,15 +19,11 @@ copied-more from k old now g h same =
     rw (same, add-one, drop-cons old k 0 h, set-at (take k from) (getD old k 0) (drop (suc k) old) (getD from k 0) k (length-take-le k from (omega arith)), take-suc from k 0 g)
     (sym (append-snoc (take k from) (getD from k 0) (drop (suc k) old)))
 
--- all of them
-copied-all : (from : List ℕ) (k : ℕ) (old now : List ℕ) → length from ≤ k → length old ≤ k → now ≡ copied from k old → now ≡ from
-copied-all from k old now g h same = same ∙ rw (take-all k from g, drop-of-length-le old h) (append-nil from)
-
 abbrev Inv-loop : tie.InvT-loop
-Inv-loop from to₀ k₀ to k = (k ≤ length from) × (length to ≡ length to₀) × (to ≡ copied from k to₀)
+Inv-loop from to₀ k₀ to k = (k ≤ 320) × (length to ≡ length to₀) × (to ≡ copied from k to₀)
 
 abbrev μ-loop : tie.MeasureT-loop
-μ-loop from to₀ k₀ to k = length from - k
+μ-loop from to₀ k₀ to k = 320 - k
 
 loop-holds : tie.Need-loop-holds Inv-loop μ-loop
 loop-holds c = (omega arith, refl, refl)
@@ -51,13 +47,13 @@ loop-less : tie.Need-loop-less Inv-loop μ-loop
 loop-less c = search needs
 
 loop-again : tie.Need-loop-again Inv-loop μ-loop
-loop-again c = (omega arith, simp length-set (omega arith), copied-more _ _ _ _ (omega arith) (omega arith) (c .before .before .loop .inv .2))
+loop-again c = (omega arith, simp length-set (omega arith), copied-more _ _ _ _ (omega (arith, c .before .before .before .pre .0)) (omega (arith, c .before .before .before .pre .1)) (c .before .before .loop .inv .2))
 
 same-length : tie.Need-same-length Inv-loop μ-loop
 same-length c = search needs
 
 returns : tie.Need-returns Inv-loop μ-loop
-returns c = copied-all _ (c .before .loop .k) _ _ (omega arith) (omega arith) (c .before .loop .inv .2)
+returns c = let e : c .before .loop .k ≡ 320 = omega arith in rw e at (c .before .loop .inv .2)
 
 pub copy-spec : {M : Type 1} → statement M
 copy-spec =

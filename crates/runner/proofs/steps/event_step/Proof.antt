@@ -4,16 +4,16 @@ use mathlib.Core.Path.{_∙_, ap}
 use borrow.Author.Needs.{needs}
 use Rattle.bench.specs.State.{State}
 use Rattle.runner.specs.Turns.{eventTurn, fieldTurn}
-use Rattle.runner.specs.Desk.{Desk, desk}
+use Rattle.runner.specs.Buffers.{Buffers, buffers}
 use Rattle.runner.proofs.StepTurns.{ended-on, opened-state, accepted-turn, refused-turn}
 use Rattle.runner.proofs.steps.event_step.Statement.{statement}
 use Rattle.runner.proofs.steps.event_step.Tie as tie
 
--- the desk that is handed over
-abbrev DeskOf : tie.Start → Desk
-DeskOf s =
+-- the buffers that are handed over
+abbrev BuffersOf : tie.Start → Buffers
+BuffersOf s =
     let a = s .args in
-    desk (a .costs .now) (a .tables .now) (a .sent .now) (a .held .now) (a .messages .now) (a .rows .now) (a .out .now)
+    buffers (a .costs .now) (a .tables .now) (a .sent .now) (a .held .now) (a .messages .now) (a .rows .now) (a .out .now)
 
 open-requires : tie.Need-open-requires
 open-requires c κs = search needs
@@ -53,8 +53,8 @@ unfolding fieldTurn
 returns c =
     let s = c .before .before .before .before .before .before .before .before .before .before .before .before .before .before .before .before .before .before .before .before .before .before .before .before .before .before .before .before .before .before .before .before .before .before .before .before .before .before in
     let a = s .args in
-    accepted-turn _ (a .event) (a .used) (a .r) (DeskOf s) _ (c .before .before .before .before .before .before .before .before .before .before .before .before .before .before .happen .ensures) (c .before .before .if1 .taken)
-    ∙ ap (λ (x : State). eventTurn x (a .event) (a .used) (a .r) (DeskOf s)) (opened-state (a .r) (DeskOf s) (c .before .before .before .before .before .before .before .before .before .before .before .before .before .before .before .before .before .before .before .before .before .before .before .before .before .before .before .«open» .ensures))
+    accepted-turn _ (a .event) (a .used) (a .r) (BuffersOf s) _ (c .before .before .before .before .before .before .before .before .before .before .before .before .before .before .happen .ensures) (c .before .before .if1 .taken)
+    ∙ ap (λ (x : State). eventTurn x (a .event) (a .used) (a .r) (BuffersOf s)) (opened-state (a .r) (BuffersOf s) (c .before .before .before .before .before .before .before .before .before .before .before .before .before .before .before .before .before .before .before .before .before .before .before .before .before .before .before .«open» .ensures))
 
 ended-requires : tie.Need-ended-requires
 ended-requires c κs = omega (arith, c .before .before .before .before .before .before .before .before .before .before .before .before .before .before .before .before .before .before .before .before .before .before .before .before .before .before .before .before .before .before .before .before .before .before .before .before .before .pre .4, c .before .before .before .before .before .before .before .before .before .before .before .before .before .happen .kept .1 .1 .1 .1 .1 .1 .1 .0)
@@ -83,8 +83,8 @@ returns-2 c =
     let s = c .before .before .before .before .before .before .before .before .before .before .before .before .before .before .before .before .before .before .before .before .before .before .before .before .before .before .before .before .before .before .before .before .before .before .before .before .before .before .before .before in
     let a = s .args in
     ended-on _ _ _ _ (c .before .before .ended .ensures)
-    ∙ refused-turn _ (a .event) (a .used) (a .r) (DeskOf s) _ (c .before .before .before .before .before .before .before .before .before .before .before .before .before .before .before .before .happen .ensures) (c .before .before .before .before .if1 .left)
-    ∙ ap (λ (x : State). eventTurn x (a .event) (a .used) (a .r) (DeskOf s)) (opened-state (a .r) (DeskOf s) (c .before .before .before .before .before .before .before .before .before .before .before .before .before .before .before .before .before .before .before .before .before .before .before .before .before .before .before .before .before .«open» .ensures))
+    ∙ refused-turn _ (a .event) (a .used) (a .r) (BuffersOf s) _ (c .before .before .before .before .before .before .before .before .before .before .before .before .before .before .before .before .happen .ensures) (c .before .before .before .before .if1 .left)
+    ∙ ap (λ (x : State). eventTurn x (a .event) (a .used) (a .r) (BuffersOf s)) (opened-state (a .r) (BuffersOf s) (c .before .before .before .before .before .before .before .before .before .before .before .before .before .before .before .before .before .before .before .before .before .before .before .before .before .before .before .before .before .«open» .ensures))
 
 pub event-step-spec : {M : Type 1} → statement M
 event-step-spec =

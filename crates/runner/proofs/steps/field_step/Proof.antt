@@ -1,4 +1,4 @@
--- `steps::field_step` meets its contract: each setup on the whole desk, or an event. Assumes nothing.
+-- `steps::field_step` meets its contract: each setup on all of the buffers, or an event. Assumes nothing.
 use borrow.Author.Needs.{needs}
 use Rattle.runner.specs.Turns.{fieldTurn}
 use Rattle.runner.proofs.StepTurns.{setup-on}

@@ -7,34 +7,34 @@ use borrow.Author.Tests.{not-true, not-false}
 use borrow.Author.Needs.{needs}
 use Rattle.plan.specs.Fields.{byte}
 use Rattle.runner.specs.Turns.{runnerInRange}
-use Rattle.runner.specs.Desk.{Desk, desk, deskLong}
+use Rattle.runner.specs.Buffers.{Buffers, buffers, buffersLong}
 use Rattle.runner.proofs.StepTurns.{StepTold, step-told, ended-on, field-fits, field-used, stop-turn, field-turn, step-out, step-read}
 use Rattle.runner.proofs.steps.step.Statement.{statement}
 use Rattle.runner.proofs.steps.step.Tie as tie
 
--- the desk that is handed over
-abbrev DeskOf : tie.Start → Desk
-DeskOf s =
+-- the buffers that are handed over
+abbrev BuffersOf : tie.Start → Buffers
+BuffersOf s =
     let a = s .args in
-    desk (a .costs .now) (a .tables .now) (a .sent .now) (a .held .now) (a .messages .now) (a .rows .now) (a .out .now)
+    buffers (a .costs .now) (a .tables .now) (a .sent .now) (a .held .now) (a .messages .now) (a .rows .now) (a .out .now)
 
 -- the checks
 tested :
     (c : tie.After-both) →
-    let s = c .before .before .before .before .before .before .before .before .before .before .before in c .both .result ≡ (runnerInRange (s .args .r) && deskLong (DeskOf s))
-unfolding deskLong
-tested c = rw (c .before .runner-in-range .ensures, c .before .before .desk-long .ensures) at (c .both .ensures)
+    let s = c .before .before .before .before .before .before .before .before .before .before .before in c .both .result ≡ (runnerInRange (s .args .r) && buffersLong (BuffersOf s))
+unfolding buffersLong
+tested c = rw (c .before .runner-in-range .ensures, c .before .before .buffers-long .ensures) at (c .both .ensures)
 
 passes :
     (c : tie.Else1) →
-    let s = c .before .before .before .before .before .before .before .before .before .before .before .before in (runnerInRange (s .args .r) && deskLong (DeskOf s)) ≡ true
+    let s = c .before .before .before .before .before .before .before .before .before .before .before .before in (runnerInRange (s .args .r) && buffersLong (BuffersOf s)) ≡ true
 passes c = sym (tested (c .before)) ∙ not-false _ (c .if1 .left)
 
-told : (c : tie.Else1) → let s = c .before .before .before .before .before .before .before .before .before .before .before .before in StepTold (s .args .r) (DeskOf s)
+told : (c : tie.Else1) → let s = c .before .before .before .before .before .before .before .before .before .before .before .before in StepTold (s .args .r) (BuffersOf s)
 told c = step-told _ _ (passes c)
 
-desk-long-requires : tie.Need-desk-long-requires
-desk-long-requires c κs = search needs
+buffers-long-requires : tie.Need-buffers-long-requires
+buffers-long-requires c κs = search needs
 
 runner-in-range-requires : tie.Need-runner-in-range-requires
 runner-in-range-requires c κs = search needs
@@ -66,8 +66,8 @@ same-length c = search needs
 returns-2 : tie.Need-returns-2
 returns-2 c =
     let s = c .before .before .before .before .before .before .before .before .before .before .before .before .before .before .before .before .before .before .before .before .before in
-    ended-on _ _ (s .args .r) (DeskOf s) (c .before .before .ended .ensures)
-    ∙ stop-turn (s .args .rest .now) (s .args .r) (DeskOf s) (c .before .before .before .before .before .before .before .read-field .result) _ (c .before .before .before .before .stop-number .ensures) (c .before .before .before .before .before .enum-told .given .1)
+    ended-on _ _ (s .args .r) (BuffersOf s) (c .before .before .ended .ensures)
+    ∙ stop-turn (s .args .rest .now) (s .args .r) (BuffersOf s) (c .before .before .before .before .before .before .before .read-field .result) _ (c .before .before .before .before .stop-number .ensures) (c .before .before .before .before .before .enum-told .given .1)
     ∙ step-read _ _ _ (passes (c .before .before .before .before .before .before .before .before .before)) _ (c .before .before .before .before .before .before .before .read-field .ensures)
 
 field-step-requires : tie.Need-field-step-requires
@@ -104,14 +104,14 @@ returns-3 : tie.Need-returns-3
 returns-3 c =
     let s = c .before .before .before .before .before .before .before .before .before .before .before .before .before .before .before .before .before .before .before .before .before .before .before .before .before .before .before .before .before .before .before .before .before .before .before .before .before .before .before in
     c .before .before .before .before .before .before .before .before .before .before .before .before .before .before .field-step .ensures
-    ∙ field-turn (s .args .rest .now) (s .args .r) (DeskOf s) (c .before .before .before .before .before .before .before .before .before .before .before .before .before .before .before .before .before .before .before .before .before .before .before .before .before .read-field .result) (c .before .before .before .before .before .before .before .before .before .before .before .before .before .before .before .before .before .before .before .before .before .before .before .read .given .1)
+    ∙ field-turn (s .args .rest .now) (s .args .r) (BuffersOf s) (c .before .before .before .before .before .before .before .before .before .before .before .before .before .before .before .before .before .before .before .before .before .before .before .before .before .read-field .result) (c .before .before .before .before .before .before .before .before .before .before .before .before .before .before .before .before .before .before .before .before .before .before .before .read .given .1)
     ∙ step-read _ _ _ (passes (c .before .before .before .before .before .before .before .before .before .before .before .before .before .before .before .before .before .before .before .before .before .before .before .before .before .before .before)) _ (c .before .before .before .before .before .before .before .before .before .before .before .before .before .before .before .before .before .before .before .before .before .before .before .before .before .read-field .ensures)
 
 pub step-spec : {M : Type 1} → statement M
 step-spec =
     tie.close
     (tie.spec
-    desk-long-requires
+    buffers-long-requires
     runner-in-range-requires
     both-requires
     returns

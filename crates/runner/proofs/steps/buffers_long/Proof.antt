@@ -1,7 +1,7 @@
--- `steps::desk_long` meets its contract. Assumes nothing.
+-- `steps::buffers_long` meets its contract. Assumes nothing.
 use borrow.Author.Needs.{needs}
-use Rattle.runner.proofs.steps.desk_long.Statement.{statement}
-use Rattle.runner.proofs.steps.desk_long.Tie as tie
+use Rattle.runner.proofs.steps.buffers_long.Statement.{statement}
+use Rattle.runner.proofs.steps.buffers_long.Tie as tie
 
 both-requires : tie.Need-both-requires
 both-requires c κs = search needs
@@ -24,8 +24,8 @@ both-requires-6 c κs = search needs
 returns : tie.Need-returns
 returns c = cc
 
-pub desk-long-spec : {M : Type 1} → statement M
-desk-long-spec =
+pub buffers-long-spec : {M : Type 1} → statement M
+buffers-long-spec =
     tie.close
     (tie.spec
     both-requires

@@ -11,7 +11,7 @@ use Rattle.plan.specs.declared.Progress.{Progress}
 use Rattle.runner.specs.declared.Runner.{Runner}
 
 -- costs, the views' distances, the two limit tables, the messages, a report's rows, and the bytes to be printed
-pub record Desk : Type 0 where
+pub record Buffers : Type 0 where
   pub costs : List ℕ
   pub tables : List ℕ
   pub sent : List ℕ
@@ -20,27 +20,27 @@ pub record Desk : Type 0 where
   pub rows : List ℕ
   pub out : List ℕ
 
-abbrev pub desk : List ℕ → List ℕ → List ℕ → List ℕ → List ℕ → List ℕ → List ℕ → Desk
-desk costs tables sent held messages rows out =
+abbrev pub buffers : List ℕ → List ℕ → List ℕ → List ℕ → List ℕ → List ℕ → List ℕ → Buffers
+buffers costs tables sent held messages rows out =
     record { costs = costs; tables = tables; sent = sent; held = held; messages = messages; rows = rows; out = out }
 
 -- each is as long as a run needs
-unfoldable pub deskLong : Desk → Bool
-deskLong k =
+unfoldable pub buffersLong : Buffers → Bool
+buffersLong k =
     leb 1024 (length (k .costs))
     && (leb 8192 (length (k .tables))
     && (leb 1024 (length (k .sent))
     && (leb 1024 (length (k .held))
     && (leb 320 (length (k .messages)) && (leb 32 (length (k .rows)) && leb 544 (length (k .out)))))))
 
--- the bench's state on the desk
-abbrev pub stateOn : Bench → Desk → State
+-- the bench's state in the buffers
+abbrev pub stateOn : Bench → Buffers → State
 stateOn b k = state b (k .costs) (k .tables) (k .sent) (k .held) (k .messages)
 
--- the desk with another state, other rows and a text to be printed
-abbrev pub deskWith : State → List ℕ → List ℕ → Desk → Desk
-deskWith s rows text k =
-    desk (s .costs) (s .tables) (s .sent) (s .held) (s .messages) rows (sets (k .out) 0 text)
+-- the buffers with another state, other rows and a text to be printed
+abbrev pub buffersWith : State → List ℕ → List ℕ → Buffers → Buffers
+buffersWith s rows text k =
+    buffers (s .costs) (s .tables) (s .sent) (s .held) (s .messages) rows (sets (k .out) 0 text)
 
 -- how far the reader has come
 abbrev pub progressOf : Runner → Progress

@@ -1,0 +1,119 @@
+-- What is printed and what is still to be printed, from filling to filling. Assumes nothing.
+use Prim.Native.Nat.{ℕ, suc, _+_, _-_, _≤_, _<_}
+use native.Mathlib.Omega.{arith}
+use mathlib.Core.Path.{_≡_, refl, sym, ap, subst, _∙_}
+use mathlib.Core.Bool.{Bool, true, false, cond}
+use mathlib.Core.List.{List, []}
+use lib.ListN.{length, take, drop, length-append, length-drop}
+use lib.Seq.{take-all, length-take-le, drop-drop}
+use Rattle.text.specs.Lines.{refusedText}
+use Rattle.runner.specs.Buffers.{Buffers}
+use Rattle.runner.specs.Events.{Line, line, lineOf}
+use Rattle.runner.specs.Turns.{Turn}
+use Rattle.runner.specs.Plans.{firstRunner, firstBuffers, prints}
+use Rattle.runner.specs.Fills.{buffersWithOut, fillOf}
+use Rattle.runner.specs.declared.Runner.{Runner}
+use Rattle.runner.proofs.FillTurns.{fill-within}
+use Rattle.runner.proofs.FillLaws.{fill-prints, first-out, prints-most, printed-carried, printed-refused}
+use Rattle.play.specs.Output.{Counts}
+
+-- the bytes that a plan prints
+abbrev pub whole : List ℕ → ℕ
+whole plan = length (prints (suc (length plan)) firstRunner firstBuffers plan)
+
+-- those that are still to be printed where a plan stands
+abbrev pub toPrint : Bool → List ℕ → Runner → Buffers → ℕ
+toPrint going rest r k = cond going (length (prints (suc (length rest)) r k rest)) 0
+
+-- the bytes that are left, and one more while the plan goes on
+abbrev pub left : Bool → List ℕ → ℕ → ℕ
+left going plan at = cond going (suc (length plan - at)) 0
+
+pub record Place (plan : List ℕ) (going : Bool) (at printed : ℕ) (r : Runner) (k : Buffers) : Type 0 where
+  pub within : at ≤ length plan
+  pub counted : printed + toPrint going (drop at plan) r k ≡ whole plan
+
+pub begun : (plan out : List ℕ) (r : Runner) → 544 ≤ length out → r ≡ firstRunner → Place plan true 0 0 r (buffersWithOut out firstBuffers)
+begun plan out r long e = record { within = omega arith; counted = rw e (omega (arith, ap length (first-out plan out long))) }
+
+pub ended : (plan : List ℕ) (going : Bool) (at printed : ℕ) (r : Runner) (k : Buffers) → going ≡ false → Place plan going at printed r k → printed ≡ whole plan
+ended plan going at printed r k e p = omega (arith, rw e at (p .counted))
+
+cond-length : (b : Bool) (l : List ℕ) → length (cond b l []) ≡ cond b (length l) 0
+cond-length true l = refl
+cond-length false l = refl
+
+-- a filling, from a place of a plan that goes on
+pub record Turned (plan : List ℕ) (at printed : ℕ) (t : Turn) : Type 0 where
+  pub written : t .written ≤ length (t .buffers .out)
+  pub fits : printed + t .written ≤ whole plan
+  pub place : Place plan (t .going) (at + t .used) (printed + t .written) (t .runner) (t .buffers)
+  pub fewer : left (t .going) plan (at + t .used) < suc (length plan - at)
+
+module _ (plan : List ℕ) (at printed : ℕ) (r : Runner) (k : Buffers) (p : Place plan true at printed r k) where
+  abbrev rest : List ℕ
+  rest = drop at plan
+
+  abbrev t : Turn
+  t = fillOf r k rest
+
+  -- what was to be printed: what was filled, and what is to be printed from there
+  split : length (prints (suc (length rest)) r k rest) ≡ t .written + toPrint (t .going) (drop (t .used) rest) (t .runner) (t .buffers)
+  split =
+      let later : List ℕ = prints (suc (length (drop (t .used) rest))) (t .runner) (t .buffers) (drop (t .used) rest) in
+      omega (
+        arith,
+        ap length (fill-prints r k rest),
+        length-append (take (t .written) (t .buffers .out)) (cond (t .going) later []),
+        length-take-le (t .written) (t .buffers .out) (fill-within r k rest .written),
+        cond-length (t .going) later,
+      )
+
+  used-some : (b : Bool) → t .going ≡ b → left b plan (at + t .used) < suc (length plan - at)
+  used-some true e = omega (arith, fill-within r k rest .goes e, fill-within r k rest .used, length-drop at plan)
+  used-some false e = omega arith
+
+  filled : Turned plan at printed t
+  filled =
+      record {
+        written = fill-within r k rest .written;
+        fits = omega (arith, split, p .counted);
+        place =
+            record {
+              within = omega (arith, p .within, fill-within r k rest .used, length-drop at plan);
+              counted = rw (← drop-drop (t .used) at plan) (omega (arith, split, p .counted));
+            };
+        fewer = used-some (t .going) refl;
+      }
+
+  -- the part of the plan that is handed on
+  filled-part : (u : Turn) → u ≡ fillOf r k (take (length plan - at) (drop at plan)) → Turned plan at printed u
+  filled-part u e =
+      let part = take-all (length plan - at) (drop at plan) (omega (arith, length-drop at plan)) in
+      subst (Turned plan at printed) (sym (e ∙ ap (fillOf r k) part)) filled
+
+module _ (plan : List ℕ) (going : Bool) (at : ℕ) (on : going ≡ true) where
+  pub turned :
+      (printed : ℕ) (r : Runner) (k : Buffers) (u : Turn) → Place plan going at printed r k →
+      u ≡ fillOf r k (take (length plan - at) (drop at plan)) → Turned plan at printed u
+  turned printed r k u p = filled-part plan at printed r k (subst (λ (b : Bool). Place plan b at printed r k) on p) u
+
+  pub fewer-left : (more : ℕ) → more < suc (length plan - at) → more < left going plan at
+  fewer-left more less = rw on less
+
+-- a plan prints no more than can be counted
+pub whole-few : (plan : List ℕ) → length plan ≤ 61440 → whole plan ≤ 33423904
+whole-few plan few = omega (arith, prints-most (suc (length plan)) firstRunner firstBuffers plan)
+
+-- ---- the reply
+
+pub counts-carried : (plan : List ℕ) (n : ℕ) → length plan ≤ 61440 → n ≡ whole plan → Counts n
+counts-carried plan n few e = record { plan = plan; few = omega (arith, few); count = e ∙ sym (ap length (printed-carried plan few)) }
+
+pub counts-refused : (plan m out : List ℕ) (n : ℕ) → length plan ≡ 61441 → line n m ≡ lineOf (refusedText 18 61440) out → Counts n
+counts-refused plan m out n long e =
+    record {
+      plan = plan;
+      few = omega (arith, long);
+      count = ap (λ (l : Line). l .count) e ∙ sym (ap length (printed-refused plan (omega (arith, long))));
+    }

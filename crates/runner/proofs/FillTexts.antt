@@ -1,0 +1,220 @@
+-- What a step does whatever stands in the bytes to be printed: its text goes into the first of them, and is short. Assumes nothing.
+use Prim.Native.Nat.{ℕ, _+_, _≤_, _<_}
+use native.Mathlib.Omega.{arith}
+use mathlib.Core.Path.{_≡_, refl}
+use mathlib.Core.Bool.{Bool, true, false, cond, _&&_}
+use mathlib.Core.List.{List, [], _∷_}
+use borrow.Author.Tests.{leb-true, leb-false, le-leb, lt-leb, eqb-true}
+use lib.ListN.{length}
+use lib.Seq.{sets, length-sets}
+use lib.Dec.{eqb, leb}
+use Rattle.distances.proofs.Booleans.{both-true, not-both}
+use Rattle.bench.specs.Paths as paths
+use Rattle.bench.specs.State.{State}
+use Rattle.bench.specs.Answers.{reportOf, pathOf}
+use Rattle.bench.proofs.AnswerRanges.{report-few}
+use Rattle.plan.specs.Reading.{readReply}
+use Rattle.plan.specs.declared.Event.{Event}
+use Rattle.plan.specs.declared.Event.the-variants.{Update, Send, Deliver, Repeat, Lose, Cut, Restore, Report, Path}
+use Rattle.plan.specs.declared.Field.{Field}
+use Rattle.plan.specs.declared.Read.{Read}
+use Rattle.plan.proofs.Laws.{field-size}
+use Rattle.text.specs.Lines.{endText, refusedText}
+use Rattle.text.proofs.Laws.{length-reportText, length-deliveredText, length-stopsText, length-endText, length-refusedText}
+use Rattle.runner.specs.Buffers.{Buffers, buffersLong, buffersWith, progressOf}
+use Rattle.runner.specs.Events.{replyOf, rowsAfter, textOf, wayText, stateAfter}
+use Rattle.runner.specs.Turns.{Turn, turn, lastTurn, lastText, setupTurn, withBridges, withLink, withView, withRow, buffersWithCosts, opened, eventTurn, fieldTurn, readTurn, runnerInRange, stepOf}
+use Rattle.runner.specs.Fills.{buffersWithOut}
+use Rattle.runner.specs.declared.Runner.{Runner}
+
+-- ---- texts are short
+
+way-short : (start dest : ℕ) (ways : List paths.Way) → length (wayText start dest ways) ≤ 544
+unfolding wayText
+way-short start dest [] = omega arith
+way-short start dest (paths.delivered h ∷ ws) = length-deliveredText start dest h
+way-short start dest (paths.stops b h ∷ ws) = length-stopsText start dest b h
+
+text-short : (s : State) (rows : List ℕ) (e : Event) → replyOf s rows e ≡ 0 → length (textOf s rows e) ≤ 544
+unfolding textOf replyOf
+text-short s rows (Update y t) none = omega arith
+text-short s rows (Send y l) none = omega arith
+text-short s rows (Deliver p) none = omega arith
+text-short s rows (Repeat p) none = omega arith
+text-short s rows (Lose p) none = omega arith
+text-short s rows (Cut l) none = omega arith
+text-short s rows (Restore l) none = omega arith
+text-short s rows (Report d) none = length-reportText d (s .bench .bridges) (reportOf s d rows .rows) (report-few s d rows none)
+text-short s rows (Path y d) none = way-short y d (pathOf s y d .value)
+
+last-short : (number events offset : ℕ) → length (lastText number events offset) ≤ 544
+unfolding lastText
+last-short number events offset = go (eqb number 0)
+  where
+    go : (b : Bool) → length (cond b (endText events) (refusedText number offset)) ≤ 544
+    go true = length-endText events
+    go false = length-refusedText number offset
+
+-- ---- a turn, as it goes by the bytes to be printed
+
+pub record Texts (most : ℕ) (f : List ℕ → Turn) : Type 0 where
+  pub reply : ℕ
+  pub going : Bool
+  pub used : ℕ
+  pub runner : Runner
+  pub after : Buffers
+  pub text : List ℕ
+  pub fits : used ≤ most
+  pub short : length text ≤ 544
+  pub is : (out : List ℕ) → 544 ≤ length out → f out ≡ turn reply going used (length text) runner (buffersWithOut (sets out 0 text) after)
+
+event-texts : (s : State) (e : Event) (used most : ℕ) (r : Runner) (k : Buffers) → used ≤ most → Texts most (λ out. eventTurn s e used r (buffersWithOut out k))
+unfolding eventTurn
+event-texts s e used most r k low = go (eqb (replyOf s (k .rows) e) 0) refl
+  where
+    go : (b : Bool) → eqb (replyOf s (k .rows) e) 0 ≡ b → Texts most (λ out. eventTurn s e used r (buffersWithOut out k))
+    go true q =
+        record {
+          reply = 0;
+          going = true;
+          used = used;
+          runner = record { bench = stateAfter s e .bench; stage = 3; events = r .events + 1; offset = r .offset + used };
+          after = buffersWith (stateAfter s e) (rowsAfter s (k .rows) e) [] k;
+          text = textOf s (k .rows) e;
+          fits = low;
+          short = text-short s (k .rows) e (eqb-true _ 0 q);
+          is = λ out long. rw q;
+        }
+    go false q =
+        record {
+          reply = replyOf s (k .rows) e;
+          going = false;
+          used = 0;
+          runner = record { bench = s .bench; stage = 3; events = r .events; offset = r .offset };
+          after = buffersWith s (k .rows) [] k;
+          text = refusedText (replyOf s (k .rows) e) (r .offset);
+          fits = omega arith;
+          short = length-refusedText (replyOf s (k .rows) e) (r .offset);
+          is = λ out long. rw q;
+        }
+
+field-texts : (rest : List ℕ) (f : Field) (used most : ℕ) (r : Runner) (k : Buffers) → used ≤ most → Texts most (λ out. fieldTurn rest f used r (buffersWithOut out k))
+unfolding fieldTurn setupTurn opened
+field-texts rest (Field.Bridges n) used most r k low =
+    record {
+      reply = 0;
+      going = true;
+      used = used;
+      runner = record { bench = withBridges (r .bench) n; stage = 1; events = r .events; offset = r .offset + used };
+      after = k;
+      text = [];
+      fits = low;
+      short = omega arith;
+      is = λ out long. refl;
+    }
+field-texts rest (Field.Link x y) used most r k low =
+    record {
+      reply = 0;
+      going = true;
+      used = used;
+      runner = record { bench = withLink (r .bench) x y; stage = 1; events = r .events; offset = r .offset + used };
+      after = k;
+      text = [];
+      fits = low;
+      short = omega arith;
+      is = λ out long. refl;
+    }
+field-texts rest Field.View used most r k low =
+    record {
+      reply = 0;
+      going = true;
+      used = used;
+      runner = record { bench = withView (r .bench); stage = 2; events = r .events; offset = r .offset + used };
+      after = buffersWithCosts (withRow rest (r .bench) (k .costs)) k;
+      text = [];
+      fits = low;
+      short = omega arith;
+      is = λ out long. refl;
+    }
+field-texts rest (Field.Event e) used most r k low = event-texts (opened r k) e used most r k low
+
+-- the other buffers are long enough
+abbrev othersLong : Buffers → Bool
+othersLong k =
+    leb 1024 (length (k .costs))
+    && (leb 8192 (length (k .tables))
+    && (leb 1024 (length (k .sent))
+    && (leb 1024 (length (k .held)) && (leb 320 (length (k .messages)) && (leb 32 (length (k .rows)) && true)))))
+
+pub step-texts : (r : Runner) (k : Buffers) (rest : List ℕ) → Texts (length rest) (λ out. stepOf r (buffersWithOut out k) rest)
+unfolding stepOf readTurn lastTurn buffersLong
+step-texts r k rest = go (runnerInRange r && othersLong k) (readReply rest (progressOf r)) refl refl
+  where
+    go : (b : Bool) (d : Read) → (runnerInRange r && othersLong k) ≡ b → readReply rest (progressOf r) ≡ d → Texts (length rest) (λ out. stepOf r (buffersWithOut out k) rest)
+    go false d e h =
+        record {
+          reply = 17;
+          going = false;
+          used = 0;
+          runner = r;
+          after = k;
+          text = [];
+          fits = omega arith;
+          short = omega arith;
+          is = λ out long. rw (le-leb 544 (length out) long, e);
+        }
+    go true (Read.Stop number) e h =
+        record {
+          reply = number;
+          going = false;
+          used = 0;
+          runner = r;
+          after = k;
+          text = lastText number (r .events) (r .offset);
+          fits = omega arith;
+          short = last-short number (r .events) (r .offset);
+          is = λ out long. rw (le-leb 544 (length out) long, e, h);
+        }
+    go true (Read.Field f used) e h =
+        let x = field-texts rest f used (length rest) r k (field-size rest (progressOf r) h .1) in
+        record {
+          reply = x .reply;
+          going = x .going;
+          used = x .used;
+          runner = x .runner;
+          after = x .after;
+          text = x .text;
+          fits = x .fits;
+          short = x .short;
+          is = λ out long. rw (le-leb 544 (length out) long, e, h) (x .is out long);
+        }
+
+-- ---- a step keeps within what is lent
+
+-- with too few bytes to be printed it is refused
+pub step-cramped : (r : Runner) (k : Buffers) (rest : List ℕ) → length (k .out) < 544 → stepOf r k rest ≡ turn 17 false 0 0 r k
+unfolding stepOf buffersLong
+step-cramped r k rest few =
+    let last = not-both (leb 32 (length (k .rows))) _ (lt-leb 544 (length (k .out)) few) in
+    let two = not-both (leb 1024 (length (k .held))) _ (not-both (leb 320 (length (k .messages))) _ last) in
+    let four = not-both (leb 8192 (length (k .tables))) _ (not-both (leb 1024 (length (k .sent))) _ two) in
+    rw (not-both (runnerInRange r) _ (not-both (leb 1024 (length (k .costs))) _ four))
+
+pub record Within (r : Runner) (k : Buffers) (rest : List ℕ) : Type 0 where
+  pub used : stepOf r k rest .used ≤ length rest
+  pub few : stepOf r k rest .written ≤ 544
+  pub written : stepOf r k rest .written ≤ length (k .out)
+  pub kept : length (stepOf r k rest .buffers .out) ≡ length (k .out)
+
+pub step-within : (r : Runner) (k : Buffers) (rest : List ℕ) → Within r k rest
+step-within r k rest = go (leb 544 (length (k .out))) refl
+  where
+    go : (b : Bool) → leb 544 (length (k .out)) ≡ b → Within r k rest
+    go true e =
+        let x = step-texts r k rest in
+        let long = leb-true 544 (length (k .out)) e in
+        let is : stepOf r k rest ≡ turn (x .reply) (x .going) (x .used) (length (x .text)) (x .runner) (buffersWithOut (sets (k .out) 0 (x .text)) (x .after)) = x .is (k .out) long in
+        record { used = rw is (x .fits); few = rw is (x .short); written = rw is (omega (arith, x .short, long)); kept = rw is (length-sets (k .out) 0 (x .text)) }
+    go false e =
+        let is = step-cramped r k rest (leb-false 544 (length (k .out)) e) in
+        record { used = rw is (omega arith); few = rw is (omega arith); written = rw is (omega arith); kept = rw is }

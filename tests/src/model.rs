@@ -1,0 +1,164 @@
+//! The calls of layer 3 by reference/. A flaw is an error put around them, for tests of the tests.
+
+use crate::flaw::{ask, Flaw, Site};
+use crate::view::NONE;
+use reference::forwarding::PathEnd;
+use reference::network::Network;
+use reference::records::{offers, Answer, Bridge, Held, Message, Records};
+use reference::refusal::Refusal;
+
+#[derive(Clone, Copy, Debug, PartialEq)]
+pub enum Call {
+    Update(usize, usize),
+    Cut(usize),
+    Restore(usize),
+    Send(usize, usize),
+    Deliver(usize),
+    Repeat(usize),
+    Lose(usize),
+    Port(usize, usize),
+    Report(usize),
+    Path(usize, usize),
+}
+
+#[derive(Clone, Debug, PartialEq)]
+pub enum Reply {
+    Done,
+    /// With the message that was delivered.
+    Answered(Answer, Message),
+    /// The link.
+    Port(Option<usize>),
+    /// A distance and a link for each bridge.
+    Report(Vec<(u32, Option<usize>)>),
+    Path(PathEnd),
+}
+
+/// The network, and a flaw of its calls.
+#[derive(Clone, Debug)]
+pub struct Model {
+    pub network: Network,
+    pub flaw: Option<Flaw>,
+    /// How many deliveries cleared sent limits.
+    pub clearings: usize,
+}
+
+/// The reference takes bytes, as a plan has them. No count reaches 255, so what is greater is refused as 255 is.
+fn byte(number: usize) -> u8 {
+    number.min(255) as u8
+}
+
+impl Model {
+    pub fn of(network: Network) -> Model {
+        Model { network, flaw: None, clearings: 0 }
+    }
+
+    pub fn call(&mut self, call: Call) -> Result<Reply, Refusal> {
+        let before = self.flaw.map(|flaw| (flaw, Before::of(&self.network)));
+        let reply = self.right_call(call)?;
+        Ok(match before {
+            None => reply,
+            Some((flaw, before)) => flaw.spoil(call, before, reply, &mut self.network),
+        })
+    }
+
+    fn right_call(&mut self, call: Call) -> Result<Reply, Refusal> {
+        let network = &mut self.network;
+        match call {
+            Call::Update(bridge, view) => network.update(byte(bridge), byte(view)).map(|()| Reply::Done),
+            Call::Cut(link) => network.set_cut(byte(link), true).map(|()| Reply::Done),
+            Call::Restore(link) => network.set_cut(byte(link), false).map(|()| Reply::Done),
+            Call::Send(bridge, link) => network.send(byte(bridge), byte(link)).map(|()| Reply::Done),
+            Call::Lose(place) => network.lose(byte(place)).map(|()| Reply::Done),
+            Call::Deliver(place) => self.receive(place, Network::deliver),
+            Call::Repeat(place) => self.receive(place, Network::repeat),
+            Call::Port(bridge, dest) => {
+                let (bridge, dest) = (network.bridge(byte(bridge))?, network.bridge(byte(dest))?);
+                Ok(Reply::Port(self.ask(dest, |network| link(network, bridge, dest))))
+            }
+            Call::Report(dest) => {
+                let dest = network.bridge(byte(dest))?;
+                let bridges = 0..network.map.bridge_count();
+                let row = |network: &Network, bridge| (network.distance(bridge, dest), link(network, bridge, dest));
+                Ok(Reply::Report(self.ask(dest, |network| bridges.map(|bridge| row(network, bridge)).collect())))
+            }
+            Call::Path(start, dest) => {
+                let (start, dest) = (network.bridge(byte(start))?, network.bridge(byte(dest))?);
+                Ok(Reply::Path(self.ask(dest, |network| network.path(start, dest))))
+            }
+        }
+    }
+
+    fn ask<T>(&mut self, dest: usize, question: impl FnOnce(&Network) -> T) -> T {
+        ask(self.flaw, &mut self.network, dest, question)
+    }
+
+    fn receive(&mut self, place: usize, by: fn(&mut Network, u8) -> Result<Answer, Refusal>) -> Result<Reply, Refusal> {
+        let message = self.network.flight.get(place).copied();
+        let answer = by(&mut self.network, byte(place))?;
+        let message = message.expect("an accepted delivery is of a message in flight");
+        let receiver = self.network.map.bridge_at(message.from.far());
+        let reported = message.discarded == self.network.bridges[receiver].number;
+        self.clearings += usize::from(answer != Answer::Stale && reported);
+        Ok(Reply::Answered(answer, message))
+    }
+}
+
+/// The link on which a bridge forwards.
+fn link(network: &Network, bridge: usize, dest: usize) -> Option<usize> {
+    network.port(bridge, dest).map(|end| end.link)
+}
+
+// ---- flaws
+
+/// What a network had before a call.
+struct Before {
+    bridges: Vec<Bridge>,
+    records: Vec<[Records; 2]>,
+    flight: Vec<Message>,
+}
+
+impl Before {
+    fn of(network: &Network) -> Before {
+        Before { bridges: network.bridges.clone(), records: network.records.clone(), flight: network.flight.clone() }
+    }
+}
+
+impl Flaw {
+    /// The reply to a call that the reference has carried out, and the network after it.
+    fn spoil(self, call: Call, mut before: Before, reply: Reply, network: &mut Network) -> Reply {
+        match (self, call) {
+            (Flaw::ClearsOnSending, Call::Send(bridge, link)) => {
+                let end = network.map.end_at(bridge, link).expect("an accepted send is of an end");
+                network.records[link][end.side].sent = offers(&network.map, end, network.bridges[bridge].view);
+            }
+            (Flaw::CutForgets, Call::Cut(link)) => {
+                for records in &mut network.records[link] {
+                    records.held = Held::Nothing;
+                    records.sent.fill(NONE);
+                }
+            }
+            (Flaw::LatestKeepsPlace, Call::Deliver(place) | Call::Lose(place)) => {
+                before.flight.swap_remove(place);
+                network.flight = before.flight;
+            }
+            (_, Call::Update(bridge, _)) if network.bridges[bridge] != before.bridges[bridge] => {
+                for &end in &network.ends[bridge] {
+                    let (bridge, before) = (network.bridges[bridge], &before.records[end.link][end.side]);
+                    let site = Site { map: &network.map, end, bridge, before };
+                    self.spoil_update(&site, &mut network.records[end.link][end.side]);
+                }
+            }
+            _ => return self.spoil_answer(&before, reply, network),
+        }
+        reply
+    }
+
+    fn spoil_answer(self, before: &Before, reply: Reply, network: &mut Network) -> Reply {
+        let Reply::Answered(answer, message) = reply else { return reply };
+        let end = message.from.far();
+        let bridge = network.bridges[network.map.bridge_at(end)];
+        let site = Site { map: &network.map, end, bridge, before: &before.records[end.link][end.side] };
+        let answer = self.spoil_delivery(&site, message, answer, &mut network.records[end.link][end.side]);
+        Reply::Answered(answer, message)
+    }
+}

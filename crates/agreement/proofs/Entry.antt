@@ -9,7 +9,7 @@ use borrow.Author.Tests.{leb-true, ltb-true}
 use lib.ListN.{length, getD}
 use lib.Dec.{leb}
 use Rattle.distances.proofs.Booleans.{both-true}
-use Rattle.distances.proofs.Ranges.{sizes, at-bridge}
+use Rattle.distances.proofs.Ranges.{in-range-told, sizes, at-bridge}
 use Rattle.agreement.specs.Offer.{opposite}
 use Rattle.agreement.specs.Ranges.{viewInRange, endInRange}
 use Rattle.agreement.specs.Steps.{ViewReady}
@@ -28,7 +28,7 @@ module _ (bridges links : ℕ) (ends costs table : List ℕ) where
         endsLong = h .2;
         costsLong = h .3;
         tableLong = h .4;
-        areBridges = at-bridge bridges links ends costs _ ok;
+        areBridges = at-bridge bridges links ends (in-range-told bridges links ends costs _ ok .0);
       }
 
   module _ (sent held e : ℕ) (ok : endInRange bridges links ends costs table sent held e ≡ true) where

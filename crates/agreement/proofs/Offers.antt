@@ -10,7 +10,7 @@ use Rattle.distances.specs.View.{NONE, maxDistance, costsOf}
 use Rattle.distances.specs.Table.{cell}
 use Rattle.distances.specs.Distance.{present, dist}
 use Rattle.distances.proofs.Booleans.{both-true}
-use Rattle.distances.proofs.Ranges.{at-bridge, graph-in-range, costs-in-range}
+use Rattle.distances.proofs.Ranges.{in-range-told, at-bridge, graph-in-range, costs-in-range}
 use Rattle.distances.proofs.Laws.{dist-bound, dist-le-none}
 use Rattle.distances.proofs.Joined.{present-is}
 use Rattle.agreement.specs.Offer.{opposite, offer}
@@ -51,7 +51,7 @@ module _ (v : Lent) (ok : lentInRange v ≡ true) where
 
       small : near < far → near ≤ maxDistance
       small h =
-          dist-bound (lentGraph v) c (graph-in-range _ _ _ _ _ ok) (costs-in-range _ _ _ _ _ ok) _ d
+          dist-bound (lentGraph v) c (graph-in-range _ _ _ (in-range-told _ _ _ _ _ ok .0)) (costs-in-range _ _ _ _ _ ok) _ d
           (λ z. absurd (omega (arith, dist-le-none (lentGraph v) c (getD (v .ends) (opposite e) 0) d)))
 
       go : (b : Bool) → (present c (e / 2) && ltb near far) ≡ b → cond b (c (e / 2) + near) NONE ≤ NONE
@@ -67,8 +67,9 @@ module _ (v : Lent) (ok : lentInRange v ≡ true) where
 pub offer-is : LentOffersAreOffers
 unfolding lentOffer offer
 offer-is v ok holds e d he hd =
+    let graph = in-range-told _ _ _ _ _ ok .0 in
     rw (
-      holds (getD (v .ends) e 0) d (at-bridge _ _ _ _ _ ok e he) hd,
-      holds (getD (v .ends) (opposite e) 0) d (at-bridge _ _ _ _ _ ok (opposite e) (omega arith)) hd,
+      holds (getD (v .ends) e 0) d (at-bridge _ _ _ graph e he) hd,
+      holds (getD (v .ends) (opposite e) 0) d (at-bridge _ _ _ graph (opposite e) (omega arith)) hd,
     )
     (omega (arith, offer-most v ok e d he))

@@ -22,7 +22,7 @@ use Rattle.bench.specs.Ranges.{graphInRange, costsInRange, tablesLong}
 use Rattle.bench.specs.Changes.{filledTables, Limits, limits, startedEnds, freshBench, started, freshOf}
 use Rattle.bench.specs.Whole.{Represents, Typed, freshBy, planIn}
 use Rattle.bench.specs.declared.Bench.{Bench}
-use Rattle.bench.proofs.TieRanges.{LastingOf, StateReady, lasting-told, graph-kept, costs-kept, few, cost-at, lent-in-range, lent-offer-in, ready}
+use Rattle.bench.proofs.TieRanges.{LastingOf, StateReady, lasting-told, graph-kept, costs-kept, few, cost-at, view-in-range, lent-in-range, lent-offer-in, ready}
 use Rattle.bench.proofs.TieFilled.{Filled, filled-all, Begun, begun-all}
 
 module _ (b : Bench) (costs tables sent held : List ℕ) where
@@ -80,7 +80,7 @@ module _ (b : Bench) (costs tables sent held : List ℕ) where
 
     filled : Filled (b .bridges) (b .links) (b .ends) costs tables (b .views) full
     filled =
-        filled-all (b .bridges) (b .links) (b .ends) costs tables (counts .0) (b .views) (told .lasting .eachView)
+        filled-all (b .bridges) (b .links) (b .ends) costs tables (counts .0) (b .views) (view-in-range b costs tables (told .lasting))
         (omega (arith, told .lasting .tablesLong, told .lasting .viewsMost))
 
     lasting-after : LastingOf b costs full

@@ -6,15 +6,15 @@ use mathlib.Core.Path.{_≡_, refl, sym, _∙_}
 use mathlib.Core.Bool.{Bool, true, false, cond}
 use mathlib.Core.List.{List}
 use borrow.Author.Tests.{leb-true, le-leb, ltb-true, lt-ltb, eqb-true, eqb-false}
-use lib.ListN.{length, getD, set, replicate, length-take, length-drop}
+use lib.ListN.{length, getD, set, length-take, length-drop}
 use lib.Seq.{getD-take, getD-drop, getD-set-same, getD-set-other}
 use lib.Dec.{eqb, leb, ltb}
 use Rattle.distances.specs.View.{graphOf, costsOf}
 use Rattle.distances.specs.Distance.{dist}
 use Rattle.distances.specs.Table.{cell}
-use Rattle.distances.specs.Call.{inRange, allBelow}
+use Rattle.distances.specs.Call.{inRange, graphPasses, costsPass, allBelow}
 use Rattle.distances.proofs.Booleans.{both-true, true-both}
-use Rattle.distances.proofs.Ranges.{allBelow-true, true-allBelow, at-bridge, sizes, graph-in-range, costs-in-range}
+use Rattle.distances.proofs.Ranges.{allBelow-true, true-allBelow, counts, at-bridge, graph-in-range, costs-told, in-range-made}
 use Rattle.distances.proofs.Laws.{dist-cong}
 use Rattle.agreement.specs.Record.{freshRecord}
 use Rattle.agreement.specs.Ranges.{recordInRange}
@@ -50,9 +50,9 @@ part-length width k l h = simp (length-take, length-drop) (omega arith)
 pub record Lasting (bridges links views : ℕ) (ends costs tables : List ℕ) : Type 0 where
   pub viewsLeast : 1 ≤ views
   pub viewsMost : views ≤ 32
-  pub graph : inRange bridges links ends (replicate 32 0) 256 ≡ true
+  pub graph : graphPasses bridges links ends ≡ true
   pub costsLong : 1024 ≤ length costs
-  pub eachView : (t : ℕ) → t < views → inRange bridges links ends (part 32 t costs) 256 ≡ true
+  pub eachView : (t : ℕ) → t < views → costsPass links (part 32 t costs) ≡ true
   pub tablesLong : 8192 ≤ length tables
 
 abbrev pub LastingOf : Bench → List ℕ → List ℕ → Type 0
@@ -84,10 +84,10 @@ module _ (b : Bench) (costs tables : List ℕ) where
     costs-kept = true-both (le-leb _ _ (l .costsLong)) (true-allBelow (b .views) _ (l .eachView))
 
     pub few : (b .bridges ≤ 16) × (b .links ≤ 32) × (2 * b .links ≤ length (b .ends))
-    few = let h = sizes _ _ _ _ _ (l .graph) in (h .0, h .1, h .2)
+    few = counts _ _ _ (l .graph)
 
     pub are-bridges : (e : ℕ) → e < 2 * b .links → getD (b .ends) e 0 < b .bridges
-    are-bridges = at-bridge _ _ _ _ _ (l .graph)
+    are-bridges = at-bridge _ _ _ (l .graph)
 
     -- a link's cost in view t, in the view's row
     pub cost-at : (t k : ℕ) → k < b .links → costsOf (part 32 t costs) k ≡ getD costs (32 * t + k) 0
@@ -96,15 +96,19 @@ module _ (b : Bench) (costs tables : List ℕ) where
     pub plan-in-range : PlanInRange (planIn b costs)
     plan-in-range =
         record {
-          graph = graph-in-range _ _ _ _ _ (l .graph);
+          graph = graph-in-range _ _ _ (l .graph);
           least = l .viewsLeast;
           most = l .viewsMost;
-          costs = λ t low. record { most = λ k h. rw (cost-at t k h) at (costs-in-range _ _ _ _ _ (l .eachView t low) .most k h) };
+          costs = λ t low. record { most = λ k h. rw (cost-at t k h) at (costs-told _ _ (l .eachView t low) .1 k h) };
         }
 
     module _ (t : ℕ) (low : t < b .views) where
+      -- a view, as layer 1 asks it
+      pub view-in-range : inRange (b .bridges) (b .links) (b .ends) (part 32 t costs) 256 ≡ true
+      view-in-range = in-range-made _ _ _ _ _ (l .graph) (l .eachView t low) (omega arith)
+
       pub lent-in-range : lentInRange (lentView b costs tables t) ≡ true
-      lent-in-range = let most : b .views ≤ 32 = l .viewsMost in rw (part-length 256 t tables (omega arith)) (l .eachView t low)
+      lent-in-range = let most : b .views ≤ 32 = l .viewsMost in rw (part-length 256 t tables (omega arith)) view-in-range
 
       -- where the block of view t holds its distances
       pub lent-offer-in :

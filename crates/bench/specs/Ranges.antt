@@ -2,16 +2,16 @@
 use Prim.Native.Nat.{ℕ, _+_, _*_}
 use mathlib.Core.Bool.{Bool, _&&_}
 use mathlib.Core.List.{List}
-use lib.ListN.{length, getD, replicate}
+use lib.ListN.{length, getD}
 use lib.Dec.{leb, ltb}
-use Rattle.distances.specs.Call.{inRange, allBelow}
+use Rattle.distances.specs.Call.{graphPasses, costsPass, allBelow}
 use Rattle.agreement.specs.Ranges.{recordsInRange}
 use Rattle.bench.specs.State.{part}
 use Rattle.bench.specs.declared.Bench.{Bench}
 
 -- 1 to 32 views, 2 to 16 bridges, up to 32 links that each join two different bridges
 unfoldable pub graphInRange : Bench → Bool
-graphInRange b = leb 1 (b .views) && (leb (b .views) 32 && inRange (b .bridges) (b .links) (b .ends) (replicate 32 0) 256)
+graphInRange b = leb 1 (b .views) && (leb (b .views) 32 && graphPasses (b .bridges) (b .links) (b .ends))
 
 -- each bridge's view, each end's record, and the count of messages in flight
 unfoldable pub benchInRange : Bench → Bool
@@ -22,8 +22,7 @@ benchInRange b =
 
 -- 32 rows of 32 costs, those of the views in range
 unfoldable pub costsInRange : Bench → List ℕ → Bool
-costsInRange b costs =
-    leb 1024 (length costs) && allBelow (b .views) (λ t. inRange (b .bridges) (b .links) (b .ends) (part 32 t costs) 256)
+costsInRange b costs = leb 1024 (length costs) && allBelow (b .views) (λ t. costsPass (b .links) (part 32 t costs))
 
 -- 32 blocks of 256 distances, two tables of 64 rows of 16 limits, by their lengths
 unfoldable pub tablesLong : ℕ → ℕ → ℕ → Bool

@@ -2,7 +2,7 @@
 use crate::Bench;
 use distances::ready::both;
 ghost use mathlib.Core.Path.{_≡_};
-ghost use mathlib.Core.Bool.{_&&_, true};
+ghost use mathlib.Core.Bool.{_&&_};
 ghost use Prim.Native.Nat.{_≤_};
 ghost use lib.ListN.{length, getD};
 ghost use lib.Dec.{ltb};
@@ -13,9 +13,8 @@ ghost use Rattle.bench.specs.Ranges.{graphInRange, benchInRange, costsIn
 pub(crate) fn graph_in_range(bench: Bench) -> bool
     ensures { λ r. ⌜ r ≡ graphInRange bench ⌝ }
 {
-    let absent = [0u32; 32];
     let ends = bench.ends;
-    let listed = distances::ready::in_range(bench.bridges, bench.links, &ends, &absent, 256);
+    let listed = distances::ready::graph_passes(bench.bridges, bench.links, &ends);
     both(1 <= bench.views, both(bench.views <= 32, listed))
 }
 
@@ -54,9 +53,8 @@ fn row_in_range(links: usize, costs: &[u32], t: usize) -> bool
     distances::ready::costs_pass(links, &costs[first..past])
 }
 
-// The graph is in range, so only costs are left to test.
 fn costs_in_range(bench: Bench, costs: &[u32]) -> bool
-    requires { ⌜ (bench .views ≤ 32) × (graphInRange bench ≡ true) ⌝ }
+    requires { ⌜ bench .views ≤ 32 ⌝ }
     ensures { λ r. ⌜ r ≡ costsInRange bench (now (costs .entry)) ⌝ }
 {
     if costs.len() < 1024 {

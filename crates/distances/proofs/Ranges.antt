@@ -1,16 +1,16 @@
--- Laws of tests over a list, over the numbers below a bound and over the ends of links, and of the entry check: what a refused test
--- and what an accepted call tell. Assumes nothing.
+-- Laws of tests over a list, over the numbers below a bound and over the ends of links, and of the entry check: what a refused test,
+-- a graph, costs or a call that pass tell, and what passes. Assumes nothing.
 use Prim.Native.Nat.{ℕ, zero, suc, _+_, _*_, _/_, _%_, _≤_, _<_}
 use native.Mathlib.Nat.{not-suc-le-zero}
 use native.Mathlib.Omega.{arith}
 use mathlib.Core.Path.{_≡_, refl, sym, subst}
 use mathlib.Core.Logic.{_⊎_, inl, inr}
-use mathlib.Core.Bool.{Bool, true, false, _&&_, not, and-true}
+use mathlib.Core.Bool.{Bool, true, false, _&&_, not}
 use mathlib.Core.List.{List, [], _∷_}
 use borrow.Author.Tests.{ltb-true, leb-true, eqb-true, eqb-false, not-true, le-leb, lt-ltb, ne-eqb}
 use lib.ListN.{length, getD}
 use lib.Dec.{eqb, leb, ltb}
-use Rattle.distances.specs.Call.{every, allBelow, linkPasses, linkInRange, costsPass, inRange}
+use Rattle.distances.specs.Call.{every, allBelow, linkPasses, linkInRange, graphPasses, costsPass, inRange}
 use Rattle.distances.specs.View.{InRange, CostsInRange, graphOf, costsOf, maxCost}
 use Rattle.distances.proofs.Booleans.{both-true, true-both, not-both}
 
@@ -74,23 +74,15 @@ each-end P links both e h = go (side e) (both (e / 2) (omega arith))
     go (inl q) b = subst P (sym q) (b .0)
     go (inr q) b = subst P (sym q) (b .1)
 
-module _ (bridges links : ℕ) (ends costs : List ℕ) (size : ℕ) (ok : inRange bridges links ends costs size ≡ true) where
-  cost-told : (links ≤ length costs) × ((l : ℕ) → l < links → getD costs l 0 ≤ maxCost)
-  unfolding inRange costsPass
-  cost-told =
-      let e = both-true (leb links (length costs)) _ (every-true 6 _ ok) in (
-        leb-true links (length costs) (e .0),
-        λ l h. leb-true (getD costs l 0) maxCost (allBelow-true links _ (e .1) l h),
-      )
+-- ---- a graph that passes
 
-  pub sizes : (bridges ≤ 16) × (links ≤ 32) × (2 * links ≤ length ends) × (links ≤ length costs) × (256 ≤ size)
-  unfolding inRange
-  sizes = (
+module _ (bridges links : ℕ) (ends : List ℕ) (ok : graphPasses bridges links ends ≡ true) where
+  pub counts : (bridges ≤ 16) × (links ≤ 32) × (2 * links ≤ length ends)
+  unfolding graphPasses
+  counts = (
     leb-true bridges 16 (every-true 1 _ ok),
     leb-true links 32 (every-true 2 _ ok),
     leb-true (2 * links) (length ends) (every-true 3 _ ok),
-    cost-told .0,
-    leb-true 256 size (every-true 4 _ ok),
   )
 
   -- what the check tells of a link
@@ -100,16 +92,14 @@ module _ (bridges links : ℕ) (ends costs : List ℕ) (size : ℕ) (ok : inRang
       (getD ends (2 * l) 0 < bridges)
       × (getD ends (2 * l + 1) 0 < bridges)
       × (getD ends (2 * l) 0 ≡ getD ends (2 * l + 1) 0 → ⊥)
-      × (getD costs l 0 ≤ maxCost)
-  unfolding inRange linkInRange linkPasses
+  unfolding graphPasses linkInRange linkPasses
   link-told l h =
-      let e = allBelow-true links (linkInRange bridges ends) (every-true 5 _ ok) l h in
+      let e = allBelow-true links (linkInRange bridges ends) (every-true 4 _ ok) l h in
       let d = both-true (ltb (getD ends (2 * l) 0) bridges) _ e in
       let k = both-true (ltb (getD ends (2 * l + 1) 0) bridges) _ (d .1) in (
         ltb-true (getD ends (2 * l) 0) bridges (d .0),
         ltb-true (getD ends (2 * l + 1) 0) bridges (k .0),
         eqb-false (getD ends (2 * l) 0) (getD ends (2 * l + 1) 0) (not-true _ (k .1)),
-        cost-told .1 l h,
       )
 
   pub both-ends : (l : ℕ) → l < links → (getD ends (2 * l) 0 < bridges) × (getD ends (2 * l + 1) 0 < bridges)
@@ -119,67 +109,77 @@ module _ (bridges links : ℕ) (ends costs : List ℕ) (size : ℕ) (ok : inRang
   at-bridge = each-end (λ e. getD ends e 0 < bridges) links both-ends
 
   pub ends-below : (e : ℕ) → e < 2 * links → getD ends e 0 < 16
-  ends-below e h = omega (arith, sizes, at-bridge e h)
+  ends-below e h = omega (arith, counts, at-bridge e h)
 
   -- the ranges as the laws of distances ask them
   pub graph-in-range : InRange (graphOf bridges links ends)
-  unfolding inRange
+  unfolding graphPasses
   graph-in-range =
       record {
         least = leb-true 2 bridges (every-true 0 _ ok);
-        most = sizes .0;
-        links = sizes .1;
+        most = counts .0;
+        links = counts .1;
         first = λ l h. link-told l h .0;
         second = λ l h. link-told l h .1;
         differ = λ l h. link-told l h .2;
       }
 
-  pub costs-in-range : CostsInRange (graphOf bridges links ends) (costsOf costs)
-  costs-in-range = record { most = λ l h. link-told l h .3 }
-
-  graph-told :
-      (leb 2 bridges ≡ true)
-      × (leb bridges 16 ≡ true)
-      × (leb links 32 ≡ true)
-      × (leb (2 * links) (length ends) ≡ true)
-      × (leb 256 size ≡ true)
-      × (allBelow links (linkInRange bridges ends) ≡ true)
-  unfolding inRange
-  graph-told = (
-    every-true 0 _ ok,
-    every-true 1 _ ok,
-    every-true 2 _ ok,
-    every-true 3 _ ok,
-    every-true 4 _ ok,
-    every-true 5 _ ok,
-  )
-
-  -- with other costs it is theirs that decide
-  pub other-costs : (row : List ℕ) → inRange bridges links ends row size ≡ costsPass links row
-  unfolding inRange every
-  other-costs row =
-      rw (graph-told .0, graph-told .1, graph-told .2, graph-told .3, graph-told .4, graph-told .5, and-true) refl
-
--- and what is in the ranges passes the check
-pub in-range-made :
-    (bridges links : ℕ) (ends costs : List ℕ) (size : ℕ) →
+-- and a graph in the ranges passes
+pub graph-made :
+    (bridges links : ℕ) (ends : List ℕ) →
     InRange (graphOf bridges links ends) →
-    CostsInRange (graphOf bridges links ends) (costsOf costs) →
     2 * links ≤ length ends →
-    links ≤ length costs →
-    256 ≤ size →
-    inRange bridges links ends costs size ≡ true
-unfolding inRange every linkInRange linkPasses costsPass
-in-range-made bridges links ends costs size g c long room wide =
+    graphPasses bridges links ends ≡ true
+unfolding graphPasses every linkInRange linkPasses
+graph-made bridges links ends g long =
     true-both (le-leb _ _ (g .least))
     (true-both (le-leb _ _ (g .most))
-    (true-both (le-leb _ _ (g .links))
-    (true-both (le-leb _ _ long)
-    (true-both (le-leb _ _ wide)
-    (true-both (true-allBelow _ _ link)
-    (true-both (true-both (le-leb _ _ room) (true-allBelow _ _ (λ l h. le-leb _ _ (c .most l h)))) refl))))))
+    (true-both (le-leb _ _ (g .links)) (true-both (le-leb _ _ long) (true-both (true-allBelow _ _ link) refl))))
   where
     link : (l : ℕ) → l < links → linkInRange bridges ends l ≡ true
     link l h =
         let apart : not (eqb (getD ends (2 * l) 0) (getD ends (2 * l + 1) 0)) ≡ true = rw (ne-eqb _ _ (g .differ l h)) in
         true-both (lt-ltb _ _ (g .first l h)) (true-both (lt-ltb _ _ (g .second l h)) apart)
+
+-- ---- costs that pass: there is one for each link, in the range
+
+pub costs-told :
+    (links : ℕ) (costs : List ℕ) →
+    costsPass links costs ≡ true →
+    (links ≤ length costs) × ((l : ℕ) → l < links → getD costs l 0 ≤ maxCost)
+unfolding costsPass
+costs-told links costs ok =
+    let e = both-true (leb links (length costs)) _ ok in (
+      leb-true links (length costs) (e .0),
+      λ l h. leb-true (getD costs l 0) maxCost (allBelow-true links _ (e .1) l h),
+    )
+
+pub costs-made :
+    (links : ℕ) (costs : List ℕ) →
+    links ≤ length costs →
+    ((l : ℕ) → l < links → getD costs l 0 ≤ maxCost) →
+    costsPass links costs ≡ true
+unfolding costsPass
+costs-made links costs room each = true-both (le-leb _ _ room) (true-allBelow _ _ (λ l h. le-leb _ _ (each l h)))
+
+-- ---- the whole check: graph, costs and the table's size
+
+module _ (bridges links : ℕ) (ends costs : List ℕ) (size : ℕ) where
+  pub in-range-made : graphPasses bridges links ends ≡ true → costsPass links costs ≡ true → 256 ≤ size → inRange bridges links ends costs size ≡ true
+  unfolding inRange
+  in-range-made graph each wide = true-both graph (true-both each (le-leb _ _ wide))
+
+  module _ (ok : inRange bridges links ends costs size ≡ true) where
+    pub in-range-told : (graphPasses bridges links ends ≡ true) × (costsPass links costs ≡ true) × (256 ≤ size)
+    unfolding inRange
+    in-range-told =
+        let g = both-true (graphPasses bridges links ends) _ ok in
+        let c = both-true (costsPass links costs) _ (g .1) in (g .0, c .0, leb-true 256 size (c .1))
+
+    pub sizes : (bridges ≤ 16) × (links ≤ 32) × (2 * links ≤ length ends) × (links ≤ length costs) × (256 ≤ size)
+    sizes =
+        let g = counts bridges links ends (in-range-told .0) in
+        (g .0, g .1, g .2, costs-told links costs (in-range-told .1) .0, in-range-told .2)
+
+    pub costs-in-range : CostsInRange (graphOf bridges links ends) (costsOf costs)
+    costs-in-range = record { most = costs-told links costs (in-range-told .1) .1 }

@@ -32,22 +32,24 @@ linkPasses bridges first second = ltb first bridges && (ltb second bridges && no
 unfoldable pub linkInRange : ℕ → List ℕ → ℕ → Bool
 linkInRange bridges ends l = linkPasses bridges (getD ends (2 * l) 0) (getD ends (2 * l + 1) 0)
 
+-- 2 to 16 bridges, up to 32 links that each join two different bridges, the list long enough for the ends of all
+unfoldable pub graphPasses : ℕ → ℕ → List ℕ → Bool
+graphPasses bridges links ends =
+    every
+    (leb 2 bridges
+    ∷ leb bridges 16
+    ∷ leb links 32
+    ∷ leb (2 * links) (length ends)
+    ∷ allBelow links (linkInRange bridges ends)
+    ∷ [])
+
 -- a view gives each of so many links a cost in the range
 unfoldable pub costsPass : ℕ → List ℕ → Bool
 costsPass links costs = leb links (length costs) && allBelow links (λ l. leb (getD costs l 0) maxCost)
 
 -- document 01's ranges and the lengths that the call needs, the table's being `size`
 unfoldable pub inRange : ℕ → ℕ → List ℕ → List ℕ → ℕ → Bool
-inRange bridges links ends costs size =
-    every
-    (leb 2 bridges
-    ∷ leb bridges 16
-    ∷ leb links 32
-    ∷ leb (2 * links) (length ends)
-    ∷ leb 256 size
-    ∷ allBelow links (linkInRange bridges ends)
-    ∷ costsPass links costs
-    ∷ [])
+inRange bridges links ends costs size = graphPasses bridges links ends && (costsPass links costs && leb 256 size)
 
 -- the reply's number, and the table afterwards
 pub record Outcome : Type 0 where

@@ -6,7 +6,7 @@ ghost use Prim.Native.Nat.{_*_, _≤_};
 ghost use lib.ListN.{length, getD};
 ghost use lib.Dec.{leb};
 ghost use Rattle.distances.specs.View.{maxCost};
-ghost use Rattle.distances.specs.Call.{inRange, allBelow, linkInRange, linkPasses, costsPass};
+ghost use Rattle.distances.specs.Call.{inRange, graphPasses, allBelow, linkInRange, linkPasses, costsPass};
 
 pub fn both(a: bool, b: bool) -> bool
     ensures { λ r. ⌜ r ≡ (a && b) ⌝ }
@@ -31,6 +31,25 @@ fn links_in_range(bridges: u8, links: usize, ends: &[u8]) -> bool
         l += 1;
     }
     ok
+}
+
+// Are the counts in the range, and does each link join two different bridges?
+pub fn graph_passes(bridges: usize, links: usize, ends: &[u8]) -> bool
+    ensures { λ r. ⌜ r ≡ graphPasses bridges links (now (ends .entry)) ⌝ }
+{
+    if bridges < 2 {
+        return false;
+    }
+    if 16 < bridges {
+        return false;
+    }
+    if 32 < links {
+        return false;
+    }
+    if ends.len() < 2 * links {
+        return false;
+    }
+    links_in_range(bridges as u8, links, ends)
 }
 
 fn each_cost_passes(links: usize, costs: &[u32]) -> bool
@@ -59,21 +78,9 @@ pub fn costs_pass(links: usize, costs: &[u32]) -> bool
 pub fn in_range(bridges: usize, links: usize, ends: &[u8], costs: &[u32], size: usize) -> bool
     ensures { λ r. ⌜ r ≡ inRange bridges links (now (ends .entry)) (now (costs .entry)) size ⌝ }
 {
-    if bridges < 2 {
-        return false;
+    if graph_passes(bridges, links, ends) {
+        both(costs_pass(links, costs), 256 <= size)
+    } else {
+        false
     }
-    if 16 < bridges {
-        return false;
-    }
-    if 32 < links {
-        return false;
-    }
-    if ends.len() < 2 * links {
-        return false;
-    }
-    if size < 256 {
-        return false;
-    }
-    let joined = links_in_range(bridges as u8, links, ends);
-    both(joined, costs_pass(links, costs))
 }

@@ -7,11 +7,11 @@ use mathlib.Core.Path.{_≡_, refl, _∙_}
 use mathlib.Core.Bool.{Bool, true, false}
 use mathlib.Core.List.{List, _++_}
 use borrow.Author.Tests.{eqb-true, eqb-false}
-use lib.ListN.{length, getD, set, take, replicate, length-set, length-replicate, getD-replicate, List·getD-append}
+use lib.ListN.{length, getD, set, take, length-set, length-replicate, List·getD-append}
 use lib.Seq.{getD-take, getD-set-same, getD-set-other, getD-append-add, length-take-le}
 use lib.Dec.{eqb}
-use Rattle.distances.specs.Call.{inRange}
-use Rattle.distances.proofs.Ranges.{in-range-made}
+use Rattle.distances.specs.Call.{graphPasses}
+use Rattle.distances.proofs.Ranges.{graph-made, costs-made}
 use Rattle.bench.specs.State.{part}
 use Rattle.bench.specs.Changes.{freshOf}
 use Rattle.bench.specs.declared.Bench.{Bench}
@@ -155,10 +155,10 @@ module _ (stage : ℕ) (b : Bench) (costs : List ℕ) (s : Begun stage b costs) 
           let low : t < b .views = omega (arith, eqb-false t (b .views) q) in
           rw (row-old rest b costs (32 * t + l) (omega (arith, s .linksMost)) (omega (arith, told .room))) (s .cost t l low g)
 
-  -- the ranges of a view
-  range : (row : List ℕ) → stage ≡ 2 → 32 ≤ length row → ((l : ℕ) → l < b .links → getD row l 0 ≤ 16777215) → inRange (b .bridges) (b .links) (b .ends) row 256 ≡ true
-  range row e long each =
-      in-range-made (b .bridges) (b .links) (b .ends) row 256
+  -- the ranges of the graph
+  graph-passes : stage ≡ 2 → graphPasses (b .bridges) (b .links) (b .ends) ≡ true
+  graph-passes e =
+      graph-made (b .bridges) (b .links) (b .ends)
       record {
         least = s .least (omega arith);
         most = s .most;
@@ -167,10 +167,7 @@ module _ (stage : ℕ) (b : Bench) (costs : List ℕ) (s : Begun stage b costs) 
         second = λ l h. s .joins l h .second;
         differ = λ l h. s .joins l h .differ;
       }
-      record { most = each }
       (omega (arith, s .linksMost, s .endsLong))
-      (omega (arith, s .linksMost))
-      (omega arith)
 
   -- what no call changes
   lasts : (tables : List ℕ) → stage ≡ 2 → 1024 ≤ length costs → 8192 ≤ length tables → LastingOf b costs tables
@@ -178,12 +175,12 @@ module _ (stage : ℕ) (b : Bench) (costs : List ℕ) (s : Begun stage b costs) 
       record {
         viewsLeast = s .viewed (omega arith);
         viewsMost = s .viewsMost;
-        graph = range (replicate 32 0) e (omega (arith, length-replicate {A = ℕ} 32 0)) (λ l h. omega (arith, s .linksMost, getD-replicate {A = ℕ} 32 l 0 0 (omega (arith, s .linksMost))));
+        graph = graph-passes e;
         costsLong = long;
         eachView = λ t h.
             let most : b .views ≤ 32 = s .viewsMost in
             let few : b .links ≤ 32 = s .linksMost in
-            range (part 32 t costs) e (omega (arith, part-length 32 t costs (omega arith)))
+            costs-made (b .links) (part 32 t costs) (omega (arith, part-length 32 t costs (omega arith)))
             (λ l g. rw (part-at 32 t costs l (omega arith)) (s .cost t l h g));
         tablesLong = room;
       }

@@ -9,7 +9,7 @@ use borrow.Author.Needs.{needs}
 use lib.ListN.{length}
 use Rattle.distances.specs.Call.{inRange, Outcome}
 use Rattle.distances.proofs.Steps.{whole}
-use Rattle.distances.proofs.Ranges.{sizes, both-ends, ends-below}
+use Rattle.distances.proofs.Ranges.{in-range-told, sizes, both-ends, ends-below}
 use Rattle.distances.proofs.Outcomes.{distances-accepted, distances-refused}
 use Rattle.distances.proofs.distances.Statement.{statement}
 use Rattle.distances.proofs.distances.Tie as tie
@@ -28,7 +28,7 @@ clear-requires : tie.Need-clear-requires
 clear-requires c κs = omega (arith, sizes _ _ _ _ _ (accepted (c .before)))
 
 join-requires : tie.Need-join-requires
-join-requires c κs = (omega (arith, sizes _ _ _ _ _ (accepted (c .before .before .before .before .before))), ends-below _ _ _ _ _ (accepted (c .before .before .before .before .before)))
+join-requires c κs = (omega (arith, sizes _ _ _ _ _ (accepted (c .before .before .before .before .before))), ends-below _ _ _ (in-range-told _ _ _ _ _ (accepted (c .before .before .before .before .before)) .0))
 
 passes-requires : tie.Need-passes-requires
 passes-requires c κs = omega (arith, sizes _ _ _ _ _ (accepted (c .before .before .before .before .before .before .before .before .before)))
@@ -43,7 +43,7 @@ returns c =
     rw (distances-accepted _ _ _ _ _ ok)
     (ap {B = Outcome} (λ (t : List ℕ). record { reply = 0; table = t })
     (c .before .before .passes .ensures
-    ∙ whole _ _ _ _ _ (h .0) (h .4) (both-ends _ _ _ _ _ ok) _ _
+    ∙ whole _ _ _ _ _ (h .0) (h .4) (both-ends _ _ _ (in-range-told _ _ _ _ _ ok .0)) _ _
     (c .before .before .before .before .before .before .before .before .before .before .clear .ensures)
     (c .before .before .before .before .before .before .join .ensures)))
 

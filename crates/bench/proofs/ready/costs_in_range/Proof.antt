@@ -1,21 +1,19 @@
 -- `ready::costs_in_range` meets its contract. The loop's invariant: `ok` says whether the row of every view below `t` passes. Assumes nothing.
 use Prim.Native.Nat.{_≤_, _-_}
 use native.Mathlib.Omega.{arith}
-use mathlib.Core.Path.{_≡_, _∙_}
+use mathlib.Core.Path.{_≡_}
 use borrow.Author.Needs.{needs}
 use borrow.Author.Tests.{le-leb, lt-leb}
-use Rattle.distances.specs.Call.{inRange, allBelow}
+use Rattle.distances.specs.Call.{costsPass, allBelow}
 use Rattle.distances.proofs.Ranges.{allBelow-none}
 use Rattle.agreement.proofs.Basics.{all-more}
 use Rattle.bench.specs.Ranges.{costsInRange}
 use Rattle.bench.specs.State.{part}
-use Rattle.bench.proofs.EntryChecks.{row-decides}
 use Rattle.bench.proofs.ready.costs_in_range.Statement.{statement}
 use Rattle.bench.proofs.ready.costs_in_range.Tie as tie
 
 abbrev Inv-loop : tie.InvT-loop
-Inv-loop bench costs ok₀ t₀ ok t =
-    (t ≤ bench .views) × (ok ≡ allBelow t (λ k. inRange (bench .bridges) (bench .links) (bench .ends) (part 32 k costs) 256))
+Inv-loop bench costs ok₀ t₀ ok t = (t ≤ bench .views) × (ok ≡ allBelow t (λ k. costsPass (bench .links) (part 32 k costs)))
 
 abbrev μ-loop : tie.MeasureT-loop
 μ-loop bench costs ok₀ t₀ ok t = bench .views - t
@@ -42,8 +40,7 @@ loop-less c = omega arith
 loop-again : tie.Need-loop-again Inv-loop μ-loop
 loop-again c = (
   omega arith,
-  all-more _ _ (c .both .ensures) (c .before .before .before .before .loop .inv .1)
-      (c .before .row-in-range .ensures ∙ row-decides _ (c .before .before .before .before .before .before .before .pre .1) _),
+  all-more _ _ (c .both .ensures) (c .before .before .before .before .loop .inv .1) (c .before .row-in-range .ensures),
 )
 
 returns-2 : tie.Need-returns-2 Inv-loop μ-loop

@@ -5,14 +5,11 @@ use Rattle.bench.specs.Ranges.{graphInRange}
 use Rattle.bench.proofs.ready.graph_in_range.Statement.{statement}
 use Rattle.bench.proofs.ready.graph_in_range.Tie as tie
 
-slice-aggregate-in-range : tie.Need-slice-aggregate-in-range
-slice-aggregate-in-range c = search needs
+slice-aggregate-graph-passes : tie.Need-slice-aggregate-graph-passes
+slice-aggregate-graph-passes c = search needs
 
-slice-aggregate-in-range-2 : tie.Need-slice-aggregate-in-range-2
-slice-aggregate-in-range-2 c = search needs
-
-in-range-requires : tie.Need-in-range-requires
-in-range-requires c κs = search needs
+graph-passes-requires : tie.Need-graph-passes-requires
+graph-passes-requires c κs = search needs
 
 both-requires : tie.Need-both-requires
 both-requires c κs = search needs
@@ -22,15 +19,14 @@ both-requires-2 c κs = search needs
 
 returns : tie.Need-returns
 unfolding graphInRange
-returns c = c .both2 .ensures ∙ rw (c .before .both .ensures, c .before .before .before .before .in-range .ensures)
+returns c = c .both2 .ensures ∙ rw (c .before .both .ensures, c .before .before .before .before .graph-passes .ensures)
 
 pub graph-in-range-spec : {M : Type 1} → statement M
 graph-in-range-spec =
     tie.close
     (tie.spec
-    slice-aggregate-in-range
-    slice-aggregate-in-range-2
-    in-range-requires
+    slice-aggregate-graph-passes
+    graph-passes-requires
     both-requires
     both-requires-2
     returns)

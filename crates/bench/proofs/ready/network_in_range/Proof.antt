@@ -2,7 +2,7 @@
 use mathlib.Core.Path.{sym, _∙_}
 use borrow.Author.Needs.{needs}
 use Rattle.bench.specs.Ranges.{networkInRange}
-use Rattle.bench.proofs.EntryChecks.{bench-counted, bench-graph}
+use Rattle.bench.proofs.EntryChecks.{bench-counted}
 use Rattle.bench.proofs.ready.network_in_range.Statement.{statement}
 use Rattle.bench.proofs.ready.network_in_range.Tie as tie
 
@@ -10,8 +10,7 @@ bench-in-range-requires : tie.Need-bench-in-range-requires
 bench-in-range-requires c κs = search needs
 
 costs-in-range-requires : tie.Need-costs-in-range-requires
-costs-in-range-requires c κs =
-    let ok = sym (c .before .bench-in-range .ensures) ∙ c .if1 .taken in (bench-counted _ ok .views, bench-graph _ ok)
+costs-in-range-requires c κs = bench-counted _ (sym (c .before .bench-in-range .ensures) ∙ c .if1 .taken) .views
 
 tables-long-requires : tie.Need-tables-long-requires
 tables-long-requires c κs = search needs

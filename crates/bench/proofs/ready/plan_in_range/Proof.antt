@@ -9,8 +9,7 @@ graph-in-range-requires : tie.Need-graph-in-range-requires
 graph-in-range-requires c κs = search needs
 
 costs-in-range-requires : tie.Need-costs-in-range-requires
-costs-in-range-requires c κs =
-    let ok = sym (c .before .graph-in-range .ensures) ∙ c .if1 .taken in (graph-counted _ ok .views, ok)
+costs-in-range-requires c κs = graph-counted _ (sym (c .before .graph-in-range .ensures) ∙ c .if1 .taken) .views
 
 tables-long-requires : tie.Need-tables-long-requires
 tables-long-requires c κs = search needs

@@ -1,5 +1,4 @@
 -- `setup::store_row` meets its contract. The row that was lent from inside the costs comes back in its place. Assumes nothing.
-use Prim.Native.Nat.{_*_}
 use native.Mathlib.Nat.{add-sub-cancel-left}
 use mathlib.Core.Path.{ap}
 use borrow.Author.Needs.{needs}
@@ -34,7 +33,7 @@ same-length c = search needs
 
 returns : tie.Need-returns
 unfolding withRow
-returns c = rw (ap (λ (o : Stored). o .row) (c .before .before .read-costs .ensures), add-sub-cancel-left (32 * c .before .before .before .before .before .before .before .args .bench .views) 32)
+returns c = rw (ap (λ (o : Stored). o .row) (c .before .before .read-costs .ensures), add-sub-cancel-left _ 32)
 
 pub store-row-spec : {M : Type 1} → statement M
 store-row-spec =

@@ -10,7 +10,7 @@ use borrow.Author.Tests.{eqb-false, ltb-true, ltb-false, lt-ltb, le-ltb, le-leb,
 use lib.Dec.{eqb, leb, ltb}
 use lib.ListN.{length, getD}
 use Rattle.distances.specs.Call.{allBelow}
-use Rattle.distances.proofs.Ranges.{allBelow-true, allBelow-none, allBelow-more}
+use Rattle.distances.proofs.Ranges.{allBelow-none, allBelow-more}
 
 -- inside a list the default does not matter
 pub getD-default : {A : Type 0} (l : List A) (i : ℕ) (d e : A) → i < length l → getD l i d ≡ getD l i e
@@ -39,14 +39,6 @@ byte-below views bound v byte cut = go (eqb v 255) (ltb v views) refl refl
 
 pub all-more : (n : ℕ) (test : ℕ → Bool) {ok t r : Bool} → r ≡ (ok && t) → ok ≡ allBelow n test → t ≡ test n → r ≡ allBelow (n + 1) test
 all-more n test e d h = e ∙ rw (add-one, allBelow-more, d, h)
-
--- one that fails
-pub all-fails : (n : ℕ) (test : ℕ → Bool) (k : ℕ) → k < n → test k ≡ false → false ≡ allBelow n test
-all-fails n test k h f = go (allBelow n test) refl
-  where
-    go : (b : Bool) → allBelow n test ≡ b → false ≡ b
-    go true e = sym f ∙ allBelow-true n test e k h
-    go false e = refl
 
 pub all-cong : (n : ℕ) (test other : ℕ → Bool) → ((k : ℕ) → k < n → test k ≡ other k) → allBelow n test ≡ allBelow n other
 all-cong zero test other h = sym (allBelow-none test) ∙ allBelow-none other

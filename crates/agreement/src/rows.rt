@@ -22,8 +22,11 @@ pub(crate) fn limit_of(cost: u32, near: u32, far: u32) -> u32
     if far <= near {
         return NONE;
     }
-    let sum = cost as u64 + near as u64;
-    if sum < 4294967295 { sum as u32 } else { NONE }
+    if near < NONE - cost {
+        cost + near
+    } else {
+        NONE
+    }
 }
 
 fn limit_after(how: Rewrite, old: u32, offer: u32) -> u32

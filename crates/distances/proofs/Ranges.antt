@@ -3,16 +3,17 @@
 use Prim.Native.Nat.{ℕ, zero, suc, _+_, _*_, _/_, _%_, _≤_, _<_}
 use native.Mathlib.Nat.{not-suc-le-zero}
 use native.Mathlib.Omega.{arith}
-use mathlib.Core.Path.{_≡_, refl, sym, subst}
+use mathlib.Core.Path.{_≡_, refl, sym, subst, _∙_}
 use mathlib.Core.Logic.{_⊎_, inl, inr}
 use mathlib.Core.Bool.{Bool, true, false, _&&_, not}
 use mathlib.Core.List.{List, [], _∷_}
 use borrow.Author.Tests.{ltb-true, leb-true, eqb-true, eqb-false, not-true, le-leb, lt-ltb, ne-eqb}
 use lib.ListN.{length, getD}
+use lib.Bits.{bitOr, or-lt, or-add-and, and-le-l, and-le-r}
 use lib.Dec.{eqb, leb, ltb}
 use Rattle.distances.specs.Call.{every, allBelow, linkPasses, linkInRange, graphPasses, costsPass, inRange}
 use Rattle.distances.specs.View.{InRange, CostsInRange, graphOf, costsOf, maxCost}
-use Rattle.distances.proofs.Booleans.{both-true, true-both, not-both}
+use Rattle.distances.proofs.Booleans.{both-true, true-both, not-both, same-test}
 
 -- of no tests every one holds; of one test more, that one and the others
 pub every-none : every [] ≡ true
@@ -58,6 +59,14 @@ unfolding allBelow
 true-allBelow zero test each = refl
 true-allBelow (suc n) test each = true-both (true-allBelow n test (λ i h. each i (omega arith))) (each n (omega arith))
 
+-- one number fails the test
+pub all-fails : (n : ℕ) (test : ℕ → Bool) (k : ℕ) → k < n → test k ≡ false → false ≡ allBelow n test
+all-fails n test k h f = go (allBelow n test) refl
+  where
+    go : (b : Bool) → allBelow n test ≡ b → false ≡ b
+    go true e = sym f ∙ allBelow-true n test e k h
+    go false e = refl
+
 -- end e is one of the two ends of link e / 2
 pub side : (e : ℕ) → (e ≡ 2 * (e / 2)) ⊎ (e ≡ 2 * (e / 2) + 1)
 side e = go (eqb (e % 2) 0) refl
@@ -73,6 +82,37 @@ each-end P links both e h = go (side e) (both (e / 2) (omega arith))
     go : (e ≡ 2 * (e / 2)) ⊎ (e ≡ 2 * (e / 2) + 1) → P (2 * (e / 2)) × P (2 * (e / 2) + 1) → P e
     go (inl q) b = subst P (sym q) (b .0)
     go (inr q) b = subst P (sym q) (b .1)
+
+-- every link joins two different bridges: every end is at a bridge, and the ends of each link differ
+pub links-apart :
+    (bridges links : ℕ) (ends : List ℕ) →
+    (allBelow (2 * links) (λ e. ltb (getD ends e 0) bridges) && allBelow links (λ l. not (eqb (getD ends (2 * l) 0) (getD ends (2 * l + 1) 0))))
+    ≡ allBelow links (linkInRange bridges ends)
+unfolding linkInRange linkPasses
+links-apart bridges links ends = same-test _ _ whole parts
+  where
+    below : ℕ → Bool
+    below e = ltb (getD ends e 0) bridges
+
+    differ : ℕ → Bool
+    differ l = not (eqb (getD ends (2 * l) 0) (getD ends (2 * l + 1) 0))
+
+    whole : (allBelow (2 * links) below && allBelow links differ) ≡ true → allBelow links (linkInRange bridges ends) ≡ true
+    whole t =
+        let h = both-true (allBelow (2 * links) below) _ t in
+        let at = allBelow-true (2 * links) below (h .0) in
+        true-allBelow links _ (λ l low. true-both (at (2 * l) (omega arith)) (true-both (at (2 * l + 1) (omega arith)) (allBelow-true links differ (h .1) l low)))
+
+    told : allBelow links (linkInRange bridges ends) ≡ true → (l : ℕ) → l < links → (below (2 * l) ≡ true) × (below (2 * l + 1) ≡ true) × (differ l ≡ true)
+    told t l low =
+        let h = both-true (below (2 * l)) _ (allBelow-true links (linkInRange bridges ends) t l low) in
+        let k = both-true (below (2 * l + 1)) _ (h .1) in (h .0, k .0, k .1)
+
+    parts : allBelow links (linkInRange bridges ends) ≡ true → (allBelow (2 * links) below && allBelow links differ) ≡ true
+    parts t =
+        true-both
+        (true-allBelow (2 * links) below (each-end (λ e. below e ≡ true) links (λ l low. let h = told t l low in (h .0, h .1))))
+        (true-allBelow links differ (λ l low. told t l low .2))
 
 -- ---- a graph that passes
 
@@ -161,6 +201,20 @@ pub costs-made :
     costsPass links costs ≡ true
 unfolding costsPass
 costs-made links costs room each = true-both (le-leb _ _ room) (true-allBelow _ _ (λ l h. le-leb _ _ (each l h)))
+
+-- numbers joined by `|` are at most the greatest cost, 24 bits all set, if and only if each is
+pub joined-passes : (a b : ℕ) → leb (bitOr a b) maxCost ≡ (leb a maxCost && leb b maxCost)
+joined-passes a b = same-test _ _ apart together
+  where
+    apart : leb (bitOr a b) maxCost ≡ true → (leb a maxCost && leb b maxCost) ≡ true
+    apart t =
+        let h = leb-true (bitOr a b) maxCost t in
+        true-both (le-leb a maxCost (omega (arith, or-add-and a b, and-le-r a b))) (le-leb b maxCost (omega (arith, or-add-and a b, and-le-l a b)))
+
+    together : (leb a maxCost && leb b maxCost) ≡ true → leb (bitOr a b) maxCost ≡ true
+    together t =
+        let h = both-true (leb a maxCost) (leb b maxCost) t in
+        le-leb (bitOr a b) maxCost (omega (arith, or-lt 24 a b (omega (arith, leb-true a maxCost (h .0))) (omega (arith, leb-true b maxCost (h .1)))))
 
 -- ---- the whole check: graph, costs and the table's size
 

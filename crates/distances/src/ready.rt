@@ -1,12 +1,12 @@
 // The call's entry check: document 01's ranges, and lent buffers that are long enough. Ends and costs are tested in loops of their own,
 // each over numbers of one width, which the compiler makes vector code of.
 ghost use mathlib.Core.Path.{_≡_};
-ghost use mathlib.Core.Bool.{_&&_};
-ghost use Prim.Native.Nat.{_*_, _≤_};
+ghost use mathlib.Core.Bool.{_&&_, not};
+ghost use Prim.Native.Nat.{_+_, _*_, _≤_};
 ghost use lib.ListN.{length, getD};
-ghost use lib.Dec.{leb};
+ghost use lib.Dec.{leb, ltb, eqb};
 ghost use Rattle.distances.specs.View.{maxCost};
-ghost use Rattle.distances.specs.Call.{inRange, graphPasses, allBelow, linkInRange, linkPasses, costsPass};
+ghost use Rattle.distances.specs.Call.{inRange, graphPasses, allBelow, linkInRange, costsPass};
 
 pub fn both(a: bool, b: bool) -> bool
     ensures { λ r. ⌜ r ≡ (a && b) ⌝ }
@@ -14,23 +14,39 @@ pub fn both(a: bool, b: bool) -> bool
     if a { b } else { false }
 }
 
-fn link_passes(bridges: u8, first: u8, second: u8) -> bool
-    ensures { λ r. ⌜ r ≡ linkPasses bridges first second ⌝ }
+fn ends_below(bridges: u8, links: usize, ends: &[u8]) -> bool
+    requires { ⌜ (links ≤ 32) × (2 * links ≤ length (now ends)) ⌝ }
+    ensures { λ r. ⌜ r ≡ allBelow (2 * links) (λ e. ltb (getD (now (ends .entry)) e 0) bridges) ⌝ }
 {
-    both(first < bridges, both(second < bridges, first != second))
+    let mut ok = true;
+    let mut e = 0;
+    while e < 2 * links {
+        ok = both(ok, ends[e] < bridges);
+        e += 1;
+    }
+    ok
 }
 
+fn ends_differ(links: usize, ends: &[u8]) -> bool
+    requires { ⌜ (links ≤ 32) × (2 * links ≤ length (now ends)) ⌝ }
+    ensures { λ r. ⌜ r ≡ allBelow links (λ l. not (eqb (getD (now (ends .entry)) (2 * l) 0) (getD (now (ends .entry)) (2 * l + 1) 0))) ⌝ }
+{
+    let mut l = 0;
+    while l < links {
+        if ends[2 * l] == ends[2 * l + 1] {
+            return false;
+        }
+        l += 1;
+    }
+    true
+}
+
+// Two loops: the first is over bytes that stand side by side.
 fn links_in_range(bridges: u8, links: usize, ends: &[u8]) -> bool
     requires { ⌜ (links ≤ 32) × (2 * links ≤ length (now ends)) ⌝ }
     ensures { λ r. ⌜ r ≡ allBelow links (linkInRange bridges (now (ends .entry))) ⌝ }
 {
-    let mut ok = true;
-    let mut l = 0;
-    while l < links {
-        ok = both(ok, link_passes(bridges, ends[2 * l], ends[2 * l + 1]));
-        l += 1;
-    }
-    ok
+    both(ends_below(bridges, links, ends), ends_differ(links, ends))
 }
 
 // Are the counts in the range, and does each link join two different bridges?
@@ -52,17 +68,18 @@ pub fn graph_passes(bridges: usize, links: usize, ends: &[u8]) -> bool
     links_in_range(bridges as u8, links, ends)
 }
 
+// A bit above the greatest cost's stands in some cost if and only if it stands in all of them joined by `|`.
 fn each_cost_passes(links: usize, costs: &[u32]) -> bool
     requires { ⌜ links ≤ length (now costs) ⌝ }
     ensures { λ r. ⌜ r ≡ allBelow links (λ l. leb (getD (now (costs .entry)) l 0) maxCost) ⌝ }
 {
-    let mut ok = true;
+    let mut joined = 0u32;
     let mut l = 0;
     while l < links {
-        ok = both(ok, costs[l] <= 16777215);
+        joined = joined | costs[l];
         l += 1;
     }
-    ok
+    joined <= 16777215
 }
 
 // Is there a cost for each of so many links, in the range?

@@ -7,9 +7,9 @@ use borrow.Author.Needs.{needs}
 use borrow.Author.Tests.{not-true, not-false}
 use Rattle.distances.specs.Call.{allBelow}
 use Rattle.distances.proofs.Tables.{cell-is}
-use Rattle.distances.proofs.Ranges.{allBelow-none}
+use Rattle.distances.proofs.Ranges.{allBelow-none, all-fails}
 use Rattle.agreement.specs.Steps.{sentAllowsAt}
-use Rattle.agreement.proofs.Basics.{all-more, all-fails}
+use Rattle.agreement.proofs.Basics.{all-more}
 use Rattle.agreement.proofs.ports.every_sent_allows.Statement.{statement}
 use Rattle.agreement.proofs.ports.every_sent_allows.Tie as tie
 

@@ -15,11 +15,11 @@ returns-2 : tie.Need-returns-2
 unfolding limitOf
 returns-2 c = rw (le-ltb _ _ (c .if2 .taken), and-false)
 
-add-sum : tie.Need-add-sum
-add-sum c = search needs
+sub-if3 : tie.Need-sub-if3
+sub-if3 c = search needs
 
-cast-result : tie.Need-cast-result
-cast-result c = search needs
+add-result : tie.Need-add-result
+add-result c = search needs
 
 returns-3 : tie.Need-returns-3
 unfolding limitOf
@@ -30,4 +30,4 @@ unfolding limitOf
 returns-4 c = rw (ne-eqb _ _ (c .before .before .if1 .left), lt-ltb _ _ (c .before .if2 .left)) (omega arith)
 
 pub limit-of-spec : {M : Type 1} → statement M
-limit-of-spec = tie.close (tie.spec returns returns-2 add-sum cast-result returns-3 returns-4)
+limit-of-spec = tie.close (tie.spec returns returns-2 sub-if3 add-result returns-3 returns-4)

@@ -1,11 +1,15 @@
 -- Laws of the least number below n that passes a test. Assumes nothing.
 use Prim.Native.Nat.{ℕ, zero, suc, _≤_, _<_}
 use native.Mathlib.Omega.{arith}
-use mathlib.Core.Bool.{Bool, true, false, cond}
+use mathlib.Core.Bool.{Bool, true, false, cond, _&&_, _||_, not}
 use mathlib.Core.Path.{_≡_, refl}
 use borrow.Author.Tests.{ltb-true, ltb-false, lt-ltb, le-ltb, eqb-true, eqb-false}
 use lib.Dec.{eqb, ltb}
 use Rattle.agreement.specs.Tests.{firstBelow}
+
+-- what a function gives at the least number that passes, z where none does
+abbrev pub atFirst : {A : Type 0} → (ℕ → Bool) → ℕ → (ℕ → A) → A → A
+atFirst test n at z = cond (ltb (firstBelow n test) n) (at (firstBelow n test)) z
 
 module _ (test : ℕ → Bool) where
   pub first-le : (n : ℕ) → firstBelow n test ≤ n
@@ -75,6 +79,34 @@ module _ (test : ℕ → Bool) where
       go : (b : Bool) → test j ≡ b → b ≡ false
       go true e = absurd (omega (arith, first-le n, first-at-most n j (omega (arith, first-le n)) e))
       go false e = refl
+
+  -- with one number more: something is found if it was before, or if that number passes
+  pub found-more : (n : ℕ) → ltb (firstBelow (suc n) test) (suc n) ≡ (ltb (firstBelow n test) n || test n)
+  unfolding firstBelow
+  found-more n = go (ltb (firstBelow n test) n) (test n) refl
+    where
+      go : (b t : Bool) → ltb (firstBelow n test) n ≡ b → ltb (cond b (firstBelow n test) (cond t n (suc n))) (suc n) ≡ (b || t)
+      go true t e = lt-ltb (firstBelow n test) (suc n) (omega (arith, ltb-true (firstBelow n test) n e))
+      go false true e = lt-ltb n (suc n) (omega arith)
+      go false false e = le-ltb (suc n) (suc n) (omega arith)
+
+  -- and it is that number if nothing was found before
+  pub at-first-more :
+      {A : Type 0} (at : ℕ → A) (z : A) (n : ℕ) →
+      atFirst test (suc n) at z ≡ cond (not (ltb (firstBelow n test) n) && test n) (at n) (atFirst test n at z)
+  unfolding firstBelow
+  at-first-more {A} at z n = go (ltb (firstBelow n test) n) (test n) refl
+    where
+      found : Bool → Bool → ℕ
+      found b t = cond b (firstBelow n test) (cond t n (suc n))
+
+      go :
+          (b t : Bool) →
+          ltb (firstBelow n test) n ≡ b →
+          cond (ltb (found b t) (suc n)) (at (found b t)) z ≡ cond (not b && t) (at n) (cond b (at (firstBelow n test)) z)
+      go true t e = rw (lt-ltb (firstBelow n test) (suc n) (omega (arith, ltb-true (firstBelow n test) n e)))
+      go false true e = rw (lt-ltb n (suc n) (omega arith))
+      go false false e = rw (le-ltb (suc n) (suc n) (omega arith))
 
 pub first-cong : (n : ℕ) (test other : ℕ → Bool) → ((k : ℕ) → k < n → test k ≡ other k) → firstBelow n test ≡ firstBelow n other
 unfolding firstBelow

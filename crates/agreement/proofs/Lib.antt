@@ -5,6 +5,7 @@ pub mod Entry
 pub mod Limits
 pub mod Offers
 pub mod PortSteps
+pub mod ChoiceLaws
 pub mod Forwards
 pub mod PortCong
 pub mod Direction

@@ -1,10 +1,12 @@
 -- What each call comes to where its input is in range, and where it is not. Assumes nothing.
-use Prim.Native.Nat.{ℕ}
+use Prim.Native.Nat.{ℕ, _≤_, _<_}
 use mathlib.Core.Path.{_≡_}
 use mathlib.Core.Bool.{Bool, true, false, _&&_}
 use mathlib.Core.List.{List}
+use borrow.Author.Tests.{lt-ltb, le-ltb}
 use lib.ListN.{length}
-use Rattle.distances.specs.View.{NONE, costsOf}
+use lib.Dec.{leb, ltb}
+use Rattle.distances.specs.View.{NONE, maxCost, costsOf}
 use Rattle.distances.specs.Table.{cell}
 use Rattle.agreement.specs.Offer.{opposite}
 use Rattle.agreement.specs.Record.{freshRecord, updated, sentUpdated, heldUpdated, carried, answer, recorded, sentDelivered, heldDelivered}
@@ -12,8 +14,10 @@ use Rattle.agreement.specs.Limits.{withLimits}
 use Rattle.agreement.specs.Ranges.{isView, recordInRange, deliveryInRange, portInRange}
 use Rattle.agreement.specs.Forwarding.{port}
 use Rattle.agreement.specs.Call.{Lent, lentGraph, lentOffer, lentEndInRange, lentRecords, outcome, says, refused, freshOutcome, updateOutcome, carryOutcome, deliverOutcome, portOutcome}
+use Rattle.agreement.specs.Choice.{nextChoice, portBy, nextOutcome, choiceOutcome}
 use Rattle.agreement.specs.declared.EndRecord.{EndRecord}
 use Rattle.agreement.specs.declared.Agreement.{Agreement}
+use Rattle.agreement.specs.declared.Choice.{Choice}
 
 module _ (views t n : ℕ) (r : EndRecord) where
   pub carry-accepted : (isView views t && recordInRange views r) ≡ true → carryOutcome views t n r ≡ says (carried t n r)
@@ -71,7 +75,27 @@ module _ (v : Lent) (e : ℕ) (sent held : List ℕ) where
       unfolding deliverOutcome
       deliver-refused ok = rw ok
 
--- the forwarding choice
+-- the forwarding choice by its ends
+module _ (old : Choice) (link cost far : ℕ) (cut holding : Bool) (sent held : ℕ) where
+  pub next-accepted :
+      (ltb link 32 && leb cost maxCost) ≡ true →
+      nextOutcome old link cost far cut holding sent held ≡ says (nextChoice old link cost far cut holding sent held)
+  unfolding nextOutcome
+  next-accepted ok = rw ok
+
+  pub next-refused : (ltb link 32 && leb cost maxCost) ≡ false → nextOutcome old link cost far cut holding sent held ≡ refused
+  unfolding nextOutcome
+  next-refused ok = rw ok
+
+pub choice-accepted : (c : Choice) → c .link < 32 → choiceOutcome c ≡ says (portBy c)
+unfolding choiceOutcome
+choice-accepted c low = rw (lt-ltb (c .link) 32 low)
+
+pub choice-refused : (c : Choice) → 32 ≤ c .link → choiceOutcome c ≡ refused
+unfolding choiceOutcome
+choice-refused c high = rw (le-ltb (c .link) 32 high)
+
+-- the forwarding port
 module _ (v : Lent) (views : ℕ) (cut : List Bool) (records : List EndRecord) (sent held : List ℕ) (y d : ℕ) where
   abbrev pub portReady : Bool
   portReady = portInRange (v .bridges) (v .links) (v .ends) (v .costs) (v .table) views records (length sent) (length held) y d

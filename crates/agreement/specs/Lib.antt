@@ -7,3 +7,4 @@ pub mod Rule
 pub mod Ranges
 pub mod Steps
 pub mod Call
+pub mod Choice

@@ -1,6 +1,7 @@
 // Layer 2: one bridge's agreement records and its forwarding choice. Each call is handed a view as `distances` has it: the graph,
 // the view's costs, and the lent table that holds its distances; and the lent limit tables, a row of 16 limits for each end.
 pub mod calls;
+pub mod choices;
 mod ports;
 pub mod ready;
 mod records;
@@ -35,6 +36,17 @@ pub enum Port {
     Open(u8),
 }
 
+// The forwarding choice of a bridge by some of its ends: the bridge's distance; whether some end reaches it; the link of the first such
+// end; whether that link is up and its held limit at most the distance; and whether the bridge is no destination, has a path, and its
+// distance is below the sent limit of every uncut link so far.
+pub struct Choice {
+    pub distance: u32,
+    pub found: bool,
+    pub link: u8,
+    pub usable: bool,
+    pub allowed: bool,
+}
+
 // What becomes of a row of limits: it stays, each limit is lowered to the offer, becomes the offer, or becomes NONE.
 pub enum Rewrite {
     Keep,
@@ -67,6 +79,11 @@ pub enum Reaction {
 pub enum Forwarding {
     Refused,
     Found(Port),
+}
+
+pub enum Chosen {
+    Refused,
+    So(Choice),
 }
 
 // An end's record after a call, beside the reply.

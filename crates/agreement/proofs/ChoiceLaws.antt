@@ -2,14 +2,15 @@
 use Prim.Native.Nat.{ℕ, zero, suc, _+_, _*_}
 use mathlib.Core.Path.{_≡_, refl, sym, _∙_}
 use mathlib.Core.Bool.{Bool, true, false, cond, _&&_, _||_, not, and-true, and-false}
-use borrow.Author.Tests.{not-true}
+use borrow.Author.Tests.{eq-eqb, ne-eqb, not-true}
+use native.Mathlib.Numerals.{add-one}
 use lib.Dec.{eqb, leb, ltb}
 use Rattle.distances.specs.View.{Graph, Costs, NONE}
 use Rattle.distances.specs.Call.{allBelow, every}
 use Rattle.distances.proofs.Booleans.{both-true}
 use Rattle.distances.proofs.Ranges.{every-none, every-more, allBelow-none, allBelow-more}
 use Rattle.distances.proofs.Joined.{present-is}
-use Rattle.agreement.specs.Offer.{linkOf}
+use Rattle.agreement.specs.Offer.{linkOf, farBridge}
 use Rattle.agreement.specs.Tests.{firstBelow}
 use Rattle.agreement.specs.Forwarding.{
   Records,
@@ -173,6 +174,58 @@ module _ (g : Graph) (c : Costs) (f : ℕ → ℕ → ℕ) (r : Records) (y d : 
       go : (b : Bool) → ltb k (2 * g .links) ≡ b → portBy (byEnds (2 * g .links)) ≡ portFrom g f r y d k
       go true e = rw (e, every-more, every-more, every-more, every-more, every-more, every-none, in-order)
       go false e = rw e
+
+-- ---- a loop over the ends
+
+-- what a loop hands over of end e
+pub record IsEnd
+    (g : Graph)
+    (c : Costs)
+    (f : ℕ → ℕ → ℕ)
+    (r : Records)
+    (d e link cost far : ℕ)
+    (cut holding : Bool)
+    (sent held : ℕ) : Type 0 where
+  pub isLink : link ≡ linkOf e
+  pub isCost : cost ≡ c (linkOf e)
+  pub isFar : far ≡ f (farBridge g e) d
+  pub isCut : cut ≡ r .cut (linkOf e)
+  pub isHolding : holding ≡ r .ends e .holding
+  pub isSent : sent ≡ r .sent e d
+  pub isHeld : held ≡ r .held e d
+
+module _ (g : Graph) (c : Costs) (f : ℕ → ℕ → ℕ) (r : Records) (y d : ℕ) where
+  -- no end yet; one end more, at y or not
+  pub choice-none : {own : ℕ} → own ≡ f y d → firstChoice own (eqb y d) ≡ choiceBelow g c f r y d 0
+  unfolding choiceBelow
+  choice-none e = rw e
+
+  pub choice-here :
+      (e : ℕ) {old next : Choice} {link cost far : ℕ} {cut holding : Bool} {sent held : ℕ} →
+      old ≡ choiceBelow g c f r y d e →
+      g .bridgeAt e ≡ y →
+      IsEnd g c f r d e link cost far cut holding sent held →
+      next ≡ nextChoice old link cost far cut holding sent held →
+      next ≡ choiceBelow g c f r y d (e + 1)
+  unfolding choiceBelow choiceWith
+  choice-here e so at told is =
+      is
+      ∙ rw (
+        told .isLink,
+        told .isCost,
+        told .isFar,
+        told .isCut,
+        told .isHolding,
+        told .isSent,
+        told .isHeld,
+        so,
+        add-one,
+        eq-eqb (g .bridgeAt e) y at,
+      )
+
+  pub choice-away : (e : ℕ) → (g .bridgeAt e ≡ y → ⊥) → choiceBelow g c f r y d e ≡ choiceBelow g c f r y d (e + 1)
+  unfolding choiceBelow
+  choice-away e apart = rw (add-one, ne-eqb (g .bridgeAt e) y apart)
 
 pub choice-is-port : ChoiceIsPort
 choice-is-port g c f r y d = rw (by-ends g c f r y d (2 * g .links)) (by-port g c f r y d)

@@ -12,37 +12,6 @@ abbrev pub atFirst : {A : Type 0} → (ℕ → Bool) → ℕ → (ℕ → A) →
 atFirst test n at z = cond (ltb (firstBelow n test) n) (at (firstBelow n test)) z
 
 module _ (test : ℕ → Bool) where
-  pub first-le : (n : ℕ) → firstBelow n test ≤ n
-  unfolding firstBelow
-  first-le zero = omega arith
-  first-le (suc n) = go (ltb (firstBelow n test) n) (test n) (first-le n)
-    where
-      go : (b t : Bool) → firstBelow n test ≤ n → cond b (firstBelow n test) (cond t n (suc n)) ≤ suc n
-      go true t h = omega arith
-      go false true h = omega arith
-      go false false h = omega arith
-
-  -- nothing passes
-  pub first-none : (n : ℕ) → ((k : ℕ) → k < n → test k ≡ false) → firstBelow n test ≡ n
-  unfolding firstBelow
-  first-none zero h = refl
-  first-none (suc n) h = rw (first-none n (λ k b. h k (omega arith)), le-ltb n n (omega arith), h n (omega arith))
-
-  -- k passes and nothing below k does
-  pub first-is : (n k : ℕ) → k < n → test k ≡ true → ((j : ℕ) → j < k → test j ≡ false) → firstBelow n test ≡ k
-  unfolding firstBelow
-  first-is zero k h t none = absurd (omega arith)
-  first-is (suc n) k h t none = go (eqb k n) refl (first-is n k)
-    where
-      go : (b : Bool) → eqb k n ≡ b → (k < n → test k ≡ true → ((j : ℕ) → j < k → test j ≡ false) → firstBelow n test ≡ k) →
-          cond (ltb (firstBelow n test) n) (firstBelow n test) (cond (test n) n (suc n)) ≡ k
-      go true e below =
-          let d : n ≡ k = omega (arith, eqb-true k n e) in
-          rw (d, first-none k none, le-ltb k k (omega arith), t)
-      go false e below =
-          let b : k < n = omega (arith, eqb-false k n e) in
-          rw (below b t none, lt-ltb k n b)
-
   -- what is found passes
   pub first-passes : (n : ℕ) → firstBelow n test < n → test (firstBelow n test) ≡ true
   unfolding firstBelow
@@ -71,14 +40,6 @@ module _ (test : ℕ → Bool) where
       go false false e d below =
           let b : k < n = omega (arith, eqb-false k n d) in
           absurd (omega (arith, ltb-false (firstBelow n test) n e, below b t))
-
-  -- nothing below it passes
-  pub first-lowest : (n j : ℕ) → j < firstBelow n test → test j ≡ false
-  first-lowest n j h = go (test j) refl
-    where
-      go : (b : Bool) → test j ≡ b → b ≡ false
-      go true e = absurd (omega (arith, first-le n, first-at-most n j (omega (arith, first-le n)) e))
-      go false e = refl
 
   -- with one number more: something is found if it was before, or if that number passes
   pub found-more : (n : ℕ) → ltb (firstBelow (suc n) test) (suc n) ≡ (ltb (firstBelow n test) n || test n)

@@ -4,7 +4,6 @@ pub mod Ends
 pub mod Entry
 pub mod Limits
 pub mod Offers
-pub mod PortSteps
 pub mod ChoiceLaws
 pub mod Forwards
 pub mod PortCong

@@ -1,12 +1,13 @@
 -- The forwarding choice: what one end more comes to, and that the choice by all ends is the forwarding port. Assumes nothing.
-use Prim.Native.Nat.{ℕ, zero, suc, _+_, _*_}
+use Prim.Native.Nat.{ℕ, zero, suc, _+_, _*_, _≤_, _<_}
 use mathlib.Core.Path.{_≡_, refl, sym, _∙_}
 use mathlib.Core.Bool.{Bool, true, false, cond, _&&_, _||_, not, and-true, and-false}
-use borrow.Author.Tests.{eq-eqb, ne-eqb, not-true}
+use borrow.Author.Tests.{eq-eqb, ne-eqb, ltb-true, not-true}
 use native.Mathlib.Numerals.{add-one}
+use native.Mathlib.Omega.{arith}
 use lib.Dec.{eqb, leb, ltb}
 use Rattle.distances.specs.View.{Graph, Costs, NONE}
-use Rattle.distances.specs.Call.{allBelow, every}
+use Rattle.distances.specs.Call.{allBelow}
 use Rattle.distances.proofs.Booleans.{both-true}
 use Rattle.distances.proofs.Ranges.{every-none, every-more, allBelow-none, allBelow-more}
 use Rattle.distances.proofs.Joined.{present-is}
@@ -174,6 +175,20 @@ module _ (g : Graph) (c : Costs) (f : ℕ → ℕ → ℕ) (r : Records) (y d : 
       go : (b : Bool) → ltb k (2 * g .links) ≡ b → portBy (byEnds (2 * g .links)) ≡ portFrom g f r y d k
       go true e = rw (e, every-more, every-more, every-more, every-more, every-more, every-none, in-order)
       go false e = rw e
+
+  -- its distance is the bridge's, and its link one of those so far
+  pub choice-distance : (n : ℕ) → choiceBelow g c f r y d n .distance ≡ f y d
+  choice-distance n = rw (by-ends n)
+
+  pub choice-link : (n : ℕ) → n ≤ 64 → choiceBelow g c f r y d n .link < 32
+  choice-link n few = rw (by-ends n) (go (ltb k n) refl)
+    where
+      k : ℕ
+      k = firstBelow n (reaches g c f y d)
+
+      go : (b : Bool) → ltb k n ≡ b → cond b (linkOf k) 0 < 32
+      go true e = omega (arith, ltb-true k n e)
+      go false e = omega arith
 
 -- ---- a loop over the ends
 

@@ -50,5 +50,6 @@ pub mod FlightAnswers
 pub mod FlightRanges
 pub mod ChangeSteps
 pub mod WalkSteps
+pub mod ChoiceSteps
 pub mod ChangeEntry
 pub mod FlightCalls

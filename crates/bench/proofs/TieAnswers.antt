@@ -2,36 +2,32 @@
 use Prim.Native.Nat.{ℕ, zero, suc, _*_, _-_, _≤_, _<_}
 use native.Mathlib.Omega.{arith}
 use mathlib.Core.Path.{_≡_, refl, sym, _∙_, ap}
-use mathlib.Core.Bool.{true, cond}
+use mathlib.Core.Bool.{cond}
 use mathlib.Core.List.{List, _∷_}
 use lib.ListN.{length, getD}
 use lib.Dec.{eqb}
-use Rattle.distances.specs.View.{InRange, costsOf}
-use Rattle.distances.specs.Table.{cell}
+use Rattle.distances.specs.View.{InRange}
 use Rattle.distances.proofs.Booleans.{below}
-use Rattle.agreement.specs.Ranges.{portInRange}
-use Rattle.agreement.specs.Forwarding.{port}
-use Rattle.agreement.specs.Call.{Lent, lentGraph, Said, says}
+use Rattle.agreement.specs.Call.{Said, says}
 use Rattle.agreement.specs.declared.Port.{Port}
 use Rattle.agreement.proofs.PortCong.{port-cong}
-use Rattle.agreement.proofs.InRange.{records-pass, port-passes}
-use Rattle.agreement.proofs.Outcomes.{port-accepted}
 use Rattle.bench.specs.Net.{Network, Plan}
 use Rattle.bench.specs.Calls as calls
 use Rattle.bench.specs.Calls.{Call, Check, refusal, refuse, checks, noSuchBridge}
 use Rattle.bench.specs.Ports.{Hop, stays, crosses, hop}
 use Rattle.bench.specs.Ports as ports
 use Rattle.bench.specs.Paths.{Way, delivered, follow, onward, path}
-use Rattle.bench.specs.State.{State, network, lentView}
+use Rattle.bench.specs.State.{State, network}
 use Rattle.bench.specs.Changes.{refusalOf, orRefused, stateInRange}
 use Rattle.bench.specs.Deliveries.{refusedBy}
-use Rattle.bench.specs.Answers.{found, portIn, portOf, hopIn, pathOf}
+use Rattle.bench.specs.Answers.{portIn, portOf, hopIn, pathOf}
 use Rattle.bench.specs.Whole.{Represents}
 use Rattle.distances.proofs.Refusals.{passed}
 use Rattle.bench.proofs.Links.{across-below}
 use Rattle.bench.proofs.Hops.{port-forwards, hop-crosses}
-use Rattle.bench.proofs.TieRanges.{StateReady, told, network-ready, few, lent-in-range, plan-in-range, part-at}
+use Rattle.bench.proofs.TieRanges.{StateReady, told, network-ready, few, plan-in-range, part-at}
 use Rattle.bench.proofs.TieRefusals.{settled-same}
+use Rattle.bench.proofs.ChoiceSteps.{port-in}
 use Rattle.bench.proofs.TieChecks.{refusal-same}
 
 -- ---- hops that agree at the bridges that there are, and lead from one of them to another, make the same way
@@ -73,26 +69,10 @@ module _ (s : State) (n : Network) (r : Represents s n) where
     is-view : viewOf < s .bench .views
     is-view = inside .view y hy
 
-    abbrev lentOf : Lent
-    lentOf = lentView (s .bench) (s .costs) (s .tables) viewOf
-
-    port-inside :
-        portInRange (s .bench .bridges) (s .bench .links) (s .bench .ends) (lentOf .costs) (lentOf .table) (s .bench .views)
-        (s .bench .records) (length (s .sent)) (length (s .held)) y d ≡ true
-    port-inside =
-        port-passes _ _ _ _ _ _ _ (lent-in-range (s .bench) (s .costs) (s .tables) (inside .lasting) viewOf is-view)
-        (inside .sentLong) (inside .heldLong) (s .bench .views) (s .bench .records) y d
-        (inside .lasting .viewsLeast) (inside .lasting .viewsMost)
-        (records-pass _ (s .bench .links) (s .bench .records) (small .1) (inside .records)) hy hd
-
-    port-in : portIn s y d ≡ port (lentGraph lentOf) (costsOf (lentOf .costs)) (cell (lentOf .table)) (network s .records) y d
-    unfolding portIn found
-    port-in = rw (port-accepted lentOf (s .bench .views) (s .bench .cut) (s .bench .records) (s .sent) (s .held) y d port-inside)
-
     pub port-same : portIn s y d ≡ ports.portOf n y d
     unfolding ports.portOf
     port-same =
-        port-in
+        port-in s (network-ready s inside) y d hy hd
         ∙ rw (r .plan, r .view y hy)
         (port-cong (network s .plan .graph) _ _ _ _ _ _ graph-inside y d hy
         (record {

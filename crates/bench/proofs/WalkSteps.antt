@@ -5,16 +5,16 @@ use native.Mathlib.Numerals.{add-one}
 use native.Mathlib.Omega.{arith}
 use mathlib.Core.Path.{_≡_, refl, sym}
 use mathlib.Core.Bool.{Bool, true, false, cond}
-use mathlib.Core.List.{List, [], _∷_}
+use mathlib.Core.List.{List, _∷_}
 use borrow.Author.Tests.{eq-eqb, ne-eqb}
-use lib.ListN.{getD, take, drop}
+use lib.ListN.{getD}
 use lib.Dec.{eqb}
 use Rattle.distances.specs.View.{Graph, graphOf, costsOf}
 use Rattle.distances.specs.Table.{cell}
 use Rattle.distances.proofs.Booleans.{below}
 use Rattle.distances.proofs.Refusals.{passed}
 use Rattle.distances.proofs.Tables.{cell-block}
-use Rattle.agreement.specs.Call.{Said, Lent, lent, lentGraph, lentRecords, forwardingSays, portOutcome}
+use Rattle.agreement.specs.Call.{Lent, lentGraph, lentRecords, portOutcome}
 use Rattle.agreement.specs.declared.EndRecord.{EndRecord}
 use Rattle.agreement.specs.declared.Forwarding.{Forwarding}
 use Rattle.agreement.specs.declared.Port.{Port}
@@ -25,7 +25,7 @@ use Rattle.bench.specs.Net.{Network}
 use Rattle.bench.specs.Calls.{Check, refusal, noSuchBridge}
 use Rattle.bench.specs.Ports.{Hop, stays, crosses, across, hopBy}
 use Rattle.bench.specs.Paths.{delivered, stops, follow, onward}
-use Rattle.bench.specs.State.{State, state, lentView, part}
+use Rattle.bench.specs.State.{State, lentView, part}
 use Rattle.bench.specs.Answers.{found, portIn, hopIn, reportedRow, reported}
 use Rattle.bench.specs.Steps.{Ready}
 use Rattle.bench.specs.declared.Bench.{Bench}
@@ -36,28 +36,6 @@ use Rattle.bench.specs.declared.Bench.{Bench}
 abbrev pub portSaid : Forwarding → Port
 portSaid Forwarding.Refused = Closed
 portSaid (Forwarding.Found p) = p
-
-said-found : (r : Forwarding) (o : Said Port) → forwardingSays r ≡ o → portSaid r ≡ found (o .value)
-unfolding found
-said-found Forwarding.Refused o e = rw (sym e)
-said-found (Forwarding.Found p) o e = rw (sym e)
-
--- lent the row of costs and the block of distances of y's view
-pub port-found :
-    (b : Bench) (costs tables sent held : List ℕ) (y d : ℕ) (r : Forwarding) →
-    let t : ℕ = getD (b .view) y 0 in
-    forwardingSays r
-    ≡ portOutcome
-    (lent (b .bridges) (b .links) (b .ends) (take (32 * t + 32 - 32 * t) (drop (32 * t) costs))
-    (take (256 * t + 256 - 256 * t) (drop (256 * t) tables)))
-    (b .views) (b .cut) (b .records) sent held y d →
-    portSaid r ≡ portIn (state b costs tables sent held []) y d
-unfolding portIn
-port-found b costs tables sent held y d r e =
-    let t : ℕ = getD (b .view) y 0 in
-    let row : 32 * t + 32 - 32 * t ≡ 32 = omega arith in
-    let block : 256 * t + 256 - 256 * t ≡ 256 = omega arith in
-    said-found r _ (rw (row, block) at e)
 
 -- ---- the link of an open port is one of the links
 
@@ -149,6 +127,16 @@ module _ (next : ℕ → Hop) (d : ℕ) where
 pub bridge-listed : (n : Network) (y : ℕ) (cs : List Check) → refusal (noSuchBridge n y ∷ cs) ≡ 0 → y < n .plan .graph .bridges
 unfolding noSuchBridge
 bridge-listed n y cs e = below y (n .plan .graph .bridges) (passed (noSuchBridge n y) cs (omega arith) e .0)
+
+-- and two of them
+pub bridges-listed :
+    (n : Network) (y d : ℕ) (cs : List Check) →
+    refusal (noSuchBridge n y ∷ noSuchBridge n d ∷ cs) ≡ 0 →
+    (y < n .plan .graph .bridges) × (d < n .plan .graph .bridges)
+unfolding noSuchBridge
+bridges-listed n y d cs e =
+    let rest = passed (noSuchBridge n y) (noSuchBridge n d ∷ cs) (omega arith) e .1 in
+    (bridge-listed n y (noSuchBridge n d ∷ cs) e, bridge-listed n d cs rest)
 
 -- ---- the report, row by row
 

@@ -2,22 +2,61 @@
 use crate::Bench;
 use crate::Hop;
 use crate::Way;
+use agreement::Choice;
+use agreement::Chosen;
 use agreement::Port;
+use agreement::choices::first_choice;
+use agreement::choices::next_choice;
+use agreement::choices::port_by;
+use agreement::ready::opposite_end;
 ghost use mathlib.Core.Path.{_≡_};
-ghost use mathlib.Core.List.{[]};
-ghost use Prim.Native.Nat.{_-_, _≤_, _<_};
-ghost use lib.ListN.{length};
+ghost use mathlib.Core.List.{List, []};
+ghost use Prim.Native.Nat.{ℕ, _+_, _-_, _*_, _≤_, _<_};
+ghost use lib.ListN.{length, getD, set};
 ghost use lib.Dec.{eqb};
 ghost use mathlib.Core.Bool.{cond};
 ghost use Rattle.agreement.specs.Call.{says};
-ghost use Rattle.distances.specs.View.{graphOf};
+ghost use Rattle.agreement.specs.Choice.{nextChoice, portBy};
+ghost use Rattle.distances.specs.View.{graphOf, maxCost};
 ghost use Rattle.bench.specs.State.{state};
 ghost use Rattle.bench.specs.Ports.{across};
 ghost use Rattle.bench.specs.Paths.{onward, delivered, stops};
-ghost use Rattle.bench.specs.Answers.{portIn, linkNumber, reportedRow, reported, hopIn, waySays};
-ghost use Rattle.bench.specs.Steps.{Ready, hopSays};
+ghost use Rattle.bench.specs.Answers.{portIn, linkNumber, reported, hopIn, waySays};
+ghost use Rattle.bench.specs.Steps.{PortsReady, AreChoices, hopSays};
 
-// The port that layer 2 finds for a bridge in its own view.
+// The choice with one end more.
+fn choice_with(
+    old: Choice,
+    link: usize,
+    cost: u32,
+    far: u32,
+    cut: bool,
+    holding: bool,
+    sent: u32,
+    held: u32,
+) -> Choice
+    requires { ⌜ (link < 32) × (cost ≤ maxCost) ⌝ }
+    ensures { λ r. ⌜ r ≡ nextChoice old link cost far cut holding sent held ⌝ }
+{
+    let chosen = next_choice(old, link as u8, cost, far, cut, holding, sent, held);
+    match chosen {
+        Chosen::So(next) => next,
+        Chosen::Refused => old,
+    }
+}
+
+fn found_port(choice: Choice) -> Port
+    requires { ⌜ choice .link < 32 ⌝ }
+    ensures { λ r. ⌜ r ≡ portBy choice ⌝ }
+{
+    let found = port_by(choice);
+    match found {
+        agreement::Forwarding::Found(port) => port,
+        agreement::Forwarding::Refused => Port::Closed,
+    }
+}
+
+// The port of a bridge in its own view. Only plain numbers go to the calls of the loop: the bench is long to copy.
 pub(crate) fn port_at(
     bench: Bench,
     costs: &[u32],
@@ -27,36 +66,32 @@ pub(crate) fn port_at(
     bridge: usize,
     dest: usize,
 ) -> Port
-    requires { ⌜ Ready bench (now costs) (now tables) ⌝ }
-    requires { ⌜ bridge < bench .bridges ⌝ }
+    requires { ⌜ PortsReady bench (now costs) (now tables) (now sent) (now held) ⌝ }
+    requires { ⌜ (bridge < bench .bridges) × (dest < bench .bridges) ⌝ }
     ensures { λ r. ⌜ r ≡ portIn (state bench (now (costs .entry)) (now (tables .entry)) (now (sent .entry)) (now (held .entry)) []) bridge dest ⌝ }
 {
-    let places = bench.ends;
-    let cut = bench.cut;
-    let records = bench.records;
     let view = bench.view[bridge] as usize;
-    let row = 32 * view;
-    let row_past = row + 32;
-    let block = 256 * view;
-    let block_past = block + 256;
-    let found = agreement::calls::port(
-        bench.bridges,
-        bench.links,
-        &places,
-        &costs[row..row_past],
-        &tables[block..block_past],
-        bench.views,
-        cut,
-        records,
-        sent,
-        held,
-        bridge,
-        dest,
-    );
-    match found {
-        agreement::Forwarding::Found(port) => port,
-        agreement::Forwarding::Refused => Port::Closed,
+    let mut choice = first_choice(tables[256 * view + 16 * bridge + dest], bridge == dest);
+    let mut e = 0;
+    while e < 2 * bench.links {
+        let at = bench.ends[e] as usize;
+        if at == bridge {
+            let other = opposite_end(e);
+            let far = bench.ends[other] as usize;
+            choice = choice_with(
+                choice,
+                e / 2,
+                costs[32 * view + e / 2],
+                tables[256 * view + 16 * far + dest],
+                bench.cut[e / 2],
+                bench.records[e].holding,
+                sent[16 * e + dest],
+                held[16 * e + dest],
+            );
+        }
+        e += 1;
     }
+    found_port(choice)
 }
 
 fn link_number(port: Port) -> u32
@@ -68,23 +103,63 @@ fn link_number(port: Port) -> u32
     }
 }
 
-fn report_row(
+// The choice of each bridge before any end.
+fn first_choices(bench: Bench, tables: &[u32], dest: usize) -> [Choice; 16]
+    requires { ⌜ (bench .bridges ≤ 16) × (8192 ≤ length (now tables)) × (dest < bench .bridges) × ((y : ℕ) → y < bench .bridges → getD (bench .view) y 0 < 32) ⌝ }
+    ensures { λ r. ⌜ ((costs sent held : List ℕ) → AreChoices (state bench costs (now (tables .entry)) sent held []) dest 0 (bench .bridges) r) ⌝ }
+{
+    let none = first_choice(0, true);
+    let mut choices = [none; 16];
+    let mut y = 0;
+    while y < bench.bridges {
+        let view = bench.view[y] as usize;
+        choices[y] = first_choice(tables[256 * view + 16 * y + dest], y == dest);
+        y += 1;
+    }
+    choices
+}
+
+// The choice of each bridge, each in its own view, by one pass over all ends.
+fn all_choices(
     bench: Bench,
     costs: &[u32],
     tables: &[u32],
     sent: &[u32],
     held: &[u32],
     dest: usize,
-    rows: &mut [u32],
-    bridge: usize,
-)
-    requires { ⌜ Ready bench (now costs) (now tables) ⌝ }
-    requires { ⌜ (bridge < bench .bridges) × (dest < bench .bridges) × (32 ≤ length (now rows)) ⌝ }
-    ensures { λ r. ⌜ now (rows .exit) ≡ reportedRow (state bench (now (costs .entry)) (now (tables .entry)) (now (sent .entry)) (now (held .entry)) []) dest bridge (now (rows .entry)) ⌝ }
+) -> [Choice; 16]
+    requires { ⌜ PortsReady bench (now costs) (now tables) (now sent) (now held) ⌝ }
+    requires { ⌜ dest < bench .bridges ⌝ }
+    ensures { λ r. ⌜ AreChoices (state bench (now (costs .entry)) (now (tables .entry)) (now (sent .entry)) (now (held .entry)) []) dest (2 * bench .links) (bench .bridges) r ⌝ }
 {
-    let view = bench.view[bridge] as usize;
-    rows[2 * bridge] = tables[256 * view + 16 * bridge + dest];
-    rows[2 * bridge + 1] = link_number(port_at(bench, costs, tables, sent, held, bridge, dest));
+    let mut choices = first_choices(bench, tables, dest);
+    let mut e = 0;
+    while e < 2 * bench.links {
+        let y = bench.ends[e] as usize;
+        let view = bench.view[y] as usize;
+        let other = opposite_end(e);
+        let far = bench.ends[other] as usize;
+        choices[y] = choice_with(
+            choices[y],
+            e / 2,
+            costs[32 * view + e / 2],
+            tables[256 * view + 16 * far + dest],
+            bench.cut[e / 2],
+            bench.records[e].holding,
+            sent[16 * e + dest],
+            held[16 * e + dest],
+        );
+        e += 1;
+    }
+    choices
+}
+
+fn report_row(rows: &mut [u32], bridge: usize, choice: Choice)
+    requires { ⌜ (bridge < 16) × (choice .link < 32) × (32 ≤ length (now rows)) ⌝ }
+    ensures { λ r. ⌜ now (rows .exit) ≡ set (set (now (rows .entry)) (2 * bridge) (choice .distance)) (2 * bridge + 1) (linkNumber (portBy choice)) ⌝ }
+{
+    rows[2 * bridge] = choice.distance;
+    rows[2 * bridge + 1] = link_number(found_port(choice));
 }
 
 pub(crate) fn report_rows(
@@ -96,13 +171,14 @@ pub(crate) fn report_rows(
     dest: usize,
     rows: &mut [u32],
 )
-    requires { ⌜ Ready bench (now costs) (now tables) ⌝ }
+    requires { ⌜ PortsReady bench (now costs) (now tables) (now sent) (now held) ⌝ }
     requires { ⌜ (dest < bench .bridges) × (32 ≤ length (now rows)) ⌝ }
     ensures { λ r. ⌜ now (rows .exit) ≡ reported (state bench (now (costs .entry)) (now (tables .entry)) (now (sent .entry)) (now (held .entry)) []) dest (bench .bridges) (now (rows .entry)) ⌝ }
 {
+    let choices = all_choices(bench, costs, tables, sent, held, dest);
     let mut y = 0;
     while y < bench.bridges {
-        report_row(bench, costs, tables, sent, held, dest, rows, y);
+        report_row(rows, y, choices[y]);
         y += 1;
     }
 }
@@ -127,8 +203,8 @@ fn hop_at(
     dest: usize,
     bridge: usize,
 ) -> Hop
-    requires { ⌜ Ready bench (now costs) (now tables) ⌝ }
-    requires { ⌜ bridge < bench .bridges ⌝ }
+    requires { ⌜ PortsReady bench (now costs) (now tables) (now sent) (now held) ⌝ }
+    requires { ⌜ (bridge < bench .bridges) × (dest < bench .bridges) ⌝ }
     ensures { λ r. ⌜ hopSays r ≡ hopIn (state bench (now (costs .entry)) (now (tables .entry)) (now (sent .entry)) (now (held .entry)) []) dest bridge ⌝ }
 {
     let port = port_at(bench, costs, tables, sent, held, bridge, dest);
@@ -157,8 +233,8 @@ pub(crate) fn walk(
     start: usize,
     dest: usize,
 ) -> Way
-    requires { ⌜ Ready bench (now costs) (now tables) ⌝ }
-    requires { ⌜ start < bench .bridges ⌝ }
+    requires { ⌜ PortsReady bench (now costs) (now tables) (now sent) (now held) ⌝ }
+    requires { ⌜ (start < bench .bridges) × (dest < bench .bridges) ⌝ }
     ensures { λ r. ⌜ waySays r ≡ says (onward (hopIn (state bench (now (costs .entry)) (now (tables .entry)) (now (sent .entry)) (now (held .entry)) []) dest) dest (bench .bridges - 1) 0 start) ⌝ }
 {
     let mut last = start;

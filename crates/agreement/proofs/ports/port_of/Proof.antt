@@ -1,10 +1,10 @@
 -- `ports::port_of` meets its contract. The loop's invariant: the choice is that of the ends below `e`. Assumes nothing.
-use Prim.Native.Nat.{ℕ, _≤_, _<_, _-_, _*_}
+use Prim.Native.Nat.{_≤_, _<_, _-_, _*_}
 use native.Mathlib.Omega.{arith}
 use mathlib.Core.Path.{_≡_, refl, sym, ap, _∙_}
 use mathlib.Core.Logic.{⊎-elim}
 use borrow.Author.Needs.{needs}
-use lib.ListN.{length, getD}
+use lib.ListN.{length}
 use Rattle.distances.specs.View.{graphOf, costsOf}
 use Rattle.distances.specs.Table.{cell}
 use Rattle.distances.proofs.Tables.{cell-is}

@@ -10,8 +10,8 @@ use Rattle.bench.specs.Changes.{stateInRange}
 use Rattle.bench.specs.Deliveries.{refusedBy}
 use Rattle.bench.specs.Answers.{portOf}
 use Rattle.bench.proofs.EntrySettled.{out-of-range, turned-down, goes-on}
-use Rattle.bench.proofs.FlightRanges.{network-told}
-use Rattle.bench.proofs.WalkSteps.{bridge-listed}
+use Rattle.bench.proofs.ChoiceSteps.{ports-told}
+use Rattle.bench.proofs.WalkSteps.{bridges-listed}
 use Rattle.bench.proofs.answers.port.Statement.{statement}
 use Rattle.bench.proofs.answers.port.Tie as tie
 
@@ -43,7 +43,7 @@ unfolding refuse checks
 port-at-requires c κs =
     let s = c .before .before .before .before .before .before .before .before in
     let passes = sym (c .before .port-refusal .ensures) ∙ c .if2 .left in
-    (network-told _ _ _ _ _ (in-range (c .before .before)), bridge-listed (networkOf (s .args .bench) []) (s .args .bridge) _ passes)
+    (ports-told _ _ _ _ _ (in-range (c .before .before)), bridges-listed (networkOf (s .args .bench) []) (s .args .bridge) (s .args .dest) _ passes)
 
 returns-3 : tie.Need-returns-3
 unfolding portOf refuse checks noSuchBridge

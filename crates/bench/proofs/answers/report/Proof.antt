@@ -14,7 +14,7 @@ use Rattle.bench.specs.State.{State, state, networkOf}
 use Rattle.bench.specs.Changes.{stateInRange}
 use Rattle.bench.specs.Answers.{Reported, report, reportOf}
 use Rattle.bench.proofs.EntrySettled.{out-of-range, turned-down, goes-on}
-use Rattle.bench.proofs.FlightRanges.{network-told}
+use Rattle.bench.proofs.ChoiceSteps.{ports-told}
 use Rattle.bench.proofs.WalkSteps.{bridge-listed}
 use Rattle.bench.proofs.answers.report.Statement.{statement}
 use Rattle.bench.proofs.answers.report.Tie as tie
@@ -71,7 +71,7 @@ unfolding refuse checks
 report-rows-requires c κs =
     let s = c .before .before .before .before .before .before .before .before .before .before .before in
     let passes = sym (c .before .before .report-refusal .ensures) ∙ c .before .if3 .left in (
-      network-told _ _ _ _ _ (in-range (c .before .before .before .before)),
+      ports-told _ _ _ _ _ (in-range (c .before .before .before .before)),
       (bridge-listed (networkOf (s .args .bench) []) (s .args .dest) _ passes, c .before .before .before .if2 .left),
     )
 

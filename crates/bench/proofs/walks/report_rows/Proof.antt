@@ -1,5 +1,5 @@
--- `walks::report_rows` meets its contract: the rows of the bridges below y are written. Assumes nothing.
-use Prim.Native.Nat.{_-_, _≤_}
+-- `walks::report_rows` meets its contract. The loop's invariant: the rows of the bridges below `y` are written. Assumes nothing.
+use Prim.Native.Nat.{_-_, _*_, _≤_}
 use native.Mathlib.Omega.{arith}
 use mathlib.Core.Path.{_≡_, refl, _∙_}
 use mathlib.Core.List.{[]}
@@ -8,41 +8,60 @@ use lib.ListN.{length}
 use Rattle.bench.specs.State.{state}
 use Rattle.bench.specs.Answers.{reported}
 use Rattle.bench.proofs.WalkSteps.{reported-more}
+use Rattle.bench.proofs.ChoiceSteps.{choice-low, choice-row}
 use Rattle.bench.proofs.walks.report_rows.Statement.{statement}
 use Rattle.bench.proofs.walks.report_rows.Tie as tie
 
 abbrev Inv-loop : tie.InvT-loop
-Inv-loop bench costs tables sent held dest rows₀ y₀ rows y =
+Inv-loop bench costs tables sent held dest rows₀ choices y₀ rows y =
     (rows ≡ reported (state bench costs tables sent held []) dest y rows₀) × (length rows ≡ length rows₀) × (y ≤ bench .bridges)
 
 abbrev μ-loop : tie.MeasureT-loop
-μ-loop bench costs tables sent held dest rows₀ y₀ rows y = bench .bridges - y
+μ-loop bench costs tables sent held dest rows₀ choices y₀ rows y = bench .bridges - y
+
+all-choices-requires : tie.Need-all-choices-requires Inv-loop μ-loop
+all-choices-requires c κs = (c .before .before .before .before .before .pre .0, c .before .before .before .before .before .pre .1 .0)
 
 loop-holds : tie.Need-loop-holds Inv-loop μ-loop
 unfolding reported
 loop-holds c = (refl, refl, omega arith)
 
+mul-report-row : tie.Need-mul-report-row Inv-loop μ-loop
+mul-report-row c = omega (arith, c .before .before .before .before .before .before .before .before .before .before .pre .0 .ready .fewBridges)
+
+array-copy-out-report-row : tie.Need-array-copy-out-report-row Inv-loop μ-loop
+array-copy-out-report-row c = omega (arith, c .before .before .before .before .before .before .before .before .before .before .pre .0 .ready .fewBridges)
+
 report-row-requires : tie.Need-report-row-requires Inv-loop μ-loop
-report-row-requires c κs = search needs
+report-row-requires c κs =
+    let p = c .before .before .before .before .before .before .before .before .before .before .before .pre in
+    let few : 2 * c .before .before .before .before .before .before .before .before .before .before .before .args .bench .links ≤ 64 = omega (arith, p .0 .ready .fewLinks) in
+    (omega (arith, p .0 .ready .fewBridges), rw (c .before .before .before .before .before .all-choices .ensures (c .before .before .before .before .loop .y) (c .before .before .if1 .taken) _) (choice-low _ _ _ _ few), omega (arith, p .1))
 
 add-y : tie.Need-add-y Inv-loop μ-loop
-add-y c = omega (arith, c .before .before .before .before .before .before .before .before .before .before .before .before .pre .0 .fewBridges)
+add-y c = omega (arith, c .before .before .before .before .before .before .before .before .before .before .before .before .before .before .pre .0 .ready .fewBridges)
 
 loop-less : tie.Need-loop-less Inv-loop μ-loop
-loop-less c = omega arith
+loop-less c = search needs
 
 loop-again : tie.Need-loop-again Inv-loop μ-loop
 loop-again c =
+    let p = c .before .before .before .before .before .before .before .before .before .before .before .before .before .before .pre in
     let turn = c .before .before .report-row in
-    let old = c .before .before .before .before .before .before .loop .inv in
-    (rw (turn .ensures, old .0) (reported-more _ _ _ _), turn .kept .1 .1 .1 .1 .1 .1 .0 ∙ old .1, omega arith)
+    let old = c .before .before .before .before .before .before .before .loop .inv in
+    let y = c .before .before .before .before .before .before .before .loop .y in
+    let low = c .before .before .before .before .before .if1 .taken in (
+      turn .ensures ∙ rw (old .0) (choice-row _ (p .0 .inRange) _ y low (p .1 .0) _ _ (c .before .before .before .before .before .before .before .before .all-choices .ensures y low _) ∙ reported-more _ _ _ _),
+      turn .kept .0 ∙ old .1,
+      omega arith,
+    )
 
 same-length : tie.Need-same-length Inv-loop μ-loop
 same-length c = c .before .before .loop .inv .1
 
 returns : tie.Need-returns Inv-loop μ-loop
 returns c =
-    let all : c .before .before .loop .y ≡ c .before .before .before .before .before .before .before .before .args .bench .bridges = omega arith in
+    let all : c .before .before .loop .y ≡ c .before .before .before .before .before .before .before .before .before .args .bench .bridges = omega arith in
     c .before .before .loop .inv .0 ∙ rw all
 
 pub report-rows-spec : {M : Type 1} → statement M
@@ -51,7 +70,10 @@ report-rows-spec =
     (tie.spec
     Inv-loop
     μ-loop
+    all-choices-requires
     loop-holds
+    mul-report-row
+    array-copy-out-report-row
     report-row-requires
     add-y
     loop-less

@@ -27,7 +27,7 @@ loop-holds : tie.Need-loop-holds Inv-loop μ-loop
 loop-holds c =
     let s = c .before .before .before .before in
     let none : s .args .bench .bridges - 1 - 0 ≡ s .args .bench .bridges - 1 = omega arith in
-    (rw none, s .pre .1, omega arith)
+    (rw none, s .pre .1 .0, omega arith)
 
 sub-if1 : tie.Need-sub-if1 Inv-loop μ-loop
 sub-if1 c = omega (arith, c .before .before .before .before .before .before .pre .1)
@@ -36,7 +36,9 @@ returns : tie.Need-returns Inv-loop μ-loop
 returns c = ap says (sym (c .before .before .before .loop .inv .0 ∙ onward-here _ _ _ _ _ (c .if2 .taken)))
 
 hop-at-requires : tie.Need-hop-at-requires Inv-loop μ-loop
-hop-at-requires c κs = (c .before .before .before .before .before .before .before .before .pre .0, c .before .before .before .loop .inv .1)
+hop-at-requires c κs =
+    let p = c .before .before .before .before .before .before .before .before .pre in
+    (p .0, (c .before .before .before .loop .inv .1, p .1 .1))
 
 enum-known-next : tie.Need-enum-known-next Inv-loop μ-loop
 enum-known-next c = search needs
@@ -50,7 +52,7 @@ returns-2 c =
     ap says (sym (c .before .before .before .before .before .before .loop .inv .0 ∙ onward-stops _ _ _ _ _ (c .before .before .before .if2 .left) hop))
 
 add-hops : tie.Need-add-hops Inv-loop μ-loop
-add-hops c = omega (arith, c .before .before .before .before .before .if1 .taken, c .before .before .before .before .before .before .before .before .before .before .before .before .pre .0 .fewBridges)
+add-hops c = omega (arith, c .before .before .before .before .before .if1 .taken, c .before .before .before .before .before .before .before .before .before .before .before .before .pre .0 .ready .fewBridges)
 
 loop-less : tie.Need-loop-less Inv-loop μ-loop
 loop-less c = omega arith
@@ -60,7 +62,7 @@ loop-again c =
     let hop = sym (c .before .before .before .hop-at .ensures) ∙ ap hopSays (c .before .next .given .1) in
     let low = c .before .before .before .before .before .if1 .taken in (
       c .before .before .before .before .before .before .before .loop .inv .0 ∙ onward-more _ _ _ _ _ _ _ low (c .before .before .before .before .if2 .left) hop,
-      hop-leads _ (c .before .before .before .before .before .before .before .before .before .before .before .before .pre .0) _ _ _ _ hop,
+      hop-leads _ (c .before .before .before .before .before .before .before .before .before .before .before .before .pre .0 .ready) _ _ _ _ hop,
       omega arith,
     )
 

@@ -1,0 +1,212 @@
+-- The steps of the code that makes ports of a bench's ends: what layer 2 answers, one end more in a loop, and the port that a choice by
+-- all ends comes to. Assumes nothing.
+use Prim.Native.Nat.{ℕ, _+_, _*_, _/_, _≤_, _<_}
+use native.Mathlib.Omega.{arith}
+use mathlib.Core.Path.{_≡_, refl, sym, ap, _∙_}
+use mathlib.Core.Bool.{Bool, true, false, cond}
+use mathlib.Core.List.{List}
+use borrow.Author.Tests.{leb-true, le-leb, lt-ltb, eqb-true, eqb-false}
+use lib.ListN.{length, getD, set}
+use lib.Dec.{eqb, leb}
+use Rattle.distances.specs.View.{maxCost, costsOf}
+use Rattle.distances.specs.Table.{cell}
+use Rattle.distances.proofs.Booleans.{both-true, true-both}
+use Rattle.distances.proofs.Tables.{cell-is}
+use Rattle.agreement.specs.Offer.{opposite}
+use Rattle.agreement.specs.Forwarding.{port}
+use Rattle.agreement.specs.Call.{Said, Lent, lentGraph, says, forwardingSays}
+use Rattle.agreement.specs.Choice.{firstChoice, nextChoice, portBy, chosenSays, nextOutcome, choiceOutcome}
+use Rattle.agreement.specs.declared.Choice.{Choice}
+use Rattle.agreement.specs.declared.Chosen.{Chosen}
+use Rattle.agreement.specs.declared.EndRecord.{EndRecord}
+use Rattle.agreement.specs.declared.Forwarding.{Forwarding}
+use Rattle.agreement.specs.Record.{freshRecord}
+use Rattle.agreement.proofs.Basics.{getD-default}
+use Rattle.agreement.proofs.Ends.{opposite-below}
+use Rattle.agreement.proofs.InRange.{records-pass, port-passes}
+use Rattle.agreement.proofs.Outcomes.{next-accepted, choice-accepted, port-accepted}
+use Rattle.agreement.proofs.ChoiceLaws.{choice-none, choice-here, choice-away, choice-distance, choice-link, choice-is-port}
+use Rattle.bench.specs.State.{State, network, lentView, part}
+use Rattle.bench.specs.Ranges.{graphInRange, benchInRange, costsInRange, tablesLong, networkInRange}
+use Rattle.bench.specs.Changes.{stateInRange}
+use Rattle.bench.specs.Answers.{found, portIn, linkNumber, reportedRow}
+use Rattle.bench.specs.Steps.{PortsReady, choiceIn, AreChoices}
+use Rattle.bench.specs.declared.Bench.{Bench}
+use Rattle.bench.proofs.TieRanges.{LastingOf, lasting-told, lent-in-range, plan-in-range, part-at, getD-stored}
+use Rattle.bench.proofs.FlightRanges.{bench-told, network-bench, network-costs, network-tables, network-told}
+use Rattle.bench.proofs.FlightCalls.{said-same}
+use Rattle.bench.proofs.WalkSteps.{portSaid, own-cell}
+
+-- ---- what the entry check tells
+
+module _ (b : Bench) (costs tables : List ℕ) (sent held : ℕ) (ok : networkInRange b costs (length tables) sent held ≡ true) where
+  lasting : LastingOf b costs tables
+  unfolding benchInRange
+  lasting =
+      lasting-told b costs tables (both-true (graphInRange b) _ (network-bench b costs (length tables) sent held ok) .0)
+      (network-costs b costs (length tables) sent held ok) (network-tables b costs (length tables) sent held ok)
+
+  limits : (1024 ≤ sent) × (1024 ≤ held)
+  unfolding networkInRange tablesLong
+  limits =
+      let tables-ok = both-true (costsInRange b costs) _ (both-true (benchInRange b) _ ok .1) .1 in
+      let h = both-true (leb 1024 sent) _ (both-true (leb 8192 (length tables)) _ tables-ok .1) in
+      (leb-true 1024 sent (h .0), leb-true 1024 held (h .1))
+
+pub ports-told :
+    (b : Bench) (costs tables sent held : List ℕ) →
+    networkInRange b costs (length tables) (length sent) (length held) ≡ true →
+    PortsReady b costs tables sent held
+ports-told b costs tables sent held ok =
+    let lasts = lasting b costs tables (length sent) (length held) ok in
+    let long = limits b costs tables (length sent) (length held) ok in
+    record {
+      inRange = ok;
+      ready = network-told b costs tables (length sent) (length held) ok;
+      sentLong = long .0;
+      heldLong = long .1;
+      costsMost = λ t l ht hl. plan-in-range b costs tables lasts .costs t ht .most l hl;
+    }
+
+-- the view of a bridge, and the bridge at the other end o of a link
+module _ {b : Bench} {costs tables sent held : List ℕ} (told : PortsReady b costs tables sent held) where
+  pub view-low : (y : ℕ) → y < b .bridges → getD (b .view) y 0 < 32
+  view-low y h = omega (arith, told .ready .fewViews, told .ready .areViews y h)
+
+  pub far-low : (e o : ℕ) → e < 2 * b .links → o ≡ opposite e → getD (b .ends) o 0 < 16
+  far-low e o h same = omega (arith, told .ready .fewBridges, told .ready .areBridges o (rw same (opposite-below e (b .links) h)))
+
+-- ---- what layer 2 answers
+
+abbrev pub choiceSaid : Choice → Chosen → Choice
+choiceSaid old Chosen.Refused = old
+choiceSaid old (Chosen.So c) = c
+
+said-choice : (old : Choice) (r : Chosen) (c : Choice) → chosenSays r ≡ says c → choiceSaid old r ≡ c
+said-choice old Chosen.Refused c e = absurd (let z : _≡_ {A = ℕ} 17 0 = ap (λ (o : Said Choice). o .number) e in omega arith)
+said-choice old (Chosen.So x) c e = said-same x c e
+
+pub next-said :
+    (old : Choice) (link cost far : ℕ) (cut holding : Bool) (sent held : ℕ) (r : Chosen) →
+    (link < 32) × (cost ≤ maxCost) →
+    chosenSays r ≡ nextOutcome old link cost far cut holding sent held →
+    choiceSaid old r ≡ nextChoice old link cost far cut holding sent held
+next-said old link cost far cut holding sent held r low e =
+    said-choice old r _ (e ∙ next-accepted _ _ _ _ _ _ _ _ (true-both (lt-ltb link 32 (low .0)) (le-leb cost maxCost (low .1))))
+
+pub port-said : (c : Choice) (r : Forwarding) → c .link < 32 → forwardingSays r ≡ choiceOutcome c → portSaid r ≡ portBy c
+port-said c Forwarding.Refused low e =
+    absurd (let z : _≡_ {A = ℕ} 17 0 = ap (λ (o : Said _). o .number) (e ∙ choice-accepted c low) in omega arith)
+port-said c (Forwarding.Found p) low e = said-same p (portBy c) (e ∙ choice-accepted c low)
+
+-- ---- the port by layer 2's definition
+
+module _ (s : State) (ok : stateInRange s ≡ true) (y d : ℕ) (hy : y < s .bench .bridges) (hd : d < s .bench .bridges) where
+  abbrev pub lentTo : Lent
+  lentTo = lentView (s .bench) (s .costs) (s .tables) (getD (s .bench .view) y 0)
+
+  pub port-in : portIn s y d ≡ port (lentGraph lentTo) (costsOf (lentTo .costs)) (cell (lentTo .table)) (network s .records) y d
+  unfolding portIn found
+  port-in =
+      let b : Bench = s .bench in
+      let told = bench-told b (network-bench b (s .costs) (length (s .tables)) (length (s .sent)) (length (s .held)) ok) in
+      let long = limits b (s .costs) (s .tables) (length (s .sent)) (length (s .held)) ok in
+      let lasts = lasting b (s .costs) (s .tables) (length (s .sent)) (length (s .held)) ok in
+      let passes =
+      port-passes _ _ _ _ _ _ _ (lent-in-range b (s .costs) (s .tables) lasts _ (told .view y hy)) (long .0) (long .1) (b .views) (b .records) y d
+      (told .least) (told .counted .views) (records-pass _ (b .links) (b .records) (told .counted .links) (told .records)) hy hd in
+      rw (port-accepted lentTo (b .views) (b .cut) (b .records) (s .sent) (s .held) y d passes)
+
+-- ---- one end more
+
+module _ (s : State) (d y : ℕ) where
+  abbrev ownView : ℕ
+  ownView = getD (s .bench .view) y 0
+
+  -- no end yet; `own` is the bridge's distance
+  pub choice-first : (own : ℕ) → y < 16 → d < 16 → own ≡ getD (s .tables) (256 * ownView + 16 * y + d) 0 → firstChoice own (eqb y d) ≡ choiceIn s d y 0
+  unfolding choiceIn
+  choice-first own hy hd is = choice-none _ _ _ _ _ _ (is ∙ own-cell ownView y d (s .tables) hy hd)
+
+  -- an end at the bridge, by the numbers that stand in the buffers; o is the other end of its link
+  pub choice-more :
+      (e o : ℕ) (none : EndRecord) {old next : Choice} →
+      e < 64 →
+      e < length (s .bench .records) →
+      d < 16 →
+      getD (s .bench .ends) o 0 < 16 →
+      getD (s .bench .ends) e 0 ≡ y →
+      o ≡ opposite e →
+      old ≡ choiceIn s d y e →
+      next
+      ≡ nextChoice old (e / 2) (getD (s .costs) (32 * ownView + e / 2) 0)
+      (getD (s .tables) (256 * ownView + 16 * getD (s .bench .ends) o 0 + d) 0) (getD (s .bench .cut) (e / 2) false)
+      (getD (s .bench .records) e none .holding) (getD (s .sent) (16 * e + d) 0) (getD (s .held) (16 * e + d) 0) →
+      next ≡ choiceIn s d y (e + 1)
+  unfolding choiceIn
+  choice-more e o none few listed hd far at other so is =
+      choice-here _ _ _ _ _ _ e so at
+      (record {
+        isLink = refl;
+        isCost = sym (part-at 32 ownView (s .costs) (e / 2) (omega arith));
+        isFar = own-cell ownView (getD (s .bench .ends) o 0) d (s .tables) far hd ∙ rw other;
+        isCut = refl;
+        isHolding = ap (λ (x : EndRecord). x .holding) (getD-default (s .bench .records) e none freshRecord listed);
+        isSent = sym (cell-is (s .sent) e d);
+        isHeld = sym (cell-is (s .held) e d);
+      })
+      is
+
+  -- an end at another bridge
+  pub choice-other : (e : ℕ) → (getD (s .bench .ends) e 0 ≡ y → ⊥) → choiceIn s d y e ≡ choiceIn s d y (e + 1)
+  unfolding choiceIn
+  choice-other e apart = choice-away _ _ _ _ _ _ e apart
+
+  -- the choice so far has the bridge's distance and one of the links
+  pub choice-own : (e : ℕ) → choiceIn s d y e .distance ≡ cell (part 256 ownView (s .tables)) y d
+  unfolding choiceIn
+  choice-own e = choice-distance _ _ _ _ _ _ e
+
+  pub choice-low : (e : ℕ) → e ≤ 64 → choiceIn s d y e .link < 32
+  unfolding choiceIn
+  choice-low e few = choice-link _ _ _ _ _ _ e few
+
+-- ---- all ends
+
+module _ (s : State) (ok : stateInRange s ≡ true) (d y : ℕ) (hy : y < s .bench .bridges) (hd : d < s .bench .bridges) where
+  pub choice-port : portBy (choiceIn s d y (2 * s .bench .links)) ≡ portIn s y d
+  unfolding choiceIn
+  choice-port = choice-is-port _ _ _ _ y d ∙ sym (port-in s ok y d hy hd)
+
+  -- the bridge's row of a report
+  pub choice-row :
+      (rows : List ℕ) (c : Choice) →
+      c ≡ choiceIn s d y (2 * s .bench .links) →
+      set (set rows (2 * y) (c .distance)) (2 * y + 1) (linkNumber (portBy c)) ≡ reportedRow s d y rows
+  unfolding reportedRow
+  choice-row rows c so = rw (so, choice-port, choice-own)
+
+-- ---- the choices of all bridges, in an array
+
+module _ (s : State) (d : ℕ) (choices : List Choice) where
+  pub choices-begun :
+      (y : ℕ) (c : Choice) → y < length choices → AreChoices s d 0 y choices → c ≡ choiceIn s d y 0 → AreChoices s d 0 (y + 1) (set choices y c)
+  choices-begun y c room so is k low none = getD-stored choices y c k none room ∙ go (eqb k y) refl
+    where
+      go : (b : Bool) → eqb k y ≡ b → cond b c (getD choices k none) ≡ choiceIn s d k 0
+      go true q = rw (eqb-true k y q) is
+      go false q = so k (omega (arith, eqb-false k y q)) none
+
+  -- the end e is at bridge y, whose choice becomes c
+  pub choices-more :
+      (e n y : ℕ) (c : Choice) →
+      y < length choices →
+      getD (s .bench .ends) e 0 ≡ y →
+      AreChoices s d e n choices →
+      c ≡ choiceIn s d y (e + 1) →
+      AreChoices s d (e + 1) n (set choices y c)
+  choices-more e n y c room at so is k low none = getD-stored choices y c k none room ∙ go (eqb k y) refl
+    where
+      go : (b : Bool) → eqb k y ≡ b → cond b c (getD choices k none) ≡ choiceIn s d k (e + 1)
+      go true q = rw (eqb-true k y q) is
+      go false q = so k low none ∙ choice-other s d k e (λ here. eqb-false k y q (sym here ∙ at))

@@ -1,0 +1,26 @@
+-- `walks::found_port` meets its contract: layer 2 does not refuse. Assumes nothing.
+use mathlib.Core.Path.{sym, ap, _∙_}
+use borrow.Author.Needs.{needs}
+use Rattle.bench.proofs.WalkSteps.{portSaid}
+use Rattle.bench.proofs.ChoiceSteps.{port-said}
+use Rattle.bench.proofs.walks.found_port.Statement.{statement}
+use Rattle.bench.proofs.walks.found_port.Tie as tie
+
+port-by-requires : tie.Need-port-by-requires
+port-by-requires c κs = search needs
+
+enum-known-found : tie.Need-enum-known-found
+enum-known-found c = search needs
+
+enum-told : tie.Need-enum-told
+enum-told c = search needs
+
+returns : tie.Need-returns
+returns c = ap portSaid (sym (c .before .found .given .1)) ∙ port-said _ (c .before .before .before .port-by .result) (c .before .before .before .before .pre) (c .before .before .before .port-by .ensures)
+
+returns-2 : tie.Need-returns-2
+returns-2 c = ap portSaid (sym (c .enum-told .given .1)) ∙ port-said _ (c .before .before .port-by .result) (c .before .before .before .pre) (c .before .before .port-by .ensures)
+
+pub found-port-spec : {M : Type 1} → statement M
+found-port-spec =
+    tie.close (tie.spec port-by-requires enum-known-found enum-told returns returns-2)

@@ -20,6 +20,8 @@ use Rattle.agreement.specs.declared.Choice.{Choice}
 use Rattle.agreement.specs.declared.Chosen.{Chosen}
 use Rattle.agreement.specs.declared.EndRecord.{EndRecord}
 use Rattle.agreement.specs.declared.Forwarding.{Forwarding}
+use Rattle.agreement.specs.declared.Port.{Port}
+use Rattle.agreement.specs.declared.Port.the-variants.{Closed}
 use Rattle.agreement.specs.Record.{freshRecord}
 use Rattle.agreement.proofs.Basics.{getD-default}
 use Rattle.agreement.proofs.Ends.{opposite-below}
@@ -35,7 +37,7 @@ use Rattle.bench.specs.declared.Bench.{Bench}
 use Rattle.bench.proofs.TieRanges.{LastingOf, lasting-told, lent-in-range, plan-in-range, part-at, getD-stored}
 use Rattle.bench.proofs.FlightRanges.{bench-told, network-bench, network-costs, network-tables, network-told}
 use Rattle.bench.proofs.FlightCalls.{said-same}
-use Rattle.bench.proofs.WalkSteps.{portSaid, own-cell}
+use Rattle.bench.proofs.WalkSteps.{own-cell}
 
 -- ---- what the entry check tells
 
@@ -93,6 +95,10 @@ pub next-said :
     choiceSaid old r ≡ nextChoice old link cost far cut holding sent held
 next-said old link cost far cut holding sent held r low e =
     said-choice old r _ (e ∙ next-accepted _ _ _ _ _ _ _ _ (true-both (lt-ltb link 32 (low .0)) (le-leb cost maxCost (low .1))))
+
+abbrev pub portSaid : Forwarding → Port
+portSaid Forwarding.Refused = Closed
+portSaid (Forwarding.Found p) = p
 
 pub port-said : (c : Choice) (r : Forwarding) → c .link < 32 → forwardingSays r ≡ choiceOutcome c → portSaid r ≡ portBy c
 port-said c Forwarding.Refused low e =

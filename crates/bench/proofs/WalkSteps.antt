@@ -1,5 +1,5 @@
--- The steps of the code that finds ports and follows them: the port layer 2 answers, the link of an open port, the bridge a hop leads
--- to, one hop of a walk; and a bridge that the table lets pass. Assumes nothing.
+-- The steps of the code that follows ports and reports them: the link of an open port, the bridge a hop leads to, one hop of a walk;
+-- bridges that the table lets pass; the report, row by row. Assumes nothing.
 use Prim.Native.Nat.{ℕ, zero, suc, _+_, _-_, _*_, _≤_, _<_}
 use native.Mathlib.Numerals.{add-one}
 use native.Mathlib.Omega.{arith}
@@ -16,7 +16,6 @@ use Rattle.distances.proofs.Refusals.{passed}
 use Rattle.distances.proofs.Tables.{cell-block}
 use Rattle.agreement.specs.Call.{Lent, lentGraph, lentRecords, portOutcome}
 use Rattle.agreement.specs.declared.EndRecord.{EndRecord}
-use Rattle.agreement.specs.declared.Forwarding.{Forwarding}
 use Rattle.agreement.specs.declared.Port.{Port}
 use Rattle.agreement.specs.declared.Port.the-variants.{Closed, Open}
 use Rattle.agreement.proofs.Forwards.{open-forwards}
@@ -29,13 +28,6 @@ use Rattle.bench.specs.State.{State, lentView, part}
 use Rattle.bench.specs.Answers.{found, portIn, hopIn, reportedRow, reported}
 use Rattle.bench.specs.Steps.{Ready}
 use Rattle.bench.specs.declared.Bench.{Bench}
-
--- ---- the port that layer 2 answers
-
--- the port in its answer
-abbrev pub portSaid : Forwarding → Port
-portSaid Forwarding.Refused = Closed
-portSaid (Forwarding.Found p) = p
 
 -- ---- the link of an open port is one of the links
 

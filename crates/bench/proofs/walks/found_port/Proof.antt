@@ -1,8 +1,7 @@
 -- `walks::found_port` meets its contract: layer 2 does not refuse. Assumes nothing.
 use mathlib.Core.Path.{sym, ap, _∙_}
 use borrow.Author.Needs.{needs}
-use Rattle.bench.proofs.WalkSteps.{portSaid}
-use Rattle.bench.proofs.ChoiceSteps.{port-said}
+use Rattle.bench.proofs.ChoiceSteps.{portSaid, port-said}
 use Rattle.bench.proofs.walks.found_port.Statement.{statement}
 use Rattle.bench.proofs.walks.found_port.Tie as tie
 

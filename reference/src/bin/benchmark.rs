@@ -32,9 +32,10 @@ fn network() -> (Vec<u8>, Vec<[u8; 2]>) {
     (plan, links)
 }
 
-/// The network, then these events again and again, as long as a whole turn fits.
-fn filled(mut turn: impl FnMut(&mut Vec<u8>, u8, &[[u8; 2]])) -> Vec<u8> {
+/// The network, this many rounds, then these events again and again, as long as a whole turn fits.
+fn filled(rounds: usize, mut turn: impl FnMut(&mut Vec<u8>, u8, &[[u8; 2]])) -> Vec<u8> {
     let (mut plan, links) = network();
+    (0..rounds).for_each(|_| round(&mut plan, &links));
     for i in 0.. {
         let mut longer = plan.clone();
         turn(&mut longer, i as u8, &links);
@@ -53,17 +54,22 @@ fn round(plan: &mut Vec<u8>, links: &[[u8; 2]]) {
     links.iter().for_each(|_| [0, 0].iter().for_each(|&place| add(plan, 6, &[place])));
 }
 
+/// Every port is shut in a fresh network, and after two rounds every bridge forwards.
 fn plans() -> Vec<(&'static str, Vec<u8>)> {
+    let reports = |rounds| filled(rounds, |plan, i, _| add(plan, 11, &[i % 16]));
+    let paths = |rounds| filled(rounds, |plan, i, _| add(plan, 12, &[i % 16, i / 16 % 16]));
     vec![
         ("an empty plan", Vec::new()),
         ("the network alone", network().0),
-        ("reports", filled(|plan, i, _| add(plan, 11, &[i % 16]))),
-        ("paths", filled(|plan, i, _| add(plan, 12, &[i % 16, i / 16 % 16]))),
-        ("updates", filled(|plan, i, _| add(plan, 4, &[i % 16, (i / 16 + i % 3) % 32]))),
-        ("sends and deliveries", filled(|plan, _, links| round(plan, links))),
+        ("reports, ports shut", reports(0)),
+        ("reports, ports open", reports(2)),
+        ("paths, ports shut", paths(0)),
+        ("paths, ports open", paths(2)),
+        ("updates", filled(0, |plan, i, _| add(plan, 4, &[i % 16, (i / 16 + i % 3) % 32]))),
+        ("sends and deliveries", filled(0, |plan, _, links| round(plan, links))),
         (
             "all of these",
-            filled(|plan, i, links| {
+            filled(0, |plan, i, links| {
                 (0..16).for_each(|b| add(plan, 4, &[b, i % 32]));
                 round(plan, links);
                 (0..16).for_each(|d| add(plan, 11, &[d]));

@@ -13,5 +13,6 @@ pub mod Deliveries
 pub mod Answers
 pub mod Steps
 pub mod Whole
+pub mod Lists
 pub mod Examples
 pub mod SettlingMet

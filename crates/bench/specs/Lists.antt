@@ -46,11 +46,11 @@ isMade s (Restore l) = eqb (restoreOf (s .bench) l .reply) 0
 isMade s (Report d) = false
 isMade s (Path y d) = eqb (pathOf s y d .number) 0
 
--- a path in three numbers: 1 where it is delivered, else 0 and the last bridge; its hops
+-- a path in three numbers: 0, 0 and the hops where it is delivered; 1, the last bridge and the hops where it stops
 unfoldable pub wayNumbers : List paths.Way → List ℕ
 wayNumbers [] = []
-wayNumbers (paths.delivered h ∷ ws) = 1 ∷ 0 ∷ h ∷ []
-wayNumbers (paths.stops b h ∷ ws) = 0 ∷ b ∷ h ∷ []
+wayNumbers (paths.delivered h ∷ ws) = 0 ∷ 0 ∷ h ∷ []
+wayNumbers (paths.stops b h ∷ ws) = 1 ∷ b ∷ h ∷ []
 
 -- the three numbers that are lent for a call's answer: those of a path, else as they were
 unfoldable pub wayAfter : State → Event → List ℕ → List ℕ

@@ -40,6 +40,8 @@ pub mod TieWhole
 pub mod CallSteps
 pub mod CallReads
 pub mod CallKept
+pub mod ListSteps
+pub mod ListTurns
 pub mod AnswerRanges
 pub mod Known
 pub mod EntryChecks

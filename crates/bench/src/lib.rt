@@ -8,6 +8,7 @@ use agreement::Port;
 pub mod answers;
 pub mod changes;
 mod flights;
+pub mod lists;
 pub mod messages;
 mod moves;
 mod ready;
@@ -68,4 +69,12 @@ pub struct Changed {
 pub struct Delivered {
     pub reply: Reaction,
     pub bench: Bench,
+}
+
+// After a list of calls: how many were made, and how many of the plan's bytes they take.
+pub struct Listed {
+    pub reply: Reply,
+    pub bench: Bench,
+    pub calls: usize,
+    pub used: usize,
 }

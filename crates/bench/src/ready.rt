@@ -162,3 +162,21 @@ pub(crate) fn messages_in_range(bench: Bench, messages: &[u32]) -> bool
     }
     ok
 }
+
+// What a delivery is handed.
+pub(crate) fn delivery_in_range(
+    bench: Bench,
+    costs: &[u32],
+    tables: usize,
+    sent: usize,
+    held: usize,
+    messages: &[u32],
+) -> bool
+    ensures { λ r. ⌜ r ≡ (networkInRange bench (now (costs .entry)) tables sent held && messagesInRange bench (now (messages .entry))) ⌝ }
+{
+    if network_in_range(bench, costs, tables, sent, held) {
+        messages_in_range(bench, messages)
+    } else {
+        false
+    }
+}

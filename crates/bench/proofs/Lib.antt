@@ -24,6 +24,8 @@ pub mod TieRanges
 pub mod TieRefusals
 pub mod TieFlights
 pub mod TieChecks
+pub mod RangesKept
+pub mod RangesSteps
 pub mod TieSends
 pub mod TieRows
 pub mod TieReceived

@@ -10,55 +10,38 @@ use Rattle.distances.specs.Table.{cell}
 use Rattle.distances.proofs.Booleans.{other-false}
 use Rattle.agreement.specs.Offer.{opposite}
 use Rattle.agreement.specs.Record.{freshRecord, updated, sentUpdated, heldUpdated}
-use Rattle.agreement.specs.Ranges.{recordInRange}
 use Rattle.agreement.specs.Call.{Lent, lentOffer}
 use Rattle.agreement.specs.declared.EndRecord.{EndRecord}
-use Rattle.agreement.proofs.RecordLaws.{holdingReceived, updated-by, sent-updated-same, held-updated-same}
-use Rattle.agreement.proofs.InRange.{view-passes, record-same}
+use Rattle.agreement.proofs.RecordLaws.{holdingReceived, sent-updated-same, held-updated-same}
 use Rattle.bench.specs.Net.{Network, offerIn}
 use Rattle.bench.specs.Calls.{change, update, refuse, moved, updatedTo, changed, act, step}
 use Rattle.bench.specs.State.{State, state, lentView}
 use Rattle.bench.specs.Changes.{Ends, ends, movedEnds, movedBench, Rewritten, rewritten, updateOf}
 use Rattle.bench.specs.Whole.{Represents, Typed, stepBy}
 use Rattle.bench.proofs.Accepted.{UpdateListed, update-listed}
-use Rattle.bench.proofs.TieRanges.{StateReady, getD-stored, told, ready, network-ready, few, lent-in-range, offer-stands}
+use Rattle.bench.proofs.TieRanges.{StateReady, getD-stored, told, ready, network-ready, few, offer-stands}
 use Rattle.bench.proofs.TieRefusals.{settled-step}
 use Rattle.bench.proofs.EntrySettled.{reply-is}
 use Rattle.bench.proofs.TieChecks.{refusal-same}
-use Rattle.bench.proofs.TieMovedEnds.{Turned, EndsReady, turned-all}
+use Rattle.bench.proofs.TieMovedEnds.{Turned}
+use Rattle.bench.proofs.RangesKept.{lentOf, endsOf, endsAfter, movedState, turned, end-after, end-keeps, moved-kept}
 
 -- bridge y moves to view t, another one
 module _ (s : State) (n : Network) (r : Represents s n) (y t : ℕ) (low : y < s .bench .bridges) (view : t < s .bench .views) where
-  abbrev lentOf : Lent
-  lentOf = lentView (s .bench) (s .costs) (s .tables) t
-
-  abbrev endsOf : Ends
-  endsOf = ends (s .bench .records) (s .sent) (s .held)
-
-  abbrev endsAfter : Ends
-  endsAfter = movedEnds lentOf (s .bench .views) y t (2 * s .bench .links) endsOf
-
   isReady : StateReady s
   isReady = told s (r .inRange)
 
   counts : (s .bench .bridges ≤ 16) × (s .bench .links ≤ 32) × (2 * s .bench .links ≤ length (s .bench .ends))
   counts = few (s .bench) _ _ (isReady .lasting)
 
-  ends-ready : EndsReady lentOf (s .bench .views) y t endsOf
-  ends-ready =
-      record {
-        few = counts .0;
-        view = lent-in-range (s .bench) _ _ (isReady .lasting) t view;
-        isView = view-passes _ t (isReady .lasting .viewsLeast) (isReady .lasting .viewsMost) view;
-        records = isReady .records;
-        links = counts .1;
-        recordsRoom = omega (arith, counts .1, r .typed .records);
-        sentRoom = isReady .sentLong;
-        heldRoom = isReady .heldLong;
-      }
+  abbrev lentThere : Lent
+  lentThere = lentOf s isReady y t
 
-  turned : Turned lentOf (s .bench .views) y t endsOf (2 * s .bench .links) endsAfter
-  turned = turned-all lentOf (s .bench .views) y t endsOf ends-ready (2 * s .bench .links) (omega arith)
+  abbrev after : Ends
+  after = endsAfter s isReady y t
+
+  endsTurned : Turned lentThere (s .bench .views) y t (endsOf s isReady y t) (2 * s .bench .links) after
+  endsTurned = turned s isReady y t (r .typed .records) view
 
   module _ (e : ℕ) (h : e < 2 * s .bench .links) where
     abbrev own : Bool
@@ -70,39 +53,35 @@ module _ (s : State) (n : Network) (r : Represents s n) (y t : ℕ) (low : y < s
     bridge-at : n .plan .graph .bridgeAt e ≡ getD (s .bench .ends) e 0
     bridge-at = rw (r .plan)
 
-    end-after : getD (endsAfter .records) e freshRecord ≡ cond own (updated t old) old
-    end-after = rw (lt-ltb e (2 * s .bench .links) h) at (turned .end e)
+    own-end : getD (after .records) e freshRecord ≡ cond own (updated t old) old
+    own-end = end-after s isReady y t (r .typed .records) view e h
 
-    end-keeps : (P : EndRecord → Type 0) → P old → P (holdingReceived old) → P (getD (endsAfter .records) e freshRecord)
-    end-keeps P before after = rw end-after (go own)
-      where
-        go : (c : Bool) → P (cond c (updated t old) old)
-        go true = updated-by t old P before after
-        go false = before
+    keeps : (P : EndRecord → Type 0) → P old → P (holdingReceived old) → P (getD (after .records) e freshRecord)
+    keeps = end-keeps s isReady y t (r .typed .records) view e h
 
     module _ (d : ℕ) (k : d < s .bench .bridges) where
       sent-by :
           (c : Bool) →
           cond c (sentUpdated (offerIn (n .plan) t e) (n .records .sent e)) (n .records .sent e) d
-          ≡ cond c (sentUpdated (lentOffer lentOf e) (cell (s .sent) e) d) (cell (s .sent) e d)
+          ≡ cond c (sentUpdated (lentOffer lentThere e) (cell (s .sent) e) d) (cell (s .sent) e d)
       sent-by true = sent-updated-same _ _ _ _ d (offer-stands s n r t view e d h k) (r .sent e d h k)
       sent-by false = r .sent e d h k
 
-      sent-after : cond own (sentUpdated (offerIn (n .plan) t e) (n .records .sent e)) (n .records .sent e) d ≡ cell (endsAfter .sent) e d
-      sent-after = sent-by own ∙ sym (rw (lt-ltb e (2 * s .bench .links) h) at (turned .sent d k e))
+      sent-after : cond own (sentUpdated (offerIn (n .plan) t e) (n .records .sent e)) (n .records .sent e) d ≡ cell (after .sent) e d
+      sent-after = sent-by own ∙ sym (rw (lt-ltb e (2 * s .bench .links) h) at (endsTurned .sent d k e))
 
       held-by :
           (c : Bool) →
           cond c (heldUpdated t (n .records .ends e) (offerIn (n .plan) t (opposite e)) (n .records .held e)) (n .records .held e) d
-          ≡ cond c (heldUpdated t old (lentOffer lentOf (opposite e)) (cell (s .held) e) d) (cell (s .held) e d)
+          ≡ cond c (heldUpdated t old (lentOffer lentThere (opposite e)) (cell (s .held) e) d) (cell (s .held) e d)
       held-by true =
           rw (r .ends e h) (held-updated-same _ _ _ _ d (offer-stands s n r t view (opposite e) d (omega arith) k) (r .held e d h k) t old)
       held-by false = r .held e d h k
 
       held-after :
           cond own (heldUpdated t (n .records .ends e) (offerIn (n .plan) t (opposite e)) (n .records .held e)) (n .records .held e) d
-          ≡ cell (endsAfter .held) e d
-      held-after = held-by own ∙ sym (rw (lt-ltb e (2 * s .bench .links) h) at (turned .held d k e))
+          ≡ cell (after .held) e d
+      held-after = held-by own ∙ sym (rw (lt-ltb e (2 * s .bench .links) h) at (endsTurned .held d k e))
 
   module _ (more : getD (s .bench .number) y 0 < 65535) where
     number-after : (z : ℕ) → getD (set (s .bench .number) y (getD (s .bench .number) y 0 + 1)) z 0 ≡ cond (eqb z y) (suc (getD (s .bench .number) z 0)) (getD (s .bench .number) z 0)
@@ -119,52 +98,33 @@ module _ (s : State) (n : Network) (r : Represents s n) (y t : ℕ) (low : y < s
         go true q = rw (eqb-true z y q) (omega arith)
         go false q = old
 
-    view-in-range : (c : Bool) {x : ℕ} → x < s .bench .views → cond c t x < s .bench .views
-    view-in-range true old = view
-    view-in-range false old = old
-
     abbrev stateAfter : State
-    stateAfter = let o = movedBench (s .bench) y t endsAfter in state (o .bench) (s .costs) (s .tables) (o .sent) (o .held) (s .messages)
-
-    ready-after : StateReady stateAfter
-    ready-after =
-        record {
-          lasting = isReady .lasting;
-          sentLong = rw (turned .sentLong) (isReady .sentLong);
-          heldLong = rw (turned .heldLong) (isReady .heldLong);
-          count = isReady .count;
-          view = λ z h. rw (getD-stored (s .bench .view) y t z 0 (omega (arith, counts .0, r .typed .views))) (view-in-range (eqb z y) (isReady .view z h));
-          records = λ e h.
-              end-keeps e h (λ (x : EndRecord). recordInRange (s .bench .views) x ≡ true) (isReady .records e h)
-              (record-same (s .bench .views) (holdingReceived (old e h)) (old e h) refl ∙ isReady .records e h);
-          messagesLong = isReady .messagesLong;
-          message = isReady .message;
-        }
+    stateAfter = movedState s isReady y t
 
     typed-after : Typed (stateAfter .bench)
     typed-after =
         record {
           views = simp length-set (r .typed .views);
           numbers = simp length-set (r .typed .numbers);
-          records = turned .recordsLong ∙ r .typed .records;
+          records = endsTurned .recordsLong ∙ r .typed .records;
           cuts = r .typed .cuts;
           number = λ z h. rw (number-after z) (number-fits z (r .typed .number z h));
-          received = λ e h. end-keeps e h (λ (x : EndRecord). x .received < 65536) (r .typed .received e h) (r .typed .received e h);
-          discarded = λ e h. end-keeps e h (λ (x : EndRecord). x .discarded < 65536) (r .typed .discarded e h) (r .typed .received e h);
+          received = λ e h. keeps e h (λ (x : EndRecord). x .received < 65536) (r .typed .received e h) (r .typed .received e h);
+          discarded = λ e h. keeps e h (λ (x : EndRecord). x .discarded < 65536) (r .typed .discarded e h) (r .typed .received e h);
         }
 
     kept-moved : Represents stateAfter (moved n y t)
     unfolding moved
     kept-moved =
         record {
-          inRange = ready stateAfter ready-after;
+          inRange = ready stateAfter (moved-kept s isReady y t (r .typed .records) view);
           typed = typed-after;
           plan = r .plan;
           distances = r .distances;
           view = λ z h. rw (r .view z h) (sym (getD-stored (s .bench .view) y t z 0 (omega (arith, counts .0, r .typed .views))));
           number = λ z h. rw (r .number z h) (sym (number-after z));
           cut = r .cut;
-          ends = λ e h. rw (r .plan, r .ends e h) (sym (end-after e h));
+          ends = λ e h. rw (r .plan, r .ends e h) (sym (own-end e h));
           sent = λ e d h k. rw (bridge-at e h) (sent-after e h d k);
           held = λ e d h k. rw (bridge-at e h) (held-after e h d k);
           messages = r .messages;

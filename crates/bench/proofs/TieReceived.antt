@@ -2,7 +2,7 @@
 use Prim.Native.Nat.{ℕ, _+_, _*_, _≤_, _<_}
 use native.Mathlib.Omega.{arith}
 use mathlib.Core.Path.{_≡_, sym}
-use mathlib.Core.Bool.{Bool, true, false, cond, _&&_}
+use mathlib.Core.Bool.{true, cond, _&&_}
 use mathlib.Core.List.{List}
 use lib.ListN.{length, getD, set, length-set}
 use lib.Dec.{eqb}
@@ -28,6 +28,7 @@ use Rattle.bench.proofs.CallSteps.{withDelivered}
 use Rattle.bench.proofs.TieRanges.{StateReady, ready, few, are-bridges, lent-in-range, lent-offer-in, getD-stored}
 use Rattle.bench.proofs.TieChecks.{MessageTold}
 use Rattle.bench.proofs.TieRows.{row-at}
+use Rattle.bench.proofs.RangesKept.{stored-keeps}
 
 -- a message x at end e
 module _
@@ -88,40 +89,41 @@ module _
   unfolding receivedAt
   received-taken = rw outcome-is
 
-  module _ (n : Network) (r : Represents s n) where
-    abbrev after : State
-    after = state (withRecords (s .bench) (set (s .bench .records) e new)) (s .costs) (s .tables) sentNow heldNow (s .messages)
+  abbrev after : State
+  after = state (withRecords (s .bench) (set (s .bench .records) e new)) (s .costs) (s .tables) sentNow heldNow (s .messages)
 
+  each-record :
+      (P : EndRecord → Type 0) (k : ℕ) →
+      P new →
+      P (getD (s .bench .records) k freshRecord) →
+      P (getD (set (s .bench .records) e new) k freshRecord)
+  each-record P k now same = stored-keeps P (s .bench .records) e new k freshRecord now same
+
+  after-ready : StateReady after
+  after-ready =
+      record {
+        lasting = before .lasting;
+        sentLong = rw withLimits-length (before .sentLong);
+        heldLong = rw withLimits-length (before .heldLong);
+        count = before .count;
+        view = before .view;
+        records = λ k hk.
+            each-record (λ z. recordInRange (s .bench .views) z ≡ true) k
+            (recorded-passes (s .bench .views) view old (x .agreement) (before .records e he) (inside .view))
+            (before .records k hk);
+        messagesLong = before .messagesLong;
+        message = before .message;
+      }
+
+  -- the state is still in range
+  pub received-kept : StateReady (withDelivered s (receivedAt s e (x .agreement)))
+  unfolding receivedAt
+  received-kept = rw outcome-is after-ready
+
+  module _ (n : Network) (r : Represents s n) where
     -- a record afterwards
     record-at : (k : ℕ) → getD (set (s .bench .records) e new) k freshRecord ≡ cond (eqb k e) new (getD (s .bench .records) k freshRecord)
     record-at k = getD-stored (s .bench .records) e new k freshRecord (omega (arith, small, r .typed .records))
-
-    each-record :
-        (P : EndRecord → Type 0) (k : ℕ) →
-        P new →
-        P (getD (s .bench .records) k freshRecord) →
-        P (getD (set (s .bench .records) e new) k freshRecord)
-    each-record P k now same = rw (record-at k) (go (eqb k e))
-      where
-        go : (b : Bool) → P (cond b new (getD (s .bench .records) k freshRecord))
-        go true = now
-        go false = same
-
-    after-ready : StateReady after
-    after-ready =
-        record {
-          lasting = before .lasting;
-          sentLong = rw withLimits-length (before .sentLong);
-          heldLong = rw withLimits-length (before .heldLong);
-          count = before .count;
-          view = before .view;
-          records = λ k hk.
-              each-record (λ z. recordInRange (s .bench .views) z ≡ true) k
-              (recorded-passes (s .bench .views) view old (x .agreement) (before .records e he) (inside .view))
-              (before .records k hk);
-          messagesLong = before .messagesLong;
-          message = before .message;
-        }
 
     after-typed : Typed (after .bench)
     after-typed =

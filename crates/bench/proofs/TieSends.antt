@@ -3,42 +3,30 @@ use Prim.Native.Nat.{ℕ, _+_, _*_, _-_, _≤_, _<_}
 use native.Mathlib.Numerals.{add-one}
 use native.Mathlib.Omega.{arith}
 use mathlib.Core.Path.{_≡_, refl, sym, _∙_}
-use mathlib.Core.Bool.{Bool, true, false, _&&_}
+use mathlib.Core.Bool.{true, _&&_}
 use mathlib.Core.List.{List, [], _∷_, _++_}
 use lib.ListN.{length}
-use lib.Seq.{sets, length-sets}
-use lib.Dec.{ltb}
-use borrow.Author.Tests.{ltb-true, ltb-false}
+use lib.Seq.{sets}
 use Rattle.distances.proofs.Booleans.{true-both}
 use Rattle.bench.specs.Net.{Network, Message}
 use Rattle.bench.specs.Calls.{send, lose, accepted, act, step, endOf, messageOf, sentOver, without, withMessages, checks, refuse, noSuchBridge, noSuchLink, notOnLink, linkCut, noRoom, noMessage}
-use Rattle.bench.specs.State.{State, state, network, networkOf, messageFrom, messagesFrom}
+use Rattle.bench.specs.State.{State, state, network, networkOf, messagesFrom}
 use Rattle.bench.specs.Ranges.{benchInRange, messagesInRange}
 use Rattle.bench.specs.Changes.{refusalOf}
-use Rattle.bench.specs.Flights.{numbersOf, withCount, takenOut, Flown, flown, sendOf, loseOf}
+use Rattle.bench.specs.Flights.{numbersOf, takenOut, Flown, flown, sendOf, loseOf}
 use Rattle.bench.specs.Whole.{Represents, Typed, stepBy}
 use Rattle.bench.proofs.Links.{endOf-below}
-use Rattle.bench.proofs.Places.{skipped}
 use Rattle.bench.proofs.Accepted.{SendListed, send-listed, place-listed, accepted-checks}
 use Rattle.bench.proofs.TieRanges.{StateReady, told, ready, bench-ready, messages-ready}
 use Rattle.bench.proofs.TieRefusals.{settled-step}
 use Rattle.bench.proofs.EntrySettled.{reply-is}
-use Rattle.bench.proofs.TieFlights.{messages-length, taken-length, taken-message, taken-below, taken-messages, added-message, kept-message, added-messages}
-use Rattle.bench.proofs.TieChecks.{MessageTold, told-message, message-in-range, refusal-same}
-
--- the state with other messages in flight
-abbrev pub withFlight : State → ℕ → List ℕ → State
-withFlight s k m = state (withCount (s .bench) k) (s .costs) (s .tables) (s .sent) (s .held) m
+use Rattle.bench.proofs.TieFlights.{messages-length, taken-messages, added-messages}
+use Rattle.bench.proofs.TieChecks.{MessageTold, refusal-same}
+use Rattle.bench.proofs.RangesKept.{withFlight, taken-kept, added-kept}
 
 module _ (s : State) (n : Network) (r : Represents s n) where
-  pub flight-represents :
-      (k : ℕ) (m : List ℕ) (ms : List Message) →
-      k ≤ 64 →
-      length m ≡ length (s .messages) →
-      ((p : ℕ) → p < k → MessageTold (s .bench .links) (s .bench .views) (messageFrom m p)) →
-      messagesFrom 0 k m ≡ ms →
-      Represents (withFlight s k m) (withMessages n ms)
-  flight-represents k m ms few long each are =
+  flight-represents : (k : ℕ) (m : List ℕ) (ms : List Message) → StateReady (withFlight s k m) → messagesFrom 0 k m ≡ ms → Represents (withFlight s k m) (withMessages n ms)
+  flight-represents k m ms inside are =
       record {
         inRange = ready (withFlight s k m) inside;
         typed =
@@ -65,38 +53,16 @@ module _ (s : State) (n : Network) (r : Represents s n) where
       ty : Typed (s .bench)
       ty = r .typed
 
-      old : StateReady s
-      old = told s (r .inRange)
-
-      inside : StateReady (withFlight s k m)
-      inside =
-          record {
-            lasting = old .lasting;
-            sentLong = old .sentLong;
-            heldLong = old .heldLong;
-            count = few;
-            view = old .view;
-            records = old .records;
-            messagesLong = rw long (old .messagesLong);
-            message = λ p h. told-message _ _ _ (each p h);
-          }
-
   -- one taken out
   pub taken-represents :
       (p : ℕ) →
       p < s .bench .messages →
       Represents (withFlight s (s .bench .messages - 1) (takenOut (s .bench .messages) p (s .messages))) (withMessages n (without p (n .messages)))
   taken-represents p listed =
-      flight-represents (s .bench .messages - 1) _ _ (omega (arith, old .count)) (taken-length (s .bench .messages) p (s .messages))
-      (λ i low. rw (taken-message (s .bench .messages) p (s .messages) listed long i low)
-      (message-in-range s n r (skipped p i) (taken-below (s .bench .messages) p (s .messages) listed long i low)))
+      let old : StateReady s = told s (r .inRange) in
+      let long : 5 * s .bench .messages ≤ length (s .messages) = omega (arith, old .count, old .messagesLong) in
+      flight-represents (s .bench .messages - 1) _ _ (taken-kept s old p listed)
       (rw (r .messages) (taken-messages (s .bench .messages) p (s .messages) listed long))
-    where
-      old : StateReady s
-      old = told s (r .inRange)
-
-      long : 5 * s .bench .messages ≤ length (s .messages)
-      long = omega (arith, old .count, old .messagesLong)
 
   -- one added
   added-represents :
@@ -105,24 +71,10 @@ module _ (s : State) (n : Network) (r : Represents s n) where
       MessageTold (s .bench .links) (s .bench .views) x →
       Represents (withFlight s (s .bench .messages + 1) (sets (s .messages) (5 * s .bench .messages) (numbersOf x))) (withMessages n (n .messages ++ (x ∷ [])))
   added-represents x free inside =
-      flight-represents (s .bench .messages + 1) _ _ (omega arith) (length-sets (s .messages) (5 * s .bench .messages) (numbersOf x))
-      (λ i low. go i (ltb i (s .bench .messages)) refl low)
+      let old : StateReady s = told s (r .inRange) in
+      let room : 5 * s .bench .messages + 5 ≤ length (s .messages) = omega (arith, old .messagesLong) in
+      flight-represents (s .bench .messages + 1) _ _ (added-kept s old x free inside)
       (rw (add-one, r .messages) (added-messages (s .bench .messages) (s .messages) x room))
-    where
-      room : 5 * s .bench .messages + 5 ≤ length (s .messages)
-      room = omega (arith, told s (r .inRange) .messagesLong)
-
-      go :
-          (i : ℕ) (b : Bool) →
-          ltb i (s .bench .messages) ≡ b →
-          i < s .bench .messages + 1 →
-          MessageTold (s .bench .links) (s .bench .views) (messageFrom (sets (s .messages) (5 * s .bench .messages) (numbersOf x)) i)
-      go i true q low =
-          let h : i < s .bench .messages = ltb-true _ _ q in
-          rw (kept-message (s .bench .messages) (s .messages) x room i h) (message-in-range s n r i h)
-      go i false q low =
-          let last : i ≡ s .bench .messages = omega (arith, ltb-false i (s .bench .messages) q) in
-          rw (last, added-message (s .bench .messages) (s .messages) x room) inside
 
   -- the entry check of send and of lose
   flight-ready : (benchInRange (s .bench) && messagesInRange (s .bench) (s .messages)) ≡ true

@@ -7,7 +7,10 @@ use crate::ready;
 use crate::refusals;
 use crate::walks;
 ghost use mathlib.Core.Path.{_≡_};
+ghost use mathlib.Core.Bool.{true};
 ghost use mathlib.Core.List.{[]};
+ghost use lib.ListN.{length};
+ghost use Rattle.bench.specs.Ranges.{networkInRange};
 ghost use Rattle.bench.specs.State.{state};
 ghost use Rattle.bench.specs.Changes.{number, NoZero};
 ghost use Rattle.bench.specs.Answers.{forwardingSays, waySays, portOf, report, reportOf, pathOf};
@@ -76,6 +79,22 @@ pub fn path(
     if !ready::network_in_range(bench, costs, tables.len(), sent.len(), held.len()) {
         return Way::Refused(17);
     }
+    path_ready(bench, costs, tables, sent, held, start, dest)
+}
+
+// `path` of what is in range.
+pub(crate) fn path_ready(
+    bench: Bench,
+    costs: &[u32],
+    tables: &[u32],
+    sent: &[u32],
+    held: &[u32],
+    start: usize,
+    dest: usize,
+) -> Way
+    requires { ⌜ networkInRange bench (now costs) (length (now tables)) (length (now sent)) (length (now held)) ≡ true ⌝ }
+    ensures { λ r. ⌜ waySays r ≡ pathOf (state bench (now (costs .entry)) (now (tables .entry)) (now (sent .entry)) (now (held .entry)) []) start dest ⌝ }
+{
     let refusal = refusals::port_refusal(bench, start, dest);
     if refusal != 0 {
         return Way::Refused(refusal);

@@ -8,9 +8,12 @@ use crate::refusals;
 use crate::replies::refused;
 use crate::starts;
 ghost use mathlib.Core.Path.{_≡_};
+ghost use mathlib.Core.Bool.{true};
 ghost use mathlib.Core.List.{[]};
 ghost use Prim.Native.Nat.{_<_};
+ghost use lib.ListN.{length};
 ghost use Rattle.bench.specs.Changes.{number, NoZero, changed, benchWithCut, cutOf, restoreOf, rewritten, updateOf, started, freshOf};
+ghost use Rattle.bench.specs.Ranges.{benchInRange, networkInRange};
 ghost use Rattle.bench.specs.State.{state};
 
 fn with_cut(bench: Bench, link: usize, so: bool) -> Bench
@@ -29,6 +32,14 @@ pub fn cut(bench: Bench, link: usize) -> Changed
     if !ready::bench_in_range(bench) {
         return refused(17, bench);
     }
+    cut_ready(bench, link)
+}
+
+// `cut` of a bench in range.
+pub(crate) fn cut_ready(bench: Bench, link: usize) -> Changed
+    requires { ⌜ benchInRange bench ≡ true ⌝ }
+    ensures { λ r. ⌜ (changed (number (r .reply)) (r .bench) ≡ cutOf bench link) × NoZero (r .reply) ⌝ }
+{
     let refusal = refusals::cut_refusal(bench, link);
     if refusal != 0 {
         return refused(refusal, bench);
@@ -46,6 +57,14 @@ pub fn restore(bench: Bench, link: usize) -> Changed
     if !ready::bench_in_range(bench) {
         return refused(17, bench);
     }
+    restore_ready(bench, link)
+}
+
+// `restore` of a bench in range.
+pub(crate) fn restore_ready(bench: Bench, link: usize) -> Changed
+    requires { ⌜ benchInRange bench ≡ true ⌝ }
+    ensures { λ r. ⌜ (changed (number (r .reply)) (r .bench) ≡ restoreOf bench link) × NoZero (r .reply) ⌝ }
+{
     let refusal = refusals::restore_refusal(bench, link);
     if refusal != 0 {
         return refused(refusal, bench);
@@ -73,6 +92,22 @@ pub fn update(
     if !ready::network_in_range(bench, costs, tables.len(), sent_size, held_size) {
         return refused(17, bench);
     }
+    update_ready(bench, costs, tables, sent, held, bridge, view)
+}
+
+// `update` of what is in range.
+pub(crate) fn update_ready(
+    bench: Bench,
+    costs: &[u32],
+    tables: &[u32],
+    sent: &mut [u32],
+    held: &mut [u32],
+    bridge: usize,
+    view: usize,
+) -> Changed
+    requires { ⌜ networkInRange bench (now costs) (length (now tables)) (length (now sent)) (length (now held)) ≡ true ⌝ }
+    ensures { λ r. ⌜ (rewritten (number (r .reply)) (r .bench) (now (sent .exit)) (now (held .exit)) ≡ updateOf (state bench (now (costs .entry)) (now (tables .entry)) (now (sent .entry)) (now (held .entry)) []) bridge view) × NoZero (r .reply) ⌝ }
+{
     let refusal = refusals::update_refusal(bench, bridge, view);
     if refusal != 0 {
         return refused(refusal, bench);

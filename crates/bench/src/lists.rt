@@ -16,14 +16,15 @@ use plan::Field;
 use plan::Progress;
 use plan::Read;
 ghost use mathlib.Core.Path.{_≡_};
-ghost use mathlib.Core.Bool.{cond};
+ghost use mathlib.Core.Bool.{true, cond};
 ghost use mathlib.Core.List.{[], _∷_};
 ghost use Prim.Native.Nat.{suc, _/_, _<_, _≤_};
 ghost use lib.ListN.{length};
 ghost use lib.Seq.{sets};
 ghost use lib.Dec.{eqb};
 ghost use Rattle.bench.specs.Changes.{number, NoZero};
-ghost use Rattle.bench.specs.Deliveries.{reactionSays};
+ghost use Rattle.bench.specs.Deliveries.{reactionSays, deliveryReady};
+ghost use Rattle.bench.specs.Ranges.{networkInRange};
 ghost use Rattle.bench.specs.Answers.{pathOf};
 ghost use Rattle.bench.specs.State.{state};
 ghost use Rattle.bench.specs.Lists.{wayNumbers, made, eventMade, firstMade, ran, runs, listed, listOf};
@@ -89,10 +90,10 @@ fn path_by(
     dest: u8,
     used: usize,
 ) -> Made
-    requires { ⌜ 3 ≤ length (now way) ⌝ }
+    requires { ⌜ (3 ≤ length (now way)) × (networkInRange bench (now costs) (length (now tables)) (length (now sent)) (length (now held)) ≡ true) ⌝ }
     ensures { λ r. ⌜ (r .used ≡ cond (eqb (pathOf (state bench (now (costs .entry)) (now (tables .entry)) (now (sent .entry)) (now (held .entry)) []) start dest .number) 0) used 0) × (r .bench ≡ bench) × (now (way .exit) ≡ sets (now (way .entry)) 0 (wayNumbers (pathOf (state bench (now (costs .entry)) (now (tables .entry)) (now (sent .entry)) (now (held .entry)) []) start dest .value))) ⌝ }
 {
-    let answer = answers::path(
+    let answer = answers::path_ready(
         bench,
         costs,
         tables,
@@ -129,33 +130,33 @@ fn make(
     event: Event,
     used: usize,
 ) -> Made
-    requires { ⌜ 3 ≤ length (now way) ⌝ }
-    ensures { λ r. ⌜ made (r .used) (state (r .bench) (now (costs .entry)) (now (tables .entry)) (now (sent .exit)) (now (held .exit)) (now (flight .exit))) (now (way .exit)) ≡ eventMade (state bench (now (costs .entry)) (now (tables .entry)) (now (sent .entry)) (now (held .entry)) (now (flight .entry))) event used (now (way .entry)) ⌝ }
+    requires { ⌜ (3 ≤ length (now way)) × (deliveryReady (state bench (now costs) (now tables) (now sent) (now held) (now flight)) ≡ true) ⌝ }
+    ensures { λ r. ⌜ (made (r .used) (state (r .bench) (now (costs .entry)) (now (tables .entry)) (now (sent .exit)) (now (held .exit)) (now (flight .exit))) (now (way .exit)) ≡ eventMade (state bench (now (costs .entry)) (now (tables .entry)) (now (sent .entry)) (now (held .entry)) (now (flight .entry))) event used (now (way .entry))) × (deliveryReady (state (r .bench) (now (costs .entry)) (now (tables .entry)) (now (sent .exit)) (now (held .exit)) (now (flight .exit))) ≡ true) ⌝ }
 {
     match event {
         Event::Update(bridge, view) => {
             let y = bridge as usize;
             let t = view as usize;
             by_reply(
-                changes::update(bench, costs, tables, sent, held, y, t),
+                changes::update_ready(bench, costs, tables, sent, held, y, t),
                 used,
             )
         }
         Event::Send(bridge, link) => by_reply(
-            messages::send(bench, flight, bridge as usize, link as usize),
+            messages::send_ready(bench, flight, bridge as usize, link as usize),
             used,
         ),
         Event::Deliver(place) => by_reaction(
-            messages::deliver(bench, costs, tables, sent, held, flight, place as usize),
+            messages::deliver_ready(bench, costs, tables, sent, held, flight, place as usize),
             used,
         ),
         Event::Repeat(place) => by_reaction(
-            messages::repeat(bench, costs, tables, sent, held, flight, place as usize),
+            messages::repeat_ready(bench, costs, tables, sent, held, flight, place as usize),
             used,
         ),
-        Event::Lose(place) => by_reply(messages::lose(bench, flight, place as usize), used),
-        Event::Cut(link) => by_reply(changes::cut(bench, link as usize), used),
-        Event::Restore(link) => by_reply(changes::restore(bench, link as usize), used),
+        Event::Lose(place) => by_reply(messages::lose_ready(bench, flight, place as usize), used),
+        Event::Cut(link) => by_reply(changes::cut_ready(bench, link as usize), used),
+        Event::Restore(link) => by_reply(changes::restore_ready(bench, link as usize), used),
         Event::Report(_) => Made { used: 0, bench },
         Event::Path(start, dest) => path_by(
             bench,
@@ -182,8 +183,8 @@ fn next_call(
     rest: &[u8],
     way: &mut [u32],
 ) -> Made
-    requires { ⌜ 3 ≤ length (now way) ⌝ }
-    ensures { λ r. ⌜ made (r .used) (state (r .bench) (now (costs .entry)) (now (tables .entry)) (now (sent .exit)) (now (held .exit)) (now (flight .exit))) (now (way .exit)) ≡ firstMade (state bench (now (costs .entry)) (now (tables .entry)) (now (sent .entry)) (now (held .entry)) (now (flight .entry))) (now (rest .entry)) (now (way .entry)) ⌝ }
+    requires { ⌜ (3 ≤ length (now way)) × (deliveryReady (state bench (now costs) (now tables) (now sent) (now held) (now flight)) ≡ true) ⌝ }
+    ensures { λ r. ⌜ (made (r .used) (state (r .bench) (now (costs .entry)) (now (tables .entry)) (now (sent .exit)) (now (held .exit)) (now (flight .exit))) (now (way .exit)) ≡ firstMade (state bench (now (costs .entry)) (now (tables .entry)) (now (sent .entry)) (now (held .entry)) (now (flight .entry))) (now (rest .entry)) (now (way .entry))) × (deliveryReady (state (r .bench) (now (costs .entry)) (now (tables .entry)) (now (sent .exit)) (now (held .exit)) (now (flight .exit))) ≡ true) ⌝ }
 {
     let progress = Progress {
         stage: 3,
@@ -222,6 +223,7 @@ fn run_in_range(
     rest: &[u8],
     ways: &mut [u32],
 ) -> Listed
+    requires { ⌜ deliveryReady (state bench (now costs) (now tables) (now sent) (now held) (now flight)) ≡ true ⌝ }
     ensures { λ r. ⌜ (r .reply ≡ Reply.Done) × (ran (r .calls) (r .used) (state (r .bench) (now (costs .entry)) (now (tables .entry)) (now (sent .exit)) (now (held .exit)) (now (flight .exit))) (now (ways .exit)) ≡ runs (length (now (ways .entry)) / 3) (state bench (now (costs .entry)) (now (tables .entry)) (now (sent .entry)) (now (held .entry)) (now (flight .entry))) (now (rest .entry)) (now (ways .entry))) ⌝ }
 {
     let most = ways.len() / 3;

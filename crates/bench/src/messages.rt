@@ -11,13 +11,12 @@ use crate::replies::refused;
 use crate::replies::refused_delivery;
 use agreement::Carrying;
 ghost use mathlib.Core.Path.{_≡_};
-ghost use mathlib.Core.Bool.{_&&_};
-ghost use Rattle.bench.specs.Calls.{deliver};
-ghost use Rattle.bench.specs.Changes.{number, NoZero, refusalOf};
-ghost use Rattle.bench.specs.State.{state, networkOf};
-ghost use Rattle.bench.specs.Ranges.{benchInRange, networkInRange, messagesInRange};
+ghost use mathlib.Core.Bool.{true, _&&_};
+ghost use Rattle.bench.specs.Changes.{number, NoZero};
+ghost use Rattle.bench.specs.State.{state};
+ghost use Rattle.bench.specs.Ranges.{benchInRange, messagesInRange};
 ghost use Rattle.bench.specs.Flights.{flown, sendOf, loseOf};
-ghost use Rattle.bench.specs.Deliveries.{reactionSays, delivered, deliverOf, repeatOf};
+ghost use Rattle.bench.specs.Deliveries.{reactionSays, delivered, deliveryReady, deliverOf, repeatOf};
 
 fn flight_in_range(bench: Bench, messages: &[u32]) -> bool
     ensures { λ r. ⌜ r ≡ (benchInRange bench && messagesInRange bench (now (messages .entry))) ⌝ }
@@ -36,6 +35,14 @@ pub fn send(bench: Bench, messages: &mut [u32], bridge: usize, link: usize) -> C
     if !flight_in_range(bench, messages) {
         return refused(17, bench);
     }
+    send_ready(bench, messages, bridge, link)
+}
+
+// `send` of what is in range; it still is afterwards.
+pub(crate) fn send_ready(bench: Bench, messages: &mut [u32], bridge: usize, link: usize) -> Changed
+    requires { ⌜ (benchInRange bench && messagesInRange bench (now messages)) ≡ true ⌝ }
+    ensures { λ r. ⌜ (flown (number (r .reply)) (r .bench) (now (messages .exit)) ≡ sendOf bench (now (messages .entry)) bridge link) × NoZero (r .reply) × ((benchInRange (r .bench) && messagesInRange (r .bench) (now (messages .exit))) ≡ true) ⌝ }
+{
     let refusal = refusals::send_refusal(bench, bridge, link);
     if refusal != 0 {
         return refused(refusal, bench);
@@ -73,6 +80,14 @@ pub fn lose(bench: Bench, messages: &mut [u32], place: usize) -> Changed
     if !flight_in_range(bench, messages) {
         return refused(17, bench);
     }
+    lose_ready(bench, messages, place)
+}
+
+// `lose` of what is in range.
+pub(crate) fn lose_ready(bench: Bench, messages: &mut [u32], place: usize) -> Changed
+    requires { ⌜ (benchInRange bench && messagesInRange bench (now messages)) ≡ true ⌝ }
+    ensures { λ r. ⌜ (flown (number (r .reply)) (r .bench) (now (messages .exit)) ≡ loseOf bench (now (messages .entry)) place) × NoZero (r .reply) ⌝ }
+{
     let refusal = refusals::lose_refusal(bench, place);
     if refusal != 0 {
         return refused(refusal, bench);
@@ -83,26 +98,6 @@ pub fn lose(bench: Bench, messages: &mut [u32], place: usize) -> Changed
         reply: Reply::Done,
         bench: flights::with_count(bench, count - 1),
     }
-}
-
-// Ranges first, then the table's checks.
-fn delivery_refusal(
-    bench: Bench,
-    costs: &[u32],
-    tables: usize,
-    sent: usize,
-    held: usize,
-    messages: &[u32],
-    place: usize,
-) -> u8
-    ensures { λ r. ⌜ r ≡ refusalOf (networkInRange bench (now (costs .entry)) tables sent held && messagesInRange bench (now (messages .entry))) (networkOf bench (now (messages .entry))) (deliver place) ⌝ }
-{
-    if ready::network_in_range(bench, costs, tables, sent, held) {
-        if ready::messages_in_range(bench, messages) {
-            return refusals::deliver_refusal(bench, messages, place);
-        }
-    }
-    17
 }
 
 // Delivers a message and takes it out.
@@ -117,15 +112,34 @@ pub fn deliver(
 ) -> Delivered
     ensures { λ r. ⌜ delivered (reactionSays (r .reply)) (r .bench) (now (sent .exit)) (now (held .exit)) (now (messages .exit)) ≡ deliverOf (state bench (now (costs .entry)) (now (tables .entry)) (now (sent .entry)) (now (held .entry)) (now (messages .entry))) place ⌝ }
 {
-    let refusal = delivery_refusal(
+    let in_range = ready::delivery_in_range(
         bench,
         costs,
         tables.len(),
         sent.len(),
         held.len(),
         messages,
-        place,
     );
+    if !in_range {
+        return refused_delivery(17, bench);
+    }
+    deliver_ready(bench, costs, tables, sent, held, messages, place)
+}
+
+// `deliver` of what is in range.
+pub(crate) fn deliver_ready(
+    bench: Bench,
+    costs: &[u32],
+    tables: &[u32],
+    sent: &mut [u32],
+    held: &mut [u32],
+    messages: &mut [u32],
+    place: usize,
+) -> Delivered
+    requires { ⌜ deliveryReady (state bench (now costs) (now tables) (now sent) (now held) (now messages)) ≡ true ⌝ }
+    ensures { λ r. ⌜ delivered (reactionSays (r .reply)) (r .bench) (now (sent .exit)) (now (held .exit)) (now (messages .exit)) ≡ deliverOf (state bench (now (costs .entry)) (now (tables .entry)) (now (sent .entry)) (now (held .entry)) (now (messages .entry))) place ⌝ }
+{
+    let refusal = refusals::deliver_refusal(bench, messages, place);
     if refusal != 0 {
         return refused_delivery(refusal, bench);
     }
@@ -152,15 +166,34 @@ pub fn repeat(
 ) -> Delivered
     ensures { λ r. ⌜ delivered (reactionSays (r .reply)) (r .bench) (now (sent .exit)) (now (held .exit)) (now (messages .entry)) ≡ repeatOf (state bench (now (costs .entry)) (now (tables .entry)) (now (sent .entry)) (now (held .entry)) (now (messages .entry))) place ⌝ }
 {
-    let refusal = delivery_refusal(
+    let in_range = ready::delivery_in_range(
         bench,
         costs,
         tables.len(),
         sent.len(),
         held.len(),
         messages,
-        place,
     );
+    if !in_range {
+        return refused_delivery(17, bench);
+    }
+    repeat_ready(bench, costs, tables, sent, held, messages, place)
+}
+
+// `repeat` of what is in range.
+pub(crate) fn repeat_ready(
+    bench: Bench,
+    costs: &[u32],
+    tables: &[u32],
+    sent: &mut [u32],
+    held: &mut [u32],
+    messages: &[u32],
+    place: usize,
+) -> Delivered
+    requires { ⌜ deliveryReady (state bench (now costs) (now tables) (now sent) (now held) (now messages)) ≡ true ⌝ }
+    ensures { λ r. ⌜ delivered (reactionSays (r .reply)) (r .bench) (now (sent .exit)) (now (held .exit)) (now (messages .entry)) ≡ repeatOf (state bench (now (costs .entry)) (now (tables .entry)) (now (sent .entry)) (now (held .entry)) (now (messages .entry))) place ⌝ }
+{
+    let refusal = refusals::deliver_refusal(bench, messages, place);
     if refusal != 0 {
         return refused_delivery(refusal, bench);
     }

@@ -1,14 +1,9 @@
--- `changes::restore` meets its contract. The bench is in range, then nothing of the table applies, then the link is restored. Assumes nothing.
-use native.Mathlib.Omega.{arith}
-use mathlib.Core.List.{[]}
+-- `changes::restore` meets its contract: out of range, or `restore_ready`. Assumes nothing.
 use mathlib.Core.Path.{sym, _∙_}
 use borrow.Author.Needs.{needs}
 use borrow.Author.Tests.{not-true, not-false}
-use Rattle.bench.specs.Calls.{refuse, checks, changeChecks}
 use Rattle.bench.specs.Changes.{changed, restoreOf}
-use Rattle.bench.specs.State.{networkOf}
-use Rattle.bench.proofs.EntryChecks.{bench-counted}
-use Rattle.bench.proofs.EntrySettled.{out-of-range, turned-down, goes-on, link-listed}
+use Rattle.bench.proofs.EntrySettled.{out-of-range}
 use Rattle.bench.proofs.changes.restore.Statement.{statement}
 use Rattle.bench.proofs.changes.restore.Tie as tie
 
@@ -21,57 +16,17 @@ refused-requires c κs = search needs
 returns : tie.Need-returns
 unfolding restoreOf
 returns c = (
-  c .refused .ensures .0
-      ∙ out-of-range _ _ _ (λ k. changed k (c .before .before .before .args .bench)) _
-      (sym (c .before .before .bench-in-range .ensures) ∙ not-true _ (c .before .if1 .taken)),
+  c .refused .ensures .0 ∙ out-of-range _ _ _ (λ k. changed k (c .before .before .before .args .bench)) _ (sym (c .before .before .bench-in-range .ensures) ∙ not-true _ (c .before .if1 .taken)),
   c .refused .ensures .1,
 )
 
-restore-refusal-requires : tie.Need-restore-refusal-requires
-restore-refusal-requires c κs = bench-counted _ (sym (c .before .bench-in-range .ensures) ∙ not-false _ (c .if1 .left)) .links
-
-refused-requires-2 : tie.Need-refused-requires-2
-refused-requires-2 c κs = omega (arith, c .if2 .taken)
+restore-ready-requires : tie.Need-restore-ready-requires
+restore-ready-requires c κs = sym (c .before .bench-in-range .ensures) ∙ not-false _ (c .if1 .left)
 
 returns-2 : tie.Need-returns-2
-unfolding restoreOf
-returns-2 c = (
-  c .refused2 .ensures .0
-      ∙ turned-down _ _ _ (λ k. changed k (c .before .before .before .before .before .args .bench)) _
-      (sym (c .before .before .before .before .bench-in-range .ensures) ∙ not-false _ (c .before .before .before .if1 .left)) _
-      (c .before .before .restore-refusal .ensures) (c .before .if2 .taken),
-  c .refused2 .ensures .1,
-)
-
-with-cut-requires : tie.Need-with-cut-requires
-unfolding refuse checks changeChecks
-with-cut-requires c κs =
-    omega (
-      arith,
-      link-listed (networkOf (c .before .before .before .before .args .bench) []) (c .before .before .before .before .args .link) _
-          (sym (c .before .restore-refusal .ensures) ∙ c .if2 .left),
-      bench-counted _ (sym (c .before .before .before .bench-in-range .ensures) ∙ not-false _ (c .before .before .if1 .left)) .links,
-    )
-
-returns-3 : tie.Need-returns-3
-unfolding restoreOf
-returns-3 c = (
-  rw (c .with-cut .ensures)
-      (goes-on _ _ _ (λ k. changed k (c .before .before .before .before .before .args .bench)) _
-      (sym (c .before .before .before .before .bench-in-range .ensures) ∙ not-false _ (c .before .before .before .if1 .left)) _
-      (c .before .before .restore-refusal .ensures) (c .before .if2 .left)),
-  tt,
-)
+returns-2 c = c .restore-ready .ensures
 
 pub restore-spec : {M : Type 1} → statement M
 restore-spec =
     tie.close
-    (tie.spec
-    bench-in-range-requires
-    refused-requires
-    returns
-    restore-refusal-requires
-    refused-requires-2
-    returns-2
-    with-cut-requires
-    returns-3)
+    (tie.spec bench-in-range-requires refused-requires returns restore-ready-requires returns-2)

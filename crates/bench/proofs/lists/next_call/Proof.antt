@@ -1,8 +1,8 @@
 -- `lists::next_call` meets its contract: the event that was read, or nothing. Assumes nothing.
 use mathlib.Core.Path.{_∙_}
 use borrow.Author.Needs.{needs}
-use Rattle.bench.specs.State.{State, state}
 use Rattle.bench.specs.Lists.{readMade}
+use Rattle.bench.specs.State.{State, state}
 use Rattle.bench.proofs.ListSteps.{stop-read, field-read}
 use Rattle.bench.proofs.lists.next_call.Statement.{statement}
 use Rattle.bench.proofs.lists.next_call.Tie as tie
@@ -21,13 +21,13 @@ enum-told : tie.Need-enum-told
 enum-told c = search needs
 
 returns : tie.Need-returns
-returns c = stop-read (Given (c .before .before .before .before .before .before .before .before .before .before)) _ _ _ (c .before .before .read-field .ensures) (c .enum-told .given .1)
+returns c = (stop-read (Given (c .before .before .before .before .before .before .before .before .before .before)) _ _ _ (c .before .before .read-field .ensures) (c .enum-told .given .1), c .before .before .before .before .before .before .before .before .before .before .pre .1)
 
 enum-known-field : tie.Need-enum-known-field
 enum-known-field c = search needs
 
 make-requires : tie.Need-make-requires
-make-requires c κs = search needs
+make-requires c κs = c .before .before .before .before .before .before .before .before .before .before .before .before .before .before .before .before .before .before .pre
 
 enum-told-2 : tie.Need-enum-told-2
 enum-told-2 c = search needs
@@ -52,19 +52,19 @@ same-length-4 c = search needs
 
 returns-2 : tie.Need-returns-2
 unfolding readMade
-returns-2 c = c .before .before .before .before .before .before .before .before .make .ensures ∙ (rw (c .before .before .before .before .before .before .before .before .before .before .before .before .before .before .field .given .1) at (field-read (Given (c .before .before .before .before .before .before .before .before .before .before .before .before .before .before .before .before .before .before .before .before .before .before .before .before .before .before .before)) (c .before .before .before .before .before .before .before .before .before .before .before .before .before .before .before .before .before .before .before .before .before .before .before .before .before .before .before .args .rest .now) (c .before .before .before .before .before .before .before .before .before .before .before .before .before .before .before .before .before .before .before .before .before .before .before .before .before .before .before .args .way .now) _ (c .before .before .before .before .before .before .before .before .before .before .before .before .before .before .before .before .before .before .before .read-field .ensures) (c .before .before .before .before .before .before .before .before .before .before .before .before .before .before .before .before .before .read .given .1)))
+returns-2 c = (c .before .before .before .before .before .before .before .before .make .ensures .0 ∙ (rw (c .before .before .before .before .before .before .before .before .before .before .before .before .before .before .field .given .1) at (field-read (Given (c .before .before .before .before .before .before .before .before .before .before .before .before .before .before .before .before .before .before .before .before .before .before .before .before .before .before .before)) (c .before .before .before .before .before .before .before .before .before .before .before .before .before .before .before .before .before .before .before .before .before .before .before .before .before .before .before .args .rest .now) (c .before .before .before .before .before .before .before .before .before .before .before .before .before .before .before .before .before .before .before .before .before .before .before .before .before .before .before .args .way .now) _ (c .before .before .before .before .before .before .before .before .before .before .before .before .before .before .before .before .before .before .before .read-field .ensures) (c .before .before .before .before .before .before .before .before .before .before .before .before .before .before .before .before .before .read .given .1))), c .before .before .before .before .before .before .before .before .make .ensures .1)
 
 returns-3 : tie.Need-returns-3
 unfolding readMade
-returns-3 c = rw (c .enum-told2 .given .1) at (field-read (Given (c .before .before .before .before .before .before .before .before .before .before .before .before .before)) (c .before .before .before .before .before .before .before .before .before .before .before .before .before .args .rest .now) (c .before .before .before .before .before .before .before .before .before .before .before .before .before .args .way .now) _ (c .before .before .before .before .before .read-field .ensures) (c .before .before .before .read .given .1))
+returns-3 c = (rw (c .enum-told2 .given .1) at (field-read (Given (c .before .before .before .before .before .before .before .before .before .before .before .before .before)) (c .before .before .before .before .before .before .before .before .before .before .before .before .before .args .rest .now) (c .before .before .before .before .before .before .before .before .before .before .before .before .before .args .way .now) _ (c .before .before .before .before .before .read-field .ensures) (c .before .before .before .read .given .1)), c .before .before .before .before .before .before .before .before .before .before .before .before .before .pre .1)
 
 returns-4 : tie.Need-returns-4
 unfolding readMade
-returns-4 c = rw (c .enum-told3 .given .1) at (field-read (Given (c .before .before .before .before .before .before .before .before .before .before .before .before .before)) (c .before .before .before .before .before .before .before .before .before .before .before .before .before .args .rest .now) (c .before .before .before .before .before .before .before .before .before .before .before .before .before .args .way .now) _ (c .before .before .before .before .before .read-field .ensures) (c .before .before .before .read .given .1))
+returns-4 c = (rw (c .enum-told3 .given .1) at (field-read (Given (c .before .before .before .before .before .before .before .before .before .before .before .before .before)) (c .before .before .before .before .before .before .before .before .before .before .before .before .before .args .rest .now) (c .before .before .before .before .before .before .before .before .before .before .before .before .before .args .way .now) _ (c .before .before .before .before .before .read-field .ensures) (c .before .before .before .read .given .1)), c .before .before .before .before .before .before .before .before .before .before .before .before .before .pre .1)
 
 returns-5 : tie.Need-returns-5
 unfolding readMade
-returns-5 c = rw (c .enum-told4 .given .1) at (field-read (Given (c .before .before .before .before .before .before .before .before .before .before .before .before .before)) (c .before .before .before .before .before .before .before .before .before .before .before .before .before .args .rest .now) (c .before .before .before .before .before .before .before .before .before .before .before .before .before .args .way .now) _ (c .before .before .before .before .before .read-field .ensures) (c .before .before .before .read .given .1))
+returns-5 c = (rw (c .enum-told4 .given .1) at (field-read (Given (c .before .before .before .before .before .before .before .before .before .before .before .before .before)) (c .before .before .before .before .before .before .before .before .before .before .before .before .before .args .rest .now) (c .before .before .before .before .before .before .before .before .before .before .before .before .before .args .way .now) _ (c .before .before .before .before .before .read-field .ensures) (c .before .before .before .read .given .1)), c .before .before .before .before .before .before .before .before .before .before .before .before .before .pre .1)
 
 pub next-call-spec : {M : Type 1} → statement M
 next-call-spec =

@@ -18,7 +18,7 @@ unfolding listOf
 returns c = rw (sym (c .before .delivery-in-range .ensures) ∙ not-true _ (c .if1 .taken)) (refl, omega arith)
 
 run-in-range-requires : tie.Need-run-in-range-requires
-run-in-range-requires c κs = search needs
+run-in-range-requires c κs = sym (c .before .before .before .before .before .delivery-in-range .ensures) ∙ not-false _ (c .before .before .before .before .if1 .left)
 
 same-length-2 : tie.Need-same-length-2
 same-length-2 c = search needs

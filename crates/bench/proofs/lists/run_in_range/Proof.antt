@@ -2,8 +2,10 @@
 use Prim.Native.Nat.{ℕ, _+_, _-_, _*_}
 use native.Mathlib.Omega.{arith}
 use mathlib.Core.Path.{_≡_, refl}
+use mathlib.Core.Bool.{true}
 use borrow.Author.Needs.{needs}
 use lib.ListN.{length}
+use Rattle.bench.specs.Deliveries.{deliveryReady}
 use Rattle.bench.specs.Lists.{runs}
 use Rattle.bench.specs.State.{state}
 use Rattle.bench.proofs.ListTurns.{left, Underway, begins, goes-on, onward, shrinks, used-within, ended}
@@ -20,6 +22,7 @@ three calls = omega arith
 abbrev Inv-loop : tie.InvT-loop
 Inv-loop costs tables sent₀ held₀ flight₀ rest ways₀ most current₀ calls₀ used₀ going₀ sent held flight ways current calls used going =
     Underway (runs most (state current₀ costs tables sent₀ held₀ flight₀) rest ways₀) most rest (state current costs tables sent held flight) calls used ways going
+    × (deliveryReady (state current costs tables sent held flight) ≡ true)
     × (length sent ≡ length sent₀)
     × (length held ≡ length held₀)
     × (length flight ≡ length flight₀)
@@ -30,7 +33,7 @@ abbrev μ-loop : tie.MeasureT-loop
     left most calls going
 
 loop-holds : tie.Need-loop-holds Inv-loop μ-loop
-loop-holds c = (begins _ _ _ _ (omega arith), refl, refl, refl, refl)
+loop-holds c = (begins _ _ _ _ (omega arith), c .before .before .before .before .before .before .before .pre, refl, refl, refl, refl)
 
 both-requires : tie.Need-both-requires Inv-loop μ-loop
 both-requires c κs = search needs
@@ -63,38 +66,39 @@ part-way-end : tie.Need-part-way-end Inv-loop μ-loop
 part-way-end c = omega (arith, c .before .before .before .loop .inv .0 .room, goes-on _ _ _ _ _ _ _ (c .before .before .both .ensures) (c .before .if1 .taken) (c .before .before .before .loop .inv .0))
 
 next-call-requires : tie.Need-next-call-requires Inv-loop μ-loop
-next-call-requires c κs = search needs
+next-call-requires c κs = (search needs, c .before .before .before .before .before .before .before .loop .inv .1)
 
 counted-requires : tie.Need-counted-requires Inv-loop μ-loop
 counted-requires c κs = omega (arith, c .before .before .before .before .before .before .before .before .before .before .before .before .before .before .before .before .before .loop .inv .0 .few, c .before .before .before .before .before .before .before .before .before .before .before .before .before .before .before .before .before .loop .inv .0 .room, c .before .before .before .before .before .before .before .before .before .before .before .before .before .before .before .before .before .before .before .before .before .before .before .before .before .good)
 
 add-used : tie.Need-add-used Inv-loop μ-loop
-add-used c = record { fits = omega (arith, used-within _ _ _ _ _ _ _ (c .before .before .before .before .before .before .before .before .before .before .before .before .before .before .before .before .before .both .ensures) (c .before .before .before .before .before .before .before .before .before .before .before .before .before .before .before .before .if1 .taken) (c .before .before .before .before .before .before .before .before .before .before .before .before .before .before .before .before .before .before .loop .inv .0) (widthAt (c .before .before .before .before .before .before .before .before .before .before .before .before .before .before .before .before .before .before .loop .calls)) (three (c .before .before .before .before .before .before .before .before .before .before .before .before .before .before .before .before .before .before .loop .calls)) (c .before .before .before .before .before .before .before .before .before .before .next-call .ensures), c .before .before .before .before .before .before .before .before .before .before .before .before .before .before .before .before .before .before .before .before .before .before .before .before .before .before .good) }
+add-used c = record { fits = omega (arith, used-within _ _ _ _ _ _ _ (c .before .before .before .before .before .before .before .before .before .before .before .before .before .before .before .before .before .both .ensures) (c .before .before .before .before .before .before .before .before .before .before .before .before .before .before .before .before .if1 .taken) (c .before .before .before .before .before .before .before .before .before .before .before .before .before .before .before .before .before .before .loop .inv .0) (widthAt (c .before .before .before .before .before .before .before .before .before .before .before .before .before .before .before .before .before .before .loop .calls)) (three (c .before .before .before .before .before .before .before .before .before .before .before .before .before .before .before .before .before .before .loop .calls)) (c .before .before .before .before .before .before .before .before .before .before .next-call .ensures .0), c .before .before .before .before .before .before .before .before .before .before .before .before .before .before .before .before .before .before .before .before .before .before .before .before .before .before .good) }
 
 loop-less : tie.Need-loop-less Inv-loop μ-loop
-loop-less c = shrinks _ _ _ _ _ _ _ (c .before .before .before .before .before .before .before .before .before .before .before .before .before .before .before .before .before .both .ensures) (c .before .before .before .before .before .before .before .before .before .before .before .before .before .before .before .before .if1 .taken) (c .before .before .before .before .before .before .before .before .before .before .before .before .before .before .before .before .before .before .loop .inv .0) (widthAt (c .before .before .before .before .before .before .before .before .before .before .before .before .before .before .before .before .before .before .loop .calls)) (three (c .before .before .before .before .before .before .before .before .before .before .before .before .before .before .before .before .before .before .loop .calls)) (c .before .before .before .before .before .before .before .before .before .before .next-call .ensures) (c .counted .ensures)
+loop-less c = shrinks _ _ _ _ _ _ _ (c .before .before .before .before .before .before .before .before .before .before .before .before .before .before .before .before .before .both .ensures) (c .before .before .before .before .before .before .before .before .before .before .before .before .before .before .before .before .if1 .taken) (c .before .before .before .before .before .before .before .before .before .before .before .before .before .before .before .before .before .before .loop .inv .0) (widthAt (c .before .before .before .before .before .before .before .before .before .before .before .before .before .before .before .before .before .before .loop .calls)) (three (c .before .before .before .before .before .before .before .before .before .before .before .before .before .before .before .before .before .before .loop .calls)) (c .before .before .before .before .before .before .before .before .before .before .next-call .ensures .0) (c .counted .ensures)
 
 loop-again : tie.Need-loop-again Inv-loop μ-loop
 loop-again c = let kept = c .before .before .before .before .before .before .before .before .before .before .next-call .kept in
     let old = c .before .before .before .before .before .before .before .before .before .before .before .before .before .before .before .before .before .before .loop .inv in (
-      onward _ _ _ _ _ _ _ (c .before .before .before .before .before .before .before .before .before .before .before .before .before .before .before .before .before .both .ensures) (c .before .before .before .before .before .before .before .before .before .before .before .before .before .before .before .before .if1 .taken) (old .0) (widthAt (c .before .before .before .before .before .before .before .before .before .before .before .before .before .before .before .before .before .before .loop .calls)) (three (c .before .before .before .before .before .before .before .before .before .before .before .before .before .before .before .before .before .before .loop .calls)) (c .before .before .before .before .before .before .before .before .before .before .next-call .ensures) (c .counted .ensures),
-      omega (arith, kept, old .1),
+      onward _ _ _ _ _ _ _ (c .before .before .before .before .before .before .before .before .before .before .before .before .before .before .before .before .before .both .ensures) (c .before .before .before .before .before .before .before .before .before .before .before .before .before .before .before .before .if1 .taken) (old .0) (widthAt (c .before .before .before .before .before .before .before .before .before .before .before .before .before .before .before .before .before .before .loop .calls)) (three (c .before .before .before .before .before .before .before .before .before .before .before .before .before .before .before .before .before .before .loop .calls)) (c .before .before .before .before .before .before .before .before .before .before .next-call .ensures .0) (c .counted .ensures),
+      c .before .before .before .before .before .before .before .before .before .before .next-call .ensures .1,
       omega (arith, kept, old .2),
       omega (arith, kept, old .3),
       omega (arith, kept, old .4),
+      omega (arith, kept, old .5),
     )
 
 same-length : tie.Need-same-length Inv-loop μ-loop
-same-length c = omega (arith, c .before .before .loop .inv .1)
+same-length c = omega (arith, c .before .before .loop .inv .2)
 
 same-length-2 : tie.Need-same-length-2 Inv-loop μ-loop
-same-length-2 c = omega (arith, c .before .before .loop .inv .2)
+same-length-2 c = omega (arith, c .before .before .loop .inv .3)
 
 same-length-3 : tie.Need-same-length-3 Inv-loop μ-loop
-same-length-3 c = omega (arith, c .before .before .loop .inv .3)
+same-length-3 c = omega (arith, c .before .before .loop .inv .4)
 
 same-length-4 : tie.Need-same-length-4 Inv-loop μ-loop
-same-length-4 c = omega (arith, c .before .before .loop .inv .4)
+same-length-4 c = omega (arith, c .before .before .loop .inv .5)
 
 returns : tie.Need-returns Inv-loop μ-loop
 returns c = (refl, ended _ _ _ _ _ _ _ _ _ (c .before .both .ensures) (c .if1 .left) (c .before .before .loop .inv .0))

@@ -1,0 +1,33 @@
+-- `answers::path_ready` meets its contract: nothing of the table applies, then the walk itself. Assumes nothing.
+use mathlib.Core.Path.{sym, _∙_}
+use mathlib.Core.List.{[]}
+use borrow.Author.Needs.{needs}
+use Rattle.bench.specs.Answers.{pathOf}
+use Rattle.bench.specs.Deliveries.{refusedBy}
+use Rattle.bench.specs.State.{networkOf}
+use Rattle.bench.specs.Calls.{refuse, checks, noSuchBridge}
+use Rattle.bench.proofs.WalkSteps.{bridges-listed}
+use Rattle.bench.proofs.ChoiceSteps.{ports-told}
+use Rattle.bench.proofs.EntrySettled.{turned-down, goes-on}
+use Rattle.bench.proofs.answers.path_ready.Statement.{statement}
+use Rattle.bench.proofs.answers.path_ready.Tie as tie
+
+port-refusal-requires : tie.Need-port-refusal-requires
+port-refusal-requires c κs = search needs
+
+returns : tie.Need-returns
+unfolding pathOf refuse checks noSuchBridge
+returns c = turned-down _ _ _ refusedBy _ (c .before .before .before .before .before .before .pre) _ (c .before .port-refusal .ensures) (c .if1 .taken)
+
+walk-requires : tie.Need-walk-requires
+unfolding refuse checks
+walk-requires c κs = 
+    let s = c .before .before .before .before .before .before in
+    (ports-told _ _ _ _ _ (s .pre), bridges-listed (networkOf (s .args .bench) []) (s .args .start) (s .args .dest) _ (sym (c .before .port-refusal .ensures) ∙ c .if1 .left))
+
+returns-2 : tie.Need-returns-2
+unfolding pathOf refuse checks noSuchBridge
+returns-2 c = rw (c .walk .ensures) (goes-on _ _ _ refusedBy _ (c .before .before .before .before .before .before .before .pre) _ (c .before .before .port-refusal .ensures) (c .before .if1 .left))
+
+pub path-ready-spec : {M : Type 1} → statement M
+path-ready-spec = tie.close (tie.spec port-refusal-requires returns walk-requires returns-2)

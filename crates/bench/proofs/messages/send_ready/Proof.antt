@@ -1,0 +1,170 @@
+-- `messages::send_ready` meets its contract. Each refusal is the table's. Layer 2 carries what is in range, the five numbers are those of the
+-- message, and those of 16 bits are so by their types. Assumes nothing.
+use mir.Syntax.{w16}
+use mir.Val.{Fits}
+use Prim.Native.Nat.{ℕ, _<_, _*_}
+use native.Mathlib.Omega.{arith}
+use mathlib.Core.Path.{_≡_, sym, _∙_, ap}
+use mathlib.Core.List.{List, []}
+use borrow.Author.Needs.{needs}
+use lib.ListN.{length}
+use lib.Seq.{sets}
+use Rattle.agreement.proofs.Basics.{getD-default}
+use Rattle.agreement.specs.Record.{freshRecord}
+use Rattle.agreement.specs.Call.{Said, says, carryingSays}
+use Rattle.agreement.specs.declared.Agreement.{Agreement}
+use Rattle.bench.specs.Calls.{send, refuse, messageOf}
+use Rattle.bench.specs.State.{networkOf}
+use Rattle.bench.specs.Flights.{flown, sendOf}
+use Rattle.bench.specs.Changes.{Changed}
+use Rattle.bench.proofs.RangesSteps.{flightInRange, sent-stays}
+use Rattle.bench.proofs.ChangeSteps.{length-mapped}
+use Rattle.bench.proofs.EntrySettled.{turned-down, goes-on}
+use Rattle.bench.proofs.FlightRanges.{flight-told}
+use Rattle.bench.proofs.FlightCalls.{flown-refused, send-same, SendTold, send-told, sent-numbers, said-same}
+use Rattle.bench.proofs.messages.send_ready.Statement.{statement}
+use Rattle.bench.proofs.messages.send_ready.Tie as tie
+
+-- what is handed over is accepted
+told :
+    (s : tie.Start) (k : ℕ) →
+    k ≡ refuse (networkOf (s .args .t1) []) (send (s .args .bridge) (s .args .link)) →
+    k ≡ 0 →
+    SendTold (s .args .t1) (s .args .messages .now) (s .args .bridge) (s .args .link)
+told s k e none =
+    let a = s .args in
+    send-told (a .t1) (a .messages .now) (a .bridge) (a .link) (flight-told _ _ (s .pre) .0)
+    (sym (e ∙ send-same (a .t1) (a .messages .now) (a .bridge) (a .link)) ∙ none)
+
+-- as many records as the type says
+listed : (s : tie.Start) → length (s .args .t1 .records) ≡ 64
+listed s = search (needs, length-mapped)
+
+-- layer 2 carries what the message holds
+carries : (c : tie.After-carry) → let a = c .before .before .before .before .before .before .before .before .args in carryingSays (c .carry .result) ≡ says (messageOf (networkOf (a .t1) (a .messages .now)) (a .bridge) (a .link) .agreement)
+carries c =
+    let s = c .before .before .before .before .before .before .before .before in
+    let end = c .before .before .before .before .end-of in
+    let accepted = told s _ (c .before .before .before .before .before .before .send-refusal .ensures) (c .before .before .before .before .before .if1 .left) in
+    let h : end .result < length (s .args .t1 .records) = omega (arith, listed s, accepted .end, end .ensures) in
+    c .carry .ensures ∙ rw (getD-default (s .args .t1 .records) (end .result) _ freshRecord h, end .ensures) (accepted .carries)
+
+send-refusal-requires : tie.Need-send-refusal-requires
+send-refusal-requires c κs = flight-told _ _ (c .before .pre) .0 .counted .links
+
+refused-requires : tie.Need-refused-requires
+refused-requires c κs = search needs
+
+returns : tie.Need-returns
+unfolding sendOf
+returns c = let a = c .before .before .before .before .args in (
+  flown-refused (a .messages .now) (c .refused .ensures .0)
+      ∙ turned-down _ _ _ (λ k. flown k (a .t1) (a .messages .now)) _ (c .before .before .before .before .pre) _
+      (c .before .before .send-refusal .ensures ∙ send-same (a .t1) (a .messages .now) (a .bridge) (a .link)) (c .before .if1 .taken),
+  c .refused .ensures .1,
+  ap (λ (o : Changed). flightInRange (o .bench) (a .messages .now)) (c .refused .ensures .0) ∙ c .before .before .before .before .pre,
+)
+
+end-of-requires : tie.Need-end-of-requires
+end-of-requires c κs = told (c .before .before .before) _ (c .before .send-refusal .ensures) (c .if1 .left) .link
+
+mul-old : tie.Need-mul-old
+mul-old c = omega (arith, told (c .before .before .before .before) _ (c .before .before .send-refusal .ensures) (c .before .if1 .left) .end, c .end-of .ensures)
+
+element-copy-out-old : tie.Need-element-copy-out-old
+element-copy-out-old c = omega (arith, told (c .before .before .before .before) _ (c .before .before .send-refusal .ensures) (c .before .if1 .left) .end, c .end-of .ensures)
+
+element-copy-out-carry : tie.Need-element-copy-out-carry
+element-copy-out-carry c = told (c .before .before .before .before .before) _ (c .before .before .before .send-refusal .ensures) (c .before .before .if1 .left) .bridge
+
+mul-carry : tie.Need-mul-carry
+mul-carry c = omega (arith, told (c .before .before .before .before .before .before) _ (c .before .before .before .before .send-refusal .ensures) (c .before .before .before .if1 .left) .bridge)
+
+element-copy-out-carry-2 : tie.Need-element-copy-out-carry-2
+element-copy-out-carry-2 c = told (c .before .before .before .before .before .before) _ (c .before .before .before .before .send-refusal .ensures) (c .before .before .before .if1 .left) .bridge
+
+carry-requires : tie.Need-carry-requires
+carry-requires c κs = search needs
+
+enum-known-carried : tie.Need-enum-known-carried
+enum-known-carried c = search needs
+
+enum-told : tie.Need-enum-told
+enum-told c = search needs
+
+refused-requires-2 : tie.Need-refused-requires-2
+refused-requires-2 c κs = search needs
+
+returns-2 : tie.Need-returns-2
+returns-2 c = let out : _≡_ {A = ℕ} 17 0 = ap (λ (r : Said Agreement). r .number) (rw (c .before .enum-told .given .1) at (carries (c .before .before .before))) in absurd (omega arith)
+
+cast-put : tie.Need-cast-put
+cast-put c = omega (arith, told (c .before .before .before .before .before .before .before .before .before .before .before .before) _ (c .before .before .before .before .before .before .before .before .before .before .send-refusal .ensures) (c .before .before .before .before .before .before .before .before .before .if1 .left) .link)
+
+cast-put-2 : tie.Need-cast-put-2
+cast-put-2 c = search needs
+
+cast-put-3 : tie.Need-cast-put-3
+cast-put-3 c = search needs
+
+cast-put-4 : tie.Need-cast-put-4
+cast-put-4 c = search needs
+
+cast-put-5 : tie.Need-cast-put-5
+cast-put-5 c = search needs
+
+put-requires : tie.Need-put-requires
+put-requires c κs = (told (c .before .before .before .before .before .before .before .before .before .before .before .before .before .before .before) _ (c .before .before .before .before .before .before .before .before .before .before .before .before .before .send-refusal .ensures) (c .before .before .before .before .before .before .before .before .before .before .before .before .if1 .left) .room, flight-told _ _ (c .before .before .before .before .before .before .before .before .before .before .before .before .before .before .before .pre) .1 .long)
+
+add-with-count : tie.Need-add-with-count
+add-with-count c = omega (arith, told (c .before .before .before .before .before .before .before .before .before .before .before .before .before .before .before .before .before .before) _ (c .before .before .before .before .before .before .before .before .before .before .before .before .before .before .before .before .send-refusal .ensures) (c .before .before .before .before .before .before .before .before .before .before .before .before .before .before .before .if1 .left) .room)
+
+with-count-requires : tie.Need-with-count-requires
+with-count-requires c κs = search needs
+
+same-length : tie.Need-same-length
+same-length c = search needs
+
+returns-3 : tie.Need-returns-3
+unfolding sendOf
+returns-3 c = let a = c .before .before .before .before .before .before .before .before .before .before .before .before .before .before .before .before .before .before .before .args in
+    let same = said-same _ _ (rw (c .before .before .before .before .before .before .before .before .before .carried .given .1) at (carries (c .before .before .before .before .before .before .before .before .before .before .before))) in
+    let numbers = sent-numbers (a .t1) (a .messages .now) (a .bridge) (a .link) (c .before .before .before .before .before .before .before .before .before .before .before .before .before .before .before .end-of .result) _ (c .before .before .before .before .before .before .before .before .before .before .before .before .before .before .before .end-of .ensures) same in
+    let x : Agreement = c .before .before .before .before .before .before .before .before .before .carried .given .0 .0 in
+    let number : Fits w16 (x .number) = search needs in
+    let discarded : Fits w16 (x .discarded) = search needs in
+    let table = c .before .before .before .before .before .before .before .before .before .before .before .before .before .before .before .before .before .send-refusal .ensures ∙ send-same (a .t1) (a .messages .now) (a .bridge) (a .link) in
+    rw (c .with-count .ensures, c .before .before .before .put .ensures ∙ ap (λ (l : List ℕ). sets (a .messages .now) (5 * a .t1 .messages) l) numbers) (
+      goes-on _ _ _ (λ k. flown k (a .t1) (a .messages .now)) _ (c .before .before .before .before .before .before .before .before .before .before .before .before .before .before .before .before .before .before .before .pre) _ table (c .before .before .before .before .before .before .before .before .before .before .before .before .before .before .before .before .if1 .left),
+      tt,
+      sent-stays (a .t1) (a .messages .now) (a .bridge) (a .link) (c .before .before .before .before .before .before .before .before .before .before .before .before .before .before .before .before .before .before .before .pre) (sym table ∙ c .before .before .before .before .before .before .before .before .before .before .before .before .before .before .before .before .if1 .left) (rw (← same) (number .fits)) (rw (← same) (discarded .fits)),
+    )
+
+pub send-ready-spec : {M : Type 1} → statement M
+send-ready-spec =
+    tie.close
+    (tie.spec
+    send-refusal-requires
+    refused-requires
+    returns
+    end-of-requires
+    mul-old
+    element-copy-out-old
+    element-copy-out-carry
+    mul-carry
+    element-copy-out-carry-2
+    carry-requires
+    enum-known-carried
+    enum-told
+    refused-requires-2
+    returns-2
+    cast-put
+    cast-put-2
+    cast-put-3
+    cast-put-4
+    cast-put-5
+    put-requires
+    add-with-count
+    with-count-requires
+    same-length
+    returns-3)

@@ -39,18 +39,18 @@ withValue numbers old (x ∷ xs) = sets old 0 (numbers x)
 abbrev pub saidTold : {A : Type 0} → (A → List ℕ) → List ℕ → Said A → Told
 saidTold numbers out s = told (s .number) (withValue numbers out (s .value) ∷ [])
 
--- the four numbers of a record are the new ones where the call was not refused, else as before
-abbrev pub withRecord : ℕ → List ℕ → List ℕ → List ℕ
-withRecord reply old new = cond (eqb reply 0) (sets old 0 new) old
+-- the new numbers stand at the front of the list where the call was not refused, else it is as before
+abbrev pub withNumbers : ℕ → List ℕ → List ℕ → List ℕ
+withNumbers reply old new = cond (eqb reply 0) (sets old 0 new) old
 
 abbrev pub endTold : List ℕ → Outcome ℕ → Told
-endTold fields o = told (o .reply) (withRecord (o .reply) fields (recordNumbers (o .end)) ∷ o .sent ∷ o .held ∷ [])
+endTold fields o = told (o .reply) (withNumbers (o .reply) fields (recordNumbers (o .end)) ∷ o .sent ∷ o .held ∷ [])
 
 abbrev pub deliveryTold : List ℕ → List ℕ → Outcome (Said Answer) → Told
 deliveryTold fields out o =
     told
     (o .reply .number)
-    (withRecord (o .reply .number) fields (recordNumbers (o .end))
+    (withNumbers (o .reply .number) fields (recordNumbers (o .end))
     ∷ withValue answerNumbers out (o .reply .value)
     ∷ o .sent
     ∷ o .held

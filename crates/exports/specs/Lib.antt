@@ -1,4 +1,5 @@
 pub mod Numbers
 pub mod Call
 pub mod Network
+pub mod Lists
 pub mod SliceCalls

@@ -1,5 +1,6 @@
 // What the Rust tests call: the public calls of the layers, each reply as document 01's number.
 mod benches;
+pub mod lists;
 pub mod network;
 mod numbers;
 pub mod records;

@@ -43,7 +43,7 @@ pub struct Model {
 }
 
 /// The reference takes bytes, as a plan has them. No count reaches 255, so what is greater is refused as 255 is.
-fn byte(number: usize) -> u8 {
+pub(crate) fn byte(number: usize) -> u8 {
     number.min(255) as u8
 }
 

@@ -2,6 +2,7 @@
 //! A number that does not fit its field is refused; any number but 0 stands for true.
 
 use crate::call::RECORD;
+use crate::guard::{Buffer, Guard};
 use crate::model::{Call, Model, Reply};
 use crate::network_call::{Lent, BENCH, CUT, NUMBER, RECORDS, VIEW};
 use crate::network_entry::{reads_messages, reads_views};
@@ -10,6 +11,7 @@ use crate::view::NONE;
 use reference::map::{End, Map, View};
 use reference::network::Network;
 use reference::records::{Bridge, Message};
+use std::fmt::Display;
 
 // ---- the network in the numbers
 
@@ -70,7 +72,7 @@ fn put_network(network: &Network, call: Call, lent: &mut Lent) {
 }
 
 /// All flags of a bench that is written are 0 or 1, also those past its counts.
-fn put_bench(network: &Network, b: &mut [u32]) {
+pub(crate) fn put_bench(network: &Network, b: &mut [u32]) {
     let holding = (RECORDS..CUT).skip(RECORD - 1).step_by(RECORD);
     holding.chain(CUT..BENCH).for_each(|flag| b[flag] = u32::from(b[flag] != 0));
     b[3] = network.flight.len() as u32;
@@ -141,15 +143,19 @@ pub fn expect(model: &mut Model, call: Call, lent: &mut Lent) -> Result<Reply, u
 
 /// Says where buffers differ from the expected ones.
 pub fn compare(expected: &Lent, found: &Lent) -> Result<(), String> {
-    for ((name, e), (_, f)) in expected.buffers().into_iter().zip(found.buffers()) {
-        if !f.is_guarded() {
-            return Err(format!("a write outside the lent {name}"));
-        }
-        let (e, f) = (e.numbers(), f.numbers());
-        if e != f {
-            let p = (0..e.len()).find(|&p| e[p] != f[p]).expect("equal lengths");
-            return Err(format!("{name}, place {p}: {} in place of {}", f[p], e[p]));
-        }
+    let mut pairs = expected.buffers().into_iter().zip(found.buffers());
+    pairs.try_for_each(|((name, e), (_, f))| compare_buffer(name, e, f))
+}
+
+/// The same of one buffer.
+pub(crate) fn compare_buffer<T: Guard + Display>(name: &str, expected: &Buffer<T>, found: &Buffer<T>) -> Result<(), String> {
+    if !found.is_guarded() {
+        return Err(format!("a write outside the lent {name}"));
     }
-    Ok(())
+    let (e, f) = (expected.numbers(), found.numbers());
+    if e == f {
+        return Ok(());
+    }
+    let p = (0..e.len()).find(|&p| e[p] != f[p]).expect("equal lengths");
+    Err(format!("{name}, place {p}: {} in place of {}", f[p], e[p]))
 }

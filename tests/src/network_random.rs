@@ -215,6 +215,24 @@ pub fn widened() -> BTreeSet<String> {
     fields.flat_map(|(field, _)| [COUNTED, NOT_COUNTED].map(|whose| too_great(field, whose))).collect()
 }
 
+/// What `damage` says beside what `widen` says.
+pub const OUT_OF_RANGE: [&str; 14] = [
+    "bridge count",
+    "link count",
+    "view count",
+    "messages in flight",
+    "view",
+    "end that is no bridge",
+    "link with equal ends",
+    "received view",
+    "cost too large",
+    "link of a message",
+    "direction of a message",
+    "view of a message",
+    "number of a message",
+    "discarded number of a message",
+];
+
 /// Damages one number of a network that is in range, and says which. `None` where there is none of the kind chosen.
 pub fn damage(random: &mut Random, lent: &mut Lent) -> Option<String> {
     if random.one_in(3) {

@@ -30,7 +30,7 @@ pub fn name(call: Call) -> String {
 }
 
 /// What is counted of a call.
-fn event(call: Call, outcome: &Outcome) -> String {
+pub(crate) fn event(call: Call, outcome: &Outcome) -> String {
     let what = match (call, outcome) {
         (_, Err(number)) => number.to_string(),
         (_, Ok(Reply::Done)) => "done".into(),
@@ -149,7 +149,7 @@ impl Run {
         Ok(())
     }
 
-    fn any_link(&self, random: &mut Random) -> Option<usize> {
+    pub(crate) fn any_link(&self, random: &mut Random) -> Option<usize> {
         let links = self.map().link_count();
         (links > 0).then(|| random.below(links))
     }

@@ -5,7 +5,7 @@ use bench_tests::model::{Call, Model, Reply};
 use bench_tests::network_call::{Lent, BENCH, ENDS, NUMBER};
 use bench_tests::network_entry::{field_at, is_turned_down, needed};
 use bench_tests::network_numbers::{compare, expect, network_in, put_fresh};
-use bench_tests::network_random::{damage, lend, map_of, random_call, random_map, widen, widened};
+use bench_tests::network_random::{damage, lend, map_of, random_call, random_map, widen, widened, OUT_OF_RANGE};
 use bench_tests::network_run::{name, Run};
 use bench_tests::random::Random;
 use bench_tests::view::NONE;
@@ -142,23 +142,6 @@ fn numbers_out_of_range_are_refused() {
     let too_great: Vec<String> = widened().into_iter().collect();
     causes.only("refused for", &[OUT_OF_RANGE.map(String::from).to_vec(), too_great].concat(), 50);
 }
-
-const OUT_OF_RANGE: [&str; 14] = [
-    "bridge count",
-    "link count",
-    "view count",
-    "messages in flight",
-    "view",
-    "end that is no bridge",
-    "link with equal ends",
-    "received view",
-    "cost too large",
-    "link of a message",
-    "direction of a message",
-    "view of a message",
-    "number of a message",
-    "discarded number of a message",
-];
 
 /// At every place of a bench, also past the counts, every call refuses a number that does not fit.
 #[test]

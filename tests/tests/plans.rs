@@ -8,6 +8,7 @@ mod run;
 #[path = "plans/spoil.rs"]
 mod spoil;
 
+use bench_tests::plan_bytes::LONGEST;
 use bench_tests::random::Random;
 use run::{outcome, printed, root, run};
 use std::collections::BTreeMap;
@@ -15,8 +16,6 @@ use std::fs;
 use std::path::{Path, PathBuf};
 use std::process::Command;
 use std::time::{Duration, Instant};
-
-const LONGEST: usize = 61_440;
 
 fn text(bytes: Vec<u8>) -> String {
     String::from_utf8(bytes).expect("a text")

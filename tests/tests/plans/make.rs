@@ -1,5 +1,6 @@
 //! Random plans that keep to document 01 but for a rare slip.
 
+use bench_tests::plan_bytes::field;
 use bench_tests::random::Random;
 
 const MAX_COST: usize = 16_777_215;
@@ -15,11 +16,6 @@ pub struct Maker<'a> {
     cut: Vec<bool>,
     /// The link of each message in flight.
     pub flight: Vec<usize>,
-}
-
-pub fn field(tag: u8, value: &[u8]) -> Vec<u8> {
-    let length = u16::try_from(value.len()).expect("a short value").to_be_bytes();
-    [&[tag][..], &length, value].concat()
 }
 
 impl<'a> Maker<'a> {

@@ -1,7 +1,7 @@
 //! Random plans, most of which are refused somewhere: sensible ones spoilt at one point, and ones of arbitrary fields or bytes.
 
-use crate::make::{field, filled, Maker};
-use crate::LONGEST;
+use crate::make::{filled, Maker};
+use bench_tests::plan_bytes::{field, LONGEST};
 use bench_tests::random::Random;
 
 // ---- one point spoilt

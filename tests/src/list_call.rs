@@ -1,0 +1,77 @@
+//! The exported list of calls behind a safe function over the buffers that are lent to it. It has no `requires`, so any argument is
+//! allowed.
+
+use crate::guard::Buffer;
+use crate::network_call::Lent;
+
+// A slice passes as a pointer and then a length. Nothing checks this declaration against crates/exports/src/lists.rt.
+extern "C" {
+    fn bench_net_run(
+        bench: *mut u32,
+        bench_len: usize,
+        costs: *const u32,
+        costs_len: usize,
+        tables: *const u32,
+        tables_len: usize,
+        sent: *mut u32,
+        sent_len: usize,
+        held: *mut u32,
+        held_len: usize,
+        messages: *mut u32,
+        messages_len: usize,
+        rest: *const u8,
+        rest_len: usize,
+        ways: *mut u32,
+        ways_len: usize,
+        out: *mut u32,
+        out_len: usize,
+    ) -> u8;
+}
+
+/// How many numbers `ways` has for each call.
+pub const WAY: usize = 3;
+
+/// All that is lent to a list of calls: a network, whose `out` takes the counts, the bytes that are left of a plan, and room for paths.
+#[derive(Clone, Debug)]
+pub struct List {
+    pub lent: Lent,
+    pub rest: Buffer<u8>,
+    pub ways: Buffer,
+}
+
+impl List {
+    /// The calls that were made and the bytes that were used, where the reply was 0.
+    pub fn counts(&self) -> [usize; 2] {
+        [0, 1].map(|k| self.lent.out.numbers()[k] as usize)
+    }
+
+    pub fn run(&mut self) -> u8 {
+        let List { lent, rest, ways } = self;
+        let (b, c, t) = (lent.bench.numbers_mut(), lent.costs.numbers(), lent.tables.numbers());
+        let (s, h, m) = (lent.sent.numbers_mut(), lent.held.numbers_mut(), lent.messages.numbers_mut());
+        let (r, w, o) = (rest.numbers(), ways.numbers_mut(), lent.out.numbers_mut());
+        // SAFETY: each pointer comes with the length of its buffer, and no two buffers share memory.
+        unsafe {
+            bench_net_run(
+                b.as_mut_ptr(),
+                b.len(),
+                c.as_ptr(),
+                c.len(),
+                t.as_ptr(),
+                t.len(),
+                s.as_mut_ptr(),
+                s.len(),
+                h.as_mut_ptr(),
+                h.len(),
+                m.as_mut_ptr(),
+                m.len(),
+                r.as_ptr(),
+                r.len(),
+                w.as_mut_ptr(),
+                w.len(),
+                o.as_mut_ptr(),
+                o.len(),
+            )
+        }
+    }
+}

@@ -57,3 +57,5 @@ pub mod WalkSteps
 pub mod ChoiceSteps
 pub mod ChangeEntry
 pub mod FlightCalls
+pub mod CallLengths
+pub mod ListLaws

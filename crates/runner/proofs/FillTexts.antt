@@ -35,7 +35,7 @@ way-short start dest [] = omega arith
 way-short start dest (paths.delivered h ∷ ws) = length-deliveredText start dest h
 way-short start dest (paths.stops b h ∷ ws) = length-stopsText start dest b h
 
-text-short : (s : State) (rows : List ℕ) (e : Event) → replyOf s rows e ≡ 0 → length (textOf s rows e) ≤ 544
+pub text-short : (s : State) (rows : List ℕ) (e : Event) → replyOf s rows e ≡ 0 → length (textOf s rows e) ≤ 544
 unfolding textOf replyOf
 text-short s rows (Update y t) none = omega arith
 text-short s rows (Send y l) none = omega arith

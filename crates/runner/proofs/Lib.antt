@@ -11,3 +11,4 @@ pub mod RunWhole
 pub mod FillTexts
 pub mod FillTurns
 pub mod FillLaws
+pub mod ListSteps

@@ -8,6 +8,7 @@ use borrow.Author.Tests.{ne-eqb}
 use lib.ListN.{drop}
 use lib.Dec.{eqb}
 use Rattle.bench.specs.Calls.{Call}
+use Rattle.bench.specs.Lists.{callOf}
 use Rattle.bench.specs.State.{State}
 use Rattle.bench.specs.Whole.{runBy}
 use Rattle.bench.proofs.CallSteps.{run-none, run-next}
@@ -17,7 +18,7 @@ use Rattle.plan.specs.declared.Field.{Field}
 use Rattle.plan.specs.declared.Read.{Read}
 use Rattle.plan.proofs.Laws.{Told, field-told}
 use Rattle.runner.specs.Buffers.{Buffers, stateOn, progressOf}
-use Rattle.runner.specs.Events.{callOf, replyOf}
+use Rattle.runner.specs.Events.{replyOf}
 use Rattle.runner.specs.Turns.{Turn, lastTurn, eventTurn, fieldTurn, opened, stepOf}
 use Rattle.runner.specs.Whole.{Place, place, stateAt, callRead, calls, leaves}
 use Rattle.runner.specs.declared.Runner.{Runner}
@@ -50,7 +51,7 @@ event-ran fuel follows s e used r k rest = go (eqb (replyOf s (k .rows) e) 0) re
     go false q = rw q (record { state = sym (run-none s); stage = refl })
 
 -- at stage 3 none but an event is read, and the network stands already
-opened-on : (r : Runner) (k : Buffers) → r .stage ≡ 3 → opened r k ≡ stateOn (r .bench) k
+pub opened-on : (r : Runner) (k : Buffers) → r .stage ≡ 3 → opened r k ≡ stateOn (r .bench) k
 unfolding opened
 opened-on r k e = rw (ne-eqb (r .stage) 2 (omega arith))
 

@@ -12,6 +12,7 @@ use lib.Dec.{leb}
 use Rattle.distances.proofs.Booleans.{both-true}
 use Rattle.bench.specs.Calls.{Call}
 use Rattle.bench.specs.Changes.{freshOf}
+use Rattle.bench.specs.Lists.{callOf}
 use Rattle.bench.specs.State.{State}
 use Rattle.bench.specs.Whole.{runBy}
 use Rattle.bench.proofs.CallSteps.{fresh-leaves}
@@ -22,7 +23,6 @@ use Rattle.plan.specs.declared.Field.{Field}
 use Rattle.plan.specs.declared.Read.{Read}
 use Rattle.plan.proofs.Laws.{Told, field-told}
 use Rattle.runner.specs.Buffers.{Buffers, buffersLong, progressOf}
-use Rattle.runner.specs.Events.{callOf}
 use Rattle.runner.specs.Turns.{lastTurn, setupTurn, eventTurn, fieldTurn, opened, stepOf}
 use Rattle.runner.specs.Plans.{firstRunner, firstBuffers}
 use Rattle.runner.specs.Whole.{Place, place, stateAt, freshAt, calls, leaves, setsUp, NoEvent, RunsFrom, PlanRuns}

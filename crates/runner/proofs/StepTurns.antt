@@ -10,6 +10,7 @@ use lib.Dec.{eqb, leb}
 use Rattle.distances.proofs.Booleans.{both-true}
 use Rattle.bench.specs.State.{State, state}
 use Rattle.bench.specs.Changes.{freshOf}
+use Rattle.bench.specs.Lists.{callOf}
 use Rattle.bench.specs.declared.Bench.{Bench}
 use Rattle.bench.proofs.CallSteps.{step-lasting}
 use Rattle.plan.specs.Fields.{byte}
@@ -19,7 +20,7 @@ use Rattle.plan.specs.declared.Field.{Field}
 use Rattle.plan.specs.declared.Read.{Read}
 use Rattle.plan.proofs.Laws.{Told, field-size, field-told}
 use Rattle.runner.specs.Buffers.{Buffers, buffers, buffersLong, stateOn, progressOf}
-use Rattle.runner.specs.Events.{Happening, callOf, happenedOf, replyOf}
+use Rattle.runner.specs.Events.{Happening, happenedOf, replyOf}
 use Rattle.runner.specs.Turns.{Turn, turn, lastTurn, lastText, setupTurn, Opened, openedAs, opened, openedOf, eventTurn, fieldTurn, readTurn, stepOf, stopNumber, runnerInRange, fieldFits}
 use Rattle.runner.specs.declared.Runner.{Runner}
 use Rattle.runner.proofs.StepRefused.{refused-state, refused-rows}

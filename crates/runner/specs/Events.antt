@@ -5,7 +5,7 @@ use mathlib.Core.List.{List, [], _∷_}
 use lib.ListN.{length}
 use lib.Seq.{sets}
 use lib.Dec.{eqb}
-use Rattle.bench.specs.Calls.{Call, change, update, cut, restore, send, deliver, repeat, lose, report, path}
+use Rattle.bench.specs.Lists.{callOf}
 use Rattle.bench.specs.Paths as paths
 use Rattle.bench.specs.State.{State}
 use Rattle.bench.specs.Changes.{updateOf, cutOf, restoreOf}
@@ -18,18 +18,6 @@ use Rattle.bench.specs.declared.Way.{Way}
 use Rattle.plan.specs.declared.Event.{Event}
 use Rattle.plan.specs.declared.Event.the-variants.{Update, Send, Deliver, Repeat, Lose, Cut, Restore, Report, Path}
 use Rattle.text.specs.Lines.{reportText, deliveredText, stopsText}
-
--- the call of the bench that an event is
-abbrev pub callOf : Event → Call
-callOf (Update b t) = change (update b t)
-callOf (Send b l) = send b l
-callOf (Deliver p) = deliver p
-callOf (Repeat p) = repeat p
-callOf (Lose p) = lose p
-callOf (Cut l) = change (cut l)
-callOf (Restore l) = change (restore l)
-callOf (Report d) = report d
-callOf (Path s d) = path s d
 
 -- its number in document 01, by the call's contract; `rows` are the lent rows of a report
 unfoldable pub replyOf : State → List ℕ → Event → ℕ

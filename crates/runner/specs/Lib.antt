@@ -3,4 +3,5 @@ pub mod Events
 pub mod Turns
 pub mod Plans
 pub mod Fills
+pub mod Lists
 pub mod Whole

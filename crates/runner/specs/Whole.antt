@@ -8,13 +8,13 @@ use mathlib.Core.List.{List, [], _∷_, _++_}
 use lib.ListN.{length, drop}
 use Rattle.bench.specs.Calls.{Call}
 use Rattle.bench.specs.Changes.{freshOf}
+use Rattle.bench.specs.Lists.{callOf}
 use Rattle.bench.specs.State.{State}
 use Rattle.bench.specs.Whole.{runBy, freshBy, Meets}
 use Rattle.plan.specs.Reading.{readReply}
 use Rattle.plan.specs.declared.Field.{Field}
 use Rattle.plan.specs.declared.Read.{Read}
 use Rattle.runner.specs.Buffers.{Buffers, stateOn, progressOf}
-use Rattle.runner.specs.Events.{callOf}
 use Rattle.runner.specs.Turns.{Turn, stepOf}
 use Rattle.runner.specs.Plans.{firstRunner, firstBuffers, prints}
 use Rattle.runner.specs.declared.Runner.{Runner}

@@ -102,7 +102,7 @@ begins rest t used written = record { fuel = suc (length rest); enough = most (t
     most true = omega arith
     most false = omega arith
 
-fills-more : (fuel : ℕ) (t : Turn) (rest : List ℕ) → stepsOn t ≡ true → fills (suc fuel) t rest ≡ fills fuel (stepOn t rest) rest
+pub fills-more : (fuel : ℕ) (t : Turn) (rest : List ℕ) → stepsOn t ≡ true → fills (suc fuel) t rest ≡ fills fuel (stepOn t rest) rest
 unfolding fills
 fills-more fuel t rest on = rw on
 

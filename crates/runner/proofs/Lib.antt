@@ -12,3 +12,4 @@ pub mod FillTexts
 pub mod FillTurns
 pub mod FillLaws
 pub mod ListSteps
+pub mod ListTurns

@@ -29,7 +29,7 @@ use Rattle.runner.specs.declared.Runner.{Runner}
 
 -- ---- texts are short
 
-way-short : (start dest : ℕ) (ways : List paths.Way) → length (wayText start dest ways) ≤ 544
+pub way-short : (start dest : ℕ) (ways : List paths.Way) → length (wayText start dest ways) ≤ 544
 unfolding wayText
 way-short start dest [] = omega arith
 way-short start dest (paths.delivered h ∷ ws) = length-deliveredText start dest h

@@ -13,3 +13,4 @@ pub mod FillTurns
 pub mod FillLaws
 pub mod ListSteps
 pub mod ListTurns
+pub mod ListTexts

@@ -26,7 +26,7 @@ use Rattle.runner.specs.Buffers.{buffers}
 use Rattle.runner.specs.Events.{textOf}
 use Rattle.runner.specs.Turns.{Turn, turn}
 use Rattle.runner.specs.Fills.{stepOn, stepsOn, fills}
-use Rattle.runner.specs.Lists.{eventText, readTold, textsTold}
+use Rattle.runner.specs.Lists.{eventText, readText, listTexts}
 use Rattle.runner.proofs.FillTurns.{fills-more}
 use Rattle.runner.proofs.ListSteps.{stateAt, Roomy, eventOn, made-text, steps-on, event-short, step-on-event}
 
@@ -50,7 +50,7 @@ puts-both out a b w =
 module _ (rest : List ℕ) where
   -- the texts of a list, and the turn with it carried out
   abbrev pub textsOn : Turn → Ran → List ℕ
-  textsOn t r = textsTold (r .calls) (lists.progressOf (t .runner .bench)) (drop (t .used) rest) (r .ways)
+  textsOn t r = listTexts (r .calls) (lists.progressOf (t .runner .bench)) (drop (t .used) rest) (r .ways)
 
   abbrev pub listOn : Turn → Ran → Turn
   listOn t r =
@@ -60,7 +60,7 @@ module _ (rest : List ℕ) where
 
   -- no event
   none-on : (k : ℕ) (t : Turn) (ways : List ℕ) → Roomy rest k t → t ≡ listOn t (ran 0 0 (stateAt t) ways)
-  unfolding textsTold
+  unfolding listTexts
   none-on k t ways roomy = rw (add-zero, add-zero, add-zero, add-zero, ← roomy .stage, ← roomy .going)
 
   module _ (k : ℕ) (t : Turn) (roomy : Roomy rest (suc k) t) (e : Event) (used : ℕ)
@@ -97,7 +97,7 @@ module _ (rest : List ℕ) where
       whole = ran (suc (r .calls)) (used + r .used) (r .state) (wayAfter (stateAt t) e way ++ r .ways)
 
       texts-on : textsOn t whole ≡ textOf (stateAt t) (t .buffers .rows) e ++ textsOn (eventOn t e used) r
-      unfolding textsTold readTold
+      unfolding listTexts readText
       texts-on =
           let three : length (wayAfter (stateAt t) e way) ≡ 3 = length-way (stateAt t) e way ∙ long in
           rw (read, take-at (wayAfter (stateAt t) e way) (r .ways) 3 three, drop-at (wayAfter (stateAt t) e way) (r .ways) 3 three, made-text (stateAt t) (t .buffers .rows) e way ok long, progress-kept, drop-drop)

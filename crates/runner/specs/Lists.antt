@@ -1,5 +1,5 @@
 -- Fields that are carried out in a list, for private functions: what they print, and the steps that they are. Assumes nothing.
-use Prim.Native.Nat.{ℕ, zero, suc}
+use Prim.Native.Nat.{ℕ, zero, suc, _+_, _≤_}
 use mathlib.Core.Path.{_≡_}
 use mathlib.Core.Bool.{true, false, cond}
 use mathlib.Core.List.{List, [], _∷_, _++_}
@@ -15,6 +15,7 @@ use Rattle.plan.specs.declared.Read.{Read}
 use Rattle.runner.specs.Events.{wayText}
 use Rattle.runner.specs.Turns.{Turn}
 use Rattle.runner.specs.Fills.{fills}
+use Rattle.runner.specs.declared.Runner.{Runner}
 
 -- the path that three numbers tell, 0, 0 and its hops, or 1, its last bridge and its hops
 abbrev pub wayIn : List ℕ → paths.Way
@@ -32,27 +33,37 @@ eventText (Restore l) way = []
 eventText (Report d) way = []
 eventText (Path y d) way = wayText y d (wayIn way ∷ [])
 
--- the text of what was read, and the bytes that it takes
-pub record Told : Type 0 where
+-- the bytes that a field takes, and what it prints
+pub record FieldText : Type 0 where
   pub used : ℕ
   pub text : List ℕ
 
-abbrev pub told : ℕ → List ℕ → Told
-told used text = record { used = used; text = text }
+abbrev pub fieldText : ℕ → List ℕ → FieldText
+fieldText used text = record { used = used; text = text }
 
-unfoldable pub readTold : Read → List ℕ → Told
-readTold (Read.Field (Field.Event e) used) way = told used (eventText e way)
-readTold (Read.Field (Field.Bridges n) used) way = told used []
-readTold (Read.Field (Field.Link x y) used) way = told used []
-readTold (Read.Field Field.View used) way = told used []
-readTold (Read.Stop number) way = told 0 []
+unfoldable pub readText : Read → List ℕ → FieldText
+readText (Read.Field (Field.Event e) used) way = fieldText used (eventText e way)
+readText (Read.Field (Field.Bridges n) used) way = fieldText used []
+readText (Read.Field (Field.Link x y) used) way = fieldText used []
+readText (Read.Field Field.View used) way = fieldText used []
+readText (Read.Stop number) way = fieldText 0 []
+
+-- the field at the head of the bytes that are left, and the three numbers at the head of those of a list
+abbrev pub headText : Progress → List ℕ → List ℕ → FieldText
+headText p rest ways = readText (readReply rest p) (take 3 ways)
 
 -- the texts of so many fields, one behind the other
-unfoldable pub textsTold : ℕ → Progress → List ℕ → List ℕ → List ℕ
-textsTold zero p rest ways = []
-textsTold (suc k) p rest ways =
-    let o : Told = readTold (readReply rest p) (take 3 ways) in
-    o .text ++ textsTold k p (drop (o .used) rest) (drop 3 ways)
+unfoldable pub listTexts : ℕ → Progress → List ℕ → List ℕ → List ℕ
+listTexts zero p rest ways = []
+listTexts (suc k) p rest ways =
+    let o : FieldText = headText p rest ways in
+    o .text ++ listTexts k p (drop (o .used) rest) (drop 3 ways)
+
+-- the list is in range from here on: 60 events more, and the bytes that are left
+pub record ListFits (r : Runner) (left : ℕ) : Type 0 where
+  pub stage : r .stage ≡ 3
+  pub events : r .events ≤ 61380
+  pub offset : r .offset + left ≤ 61440
 
 -- one step on, or more
 pub record StepsMade (from : Turn) (rest : List ℕ) (t : Turn) : Type 0 where

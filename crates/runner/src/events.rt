@@ -185,7 +185,7 @@ fn report_event(
     }
 }
 
-fn path_text(out: &mut [u8], start: u8, dest: u8, way: bench::Way) -> usize
+pub(crate) fn path_text(out: &mut [u8], start: u8, dest: u8, way: bench::Way) -> usize
     requires { ⌜ (544 ≤ length (now out)) × wayFits way ⌝ }
     ensures { λ r. ⌜ line r (now (out .exit)) ≡ lineOf (wayText start dest (waySays way .value)) (now (out .entry)) ⌝ }
 {

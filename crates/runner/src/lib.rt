@@ -3,6 +3,7 @@ use bench::Bench;
 
 mod events;
 pub mod fills;
+mod lists;
 mod setup;
 pub mod steps;
 mod stops;

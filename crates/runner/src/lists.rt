@@ -1,0 +1,116 @@
+// Events that are carried out in a list: whether they can be, and the lines that they print.
+use crate::Runner;
+use crate::events::path_text;
+use bench::Way;
+use distances::ready::both;
+use plan::Event;
+use plan::Field;
+use plan::Progress;
+use plan::Read;
+ghost use mathlib.Core.Path.{_≡_};
+ghost use mathlib.Core.Bool.{true};
+ghost use mathlib.Core.List.{[], _∷_};
+ghost use Prim.Native.Nat.{_+_, _*_, _≤_};
+ghost use lib.ListN.{length};
+ghost use Rattle.agreement.specs.Call.{says};
+ghost use Rattle.bench.specs.Answers.{waySays};
+ghost use Rattle.text.specs.Writing.{Put};
+ghost use Rattle.runner.specs.Events.{wayFits, line, lineOf};
+ghost use Rattle.runner.specs.Lists.{wayIn, headText, listTexts, ListFits};
+
+// The bytes of a field, and the count of those that it prints.
+struct Told {
+    used: usize,
+    written: usize,
+}
+
+// The tag of the next field; a report's where no byte is left.
+pub(crate) fn tag_at(rest: &[u8], at: usize) -> u8 {
+    if at < rest.len() {
+        return rest[at];
+    }
+    11
+}
+
+// A list of events from here on stays in range, and a report does not stand at its head: no list carries out a report.
+pub(crate) fn list_fits(r: Runner, left: usize, tag: u8) -> bool
+    ensures { λ b. ⌜ (b ≡ true → ListFits r left) ⌝ }
+{
+    if 61440 < left {
+        return false;
+    }
+    both(
+        both(r.stage == 3, tag != 11),
+        both(r.events <= 61380, r.offset as usize <= 61440 - left),
+    )
+}
+
+// How many texts have room, up to 60.
+pub(crate) fn list_room(room: usize) -> usize
+    ensures { λ n. ⌜ (n ≤ 60) × (544 * n ≤ room) ⌝ }
+{
+    if 32640 <= room {
+        return 60;
+    }
+    room / 544
+}
+
+// The path that three numbers tell.
+fn way_of(stops: u32, last: u32, hops: u32) -> Way
+    ensures { λ w. ⌜ (waySays w ≡ says (wayIn (stops ∷ last ∷ hops ∷ []))) × wayFits w ⌝ }
+{
+    if stops == 0 {
+        return Way::Delivered(hops as usize);
+    }
+    Way::Stops(last as usize, hops as usize)
+}
+
+// The line of the field at the head of `rest`, which was carried out, by the three numbers at the head of `ways`.
+fn tell(rest: &[u8], p: Progress, ways: &[u32], out: &mut [u8]) -> Told
+    requires { ⌜ (3 ≤ length (now ways)) × (544 ≤ length (now out)) ⌝ }
+    ensures { λ r. ⌜ (r .used ≡ headText p (now (rest .entry)) (now (ways .entry)) .used) × (line (r .written) (now (out .exit)) ≡ lineOf (headText p (now (rest .entry)) (now (ways .entry)) .text) (now (out .entry))) ⌝ }
+{
+    let read = plan::fields::read_field(rest, p);
+    let Read::Field(field, used) = read else {
+        return Told {
+            used: 0,
+            written: 0,
+        };
+    };
+    let Field::Event(event) = field else {
+        return Told { used, written: 0 };
+    };
+    let Event::Path(start, dest) = event else {
+        return Told { used, written: 0 };
+    };
+    let way = way_of(ways[0], ways[1], ways[2]);
+    Told {
+        used,
+        written: path_text(out, start, dest, way),
+    }
+}
+
+// The lines of as many fields as `calls`, behind what is written.
+pub(crate) fn tell_all(
+    written: usize,
+    rest: &[u8],
+    p: Progress,
+    calls: usize,
+    ways: &[u32],
+    out: &mut [u8],
+) -> usize
+    requires { ⌜ (3 * calls ≤ length (now ways)) × (written + 544 * calls ≤ length (now out)) ⌝ }
+    ensures { λ r. ⌜ Put (now (out .entry)) written (listTexts calls p (now (rest .entry)) (now (ways .entry))) (now (out .exit)) r ⌝ }
+{
+    let mut end = written;
+    let mut at = 0;
+    let mut k = 0;
+    while k < calls {
+        let first = 3 * k;
+        let told = tell(&rest[at..], p, &ways[first..], &mut out[end..]);
+        at += told.used;
+        end += told.written;
+        k += 1;
+    }
+    end
+}

@@ -11,6 +11,7 @@ use Rattle.distances.proofs.Booleans.{both-true}
 use Rattle.runner.specs.Buffers.{Buffers, buffers}
 use Rattle.runner.specs.Turns.{Turn, turn, stepOf}
 use Rattle.runner.specs.Fills.{buffersWithOut, stepOn, stepsOn, fills, fillOf}
+use Rattle.runner.specs.Lists.{StepsMade}
 use Rattle.runner.specs.declared.Runner.{Runner}
 use Rattle.runner.proofs.RunFuel.{uses}
 use Rattle.runner.proofs.FillTexts.{step-within}
@@ -128,6 +129,16 @@ ended from rest t w off = go (w .fuel) (w .same)
     go zero e = e
     go (suc fuel) e = rw off at e
 
+-- steps on leave no more than there was
+fills-left : (fuel : ℕ) (rest : List ℕ) (t : Turn) → left (fills fuel t rest) rest ≤ left t rest
+unfolding fills
+fills-left zero rest t = omega arith
+fills-left (suc fuel) rest t = go (fills-left fuel rest (stepOn t rest)) (stepsOn t) refl
+  where
+    go : left (fills fuel (stepOn t rest) rest) rest ≤ left (stepOn t rest) rest → (b : Bool) → stepsOn t ≡ b → left (cond b (fills fuel (stepOn t rest) rest) t) rest ≤ left t rest
+    go less true on = omega (arith, less, fewer rest t on)
+    go less false off = omega arith
+
 -- ---- for the code: what its calls ensure
 
 pub begun : (r : Runner) (k : Buffers) (rest : List ℕ) (t : Turn) → t ≡ stepOf r k rest → Underway t rest t
@@ -137,26 +148,43 @@ pub tested : (t : Turn) (on test : Bool) → test ≡ (t .going && leb 544 (leng
 unfolding stepsOn
 tested t on test is e = sym is ∙ e
 
-pub onward : (from : Turn) (rest : List ℕ) (t u : Turn) → Underway from rest t → stepsOn t ≡ true → u ≡ stepOn t rest → Underway from rest u
-onward from rest t u w on e = subst (Underway from rest) (sym e) (turned from rest t w on)
+-- several steps on are on the way, too
+still-on : (from : Turn) (rest : List ℕ) (n : ℕ) (t : Turn) → Underway from rest t → Underway from rest (fills n t rest)
+unfolding fills
+still-on from rest zero t w = w
+still-on from rest (suc n) t w = go (still-on from rest n) (stepsOn t) refl
+  where
+    go : ((t : Turn) → Underway from rest t → Underway from rest (fills n t rest)) → (b : Bool) → stepsOn t ≡ b → Underway from rest (cond b (fills n (stepOn t rest) rest) t)
+    go later true on = later (stepOn t rest) (turned from rest t w on)
+    go later false off = w
 
-pub shrinks : (rest : List ℕ) (t u : Turn) → stepsOn t ≡ true → u ≡ stepOn t rest → left u rest < left t rest
-shrinks rest t u on e = rw e (fewer rest t on)
+pub onward : (from : Turn) (rest : List ℕ) (t u : Turn) → Underway from rest t → StepsMade t rest u → Underway from rest u
+onward from rest t u w m = subst (Underway from rest) (sym (m .is)) (still-on from rest (suc (m .more)) t w)
+
+pub shrinks : (rest : List ℕ) (t u : Turn) → stepsOn t ≡ true → StepsMade t rest u → left u rest < left t rest
+shrinks rest t u on m =
+    rw (m .is, fills-more (m .more) t rest on) (omega (arith, fills-left (m .more) rest (stepOn t rest), fewer rest t on))
+
+-- one step on
+pub one-made : (rest : List ℕ) (t u : Turn) → stepsOn t ≡ true → u ≡ stepOn t rest → StepsMade t rest u
+unfolding fills
+one-made rest t u on e = record { more = 0; is = e ∙ sym (fills-more 0 t rest on) }
+
+-- where nothing was done before
+pub one-made-kept :
+    (rest : List ℕ) (t u : Turn) (k : Buffers) → stepsOn t ≡ true → k ≡ t .buffers →
+    u ≡ stepOn (turn (t .reply) (t .going) (t .used) (t .written) (t .runner) k) rest → StepsMade t rest u
+one-made-kept rest t u k on same e = one-made rest t u on (rw same at e)
+
+pub goes-on : (t : Turn) → stepsOn t ≡ true → t .going ≡ true
+unfolding stepsOn
+goes-on t on = both-true (t .going) _ on .0
 
 pub filled : (r : Runner) (k : Buffers) (rest : List ℕ) (from t : Turn) → from ≡ stepOf r k rest → Underway from rest t → stepsOn t ≡ false → t ≡ fillOf r k rest
 unfolding fillOf
 filled r k rest from t e w off = ended from rest t w off ∙ ap (λ (z : Turn). fills (suc (length rest)) z rest) e
 
 -- ---- for callers: a filling keeps within what is lent, and where the plan goes on it has used some of it
-
-fills-left : (fuel : ℕ) (rest : List ℕ) (t : Turn) → left (fills fuel t rest) rest ≤ left t rest
-unfolding fills
-fills-left zero rest t = omega arith
-fills-left (suc fuel) rest t = go (fills-left fuel rest (stepOn t rest)) (stepsOn t) refl
-  where
-    go : left (fills fuel (stepOn t rest) rest) rest ≤ left (stepOn t rest) rest → (b : Bool) → stepsOn t ≡ b → left (cond b (fills fuel (stepOn t rest) rest) t) rest ≤ left t rest
-    go less true on = omega (arith, less, fewer rest t on)
-    go less false off = omega arith
 
 fills-used : (fuel : ℕ) (rest : List ℕ) (t : Turn) → t .used ≤ length rest → fills fuel t rest .used ≤ length rest
 unfolding fills

@@ -14,3 +14,4 @@ pub mod FillLaws
 pub mod ListSteps
 pub mod ListTurns
 pub mod ListTexts
+pub mod ListMade

@@ -1,5 +1,6 @@
 // Events that are carried out in a list: whether they can be, and the lines that they print.
 use crate::Runner;
+use crate::Stepped;
 use crate::events::path_text;
 use bench::Way;
 use distances::ready::both;
@@ -9,14 +10,16 @@ use plan::Progress;
 use plan::Read;
 ghost use mathlib.Core.Path.{_≡_};
 ghost use mathlib.Core.Bool.{true};
-ghost use mathlib.Core.List.{[], _∷_};
-ghost use Prim.Native.Nat.{_+_, _*_, _≤_};
+ghost use mathlib.Core.List.{List, [], _∷_};
+ghost use Prim.Native.Nat.{ℕ, _+_, _-_, _*_, _/_, _≤_};
 ghost use lib.ListN.{length};
 ghost use Rattle.agreement.specs.Call.{says};
 ghost use Rattle.bench.specs.Answers.{waySays};
 ghost use Rattle.text.specs.Writing.{Put};
 ghost use Rattle.runner.specs.Events.{wayFits, line, lineOf};
-ghost use Rattle.runner.specs.Lists.{wayIn, headText, listTexts, ListFits};
+ghost use Rattle.runner.specs.Buffers.{buffers};
+ghost use Rattle.runner.specs.Turns.{turn};
+ghost use Rattle.runner.specs.Lists.{wayIn, headText, listTexts, ListFits, MadeOrNot};
 
 // The bytes of a field, and the count of those that it prints.
 struct Told {
@@ -46,7 +49,7 @@ pub(crate) fn list_fits(r: Runner, left: usize, tag: u8) -> bool
 }
 
 // How many texts have room, up to 60.
-pub(crate) fn list_room(room: usize) -> usize
+fn list_room(room: usize) -> usize
     ensures { λ n. ⌜ (n ≤ 60) × (544 * n ≤ room) ⌝ }
 {
     if 32640 <= room {
@@ -113,4 +116,99 @@ pub(crate) fn tell_all(
         k += 1;
     }
     end
+}
+
+// The events at the head of what is left of the plan, as many as a list of calls makes. Where it makes none, nothing is done, and the
+// plan does not go on.
+fn list_on(
+    done: Stepped,
+    rest: &[u8],
+    costs: &[u32],
+    tables: &[u32],
+    sent: &mut [u32],
+    held: &mut [u32],
+    messages: &mut [u32],
+    out: &mut [u8],
+    ways: &mut [u32],
+) -> Stepped
+    requires { ⌜ (done .going ≡ true) × (done .used ≤ length (now rest)) × ListFits (done .runner) (length (now rest) - done .used) ⌝ }
+    requires { ⌜ (length (now ways) ≤ 180) × (done .written + 544 * (length (now ways) / 3) ≤ length (now out)) ⌝ }
+    ensures { λ s. ⌜ ((rows : List ℕ) → 32 ≤ length rows → MadeOrNot (turn (done .reply) (done .going) (done .used) (done .written) (done .runner) (buffers (now (costs .entry)) (now (tables .entry)) (now (sent .entry)) (now (held .entry)) (now (messages .entry)) rows (now (out .entry)))) (now (rest .entry)) (turn (s .reply) (s .going) (s .used) (s .written) (s .runner) (buffers (now (costs .entry)) (now (tables .entry)) (now (sent .exit)) (now (held .exit)) (now (messages .exit)) rows (now (out .exit))))) ⌝ }
+{
+    let used = done.used;
+    let written = done.written;
+    let r = done.runner;
+    let bench = r.bench;
+    let ran = bench::lists::run(
+        bench,
+        costs,
+        tables,
+        sent,
+        held,
+        messages,
+        &rest[used..],
+        ways,
+    );
+    let calls = ran.calls;
+    if calls == 0 {
+        return Stepped {
+            runner: r,
+            going: false,
+            used,
+            written,
+            reply: 0,
+        };
+    }
+    let p = Progress {
+        stage: 3,
+        bridges: bench.bridges,
+        links: bench.links,
+        views: bench.views,
+    };
+    let end = tell_all(written, &rest[used..], p, calls, ways, out);
+    let after = ran.bench;
+    let runner = Runner {
+        bench: after,
+        stage: 3,
+        events: r.events + calls as u32,
+        offset: r.offset + ran.used as u32,
+    };
+    Stepped {
+        runner,
+        going: true,
+        used: used + ran.used,
+        written: end,
+        reply: 0,
+    }
+}
+
+// As many events as their texts have room for in `out`, and 60 at most.
+pub(crate) fn list_in_room(
+    done: Stepped,
+    rest: &[u8],
+    costs: &[u32],
+    tables: &[u32],
+    sent: &mut [u32],
+    held: &mut [u32],
+    messages: &mut [u32],
+    out: &mut [u8],
+    ways: &mut [u32],
+) -> Stepped
+    requires { ⌜ (done .going ≡ true) × (done .used ≤ length (now rest)) × ListFits (done .runner) (length (now rest) - done .used) ⌝ }
+    requires { ⌜ (180 ≤ length (now ways)) × (done .written ≤ length (now out)) ⌝ }
+    ensures { λ s. ⌜ ((rows : List ℕ) → 32 ≤ length rows → MadeOrNot (turn (done .reply) (done .going) (done .used) (done .written) (done .runner) (buffers (now (costs .entry)) (now (tables .entry)) (now (sent .entry)) (now (held .entry)) (now (messages .entry)) rows (now (out .entry)))) (now (rest .entry)) (turn (s .reply) (s .going) (s .used) (s .written) (s .runner) (buffers (now (costs .entry)) (now (tables .entry)) (now (sent .exit)) (now (held .exit)) (now (messages .exit)) rows (now (out .exit))))) ⌝ }
+{
+    let written = done.written;
+    let past = 3 * list_room(out.len() - written);
+    list_on(
+        done,
+        rest,
+        costs,
+        tables,
+        sent,
+        held,
+        messages,
+        out,
+        &mut ways[..past],
+    )
 }

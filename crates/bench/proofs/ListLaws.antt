@@ -6,7 +6,7 @@ use mathlib.Core.Bool.{Bool, true, false, cond, false≢true}
 use mathlib.Core.List.{List, [], _∷_, _++_}
 use borrow.Author.Tests.{eqb-true, ne-eqb}
 use lib.ListN.{length, take, drop, length-drop}
-use lib.Seq.{sets, length-sets}
+use lib.Seq.{sets}
 use lib.Dec.{eqb}
 use Rattle.plan.specs.Reading.{readReply}
 use Rattle.plan.specs.declared.Event.{Event}
@@ -19,12 +19,12 @@ use Rattle.bench.specs.Paths as paths
 use Rattle.bench.specs.Paths.{onward}
 use Rattle.bench.specs.Calls as calls
 use Rattle.bench.specs.State.{State, network}
-use Rattle.bench.specs.Changes.{refusalOf, orRefused, stateInRange, updateOf, cutOf, restoreOf}
+use Rattle.bench.specs.Changes.{refusalOf, stateInRange, updateOf, cutOf, restoreOf}
 use Rattle.bench.specs.Flights.{sendOf, loseOf}
 use Rattle.bench.specs.Deliveries.{refusedBy, deliverOf, repeatOf, deliveryReady}
 use Rattle.bench.specs.Answers.{hopIn, pathOf}
 use Rattle.bench.specs.Whole.{stepBy}
-use Rattle.bench.specs.Lists.{callOf, isMade, wayNumbers, wayAfter, Made, made, eventMade, readMade, progressOf, firstMade, Ran, ran, runs, listed, listOf}
+use Rattle.bench.specs.Lists.{callOf, isMade, wayNumbers, wayAfter, made, eventMade, readMade, progressOf, firstMade, Ran, ran, runs, listed, listOf}
 use Rattle.bench.proofs.TieRanges.{StateReady, told}
 
 -- the outcome of an event that is made: accepted
@@ -126,18 +126,6 @@ module _ (s : State) where
       go : (b : Bool) → eqb k 0 ≡ b → eqb (cond b found (refusedBy k) .number) 0 ≡ true → PathTold (cond b found (refusedBy k) .value) (sets way 0 (wayNumbers (cond b found (refusedBy k) .value)))
       go true none ok = way-told _ way long
       go false some ok = absurd (false≢true (sym some ∙ ok))
-
-  pub length-way : (e : Event) (way : List ℕ) → length (wayAfter s e way) ≡ length way
-  unfolding wayAfter
-  length-way (Update b t) way = refl
-  length-way (Send b l) way = refl
-  length-way (Deliver p) way = refl
-  length-way (Repeat p) way = refl
-  length-way (Lose p) way = refl
-  length-way (Cut l) way = refl
-  length-way (Restore l) way = refl
-  length-way (Report d) way = refl
-  length-way (Path y d) way = length-sets way 0 (wayNumbers (pathOf s y d .value))
 
 -- ---- the whole list
 

@@ -167,7 +167,7 @@ pub record FirstTold (s : State) (rest way : List ℕ) (m : Made) : Type 0 where
   pub within : m .used ≤ length rest
   pub long : length (m .way) ≡ length way
 
-way-length : (s : State) (e : Event) (way : List ℕ) → length (wayAfter s e way) ≡ length way
+pub way-length : (s : State) (e : Event) (way : List ℕ) → length (wayAfter s e way) ≡ length way
 unfolding wayAfter
 way-length s (Update y t) way = refl
 way-length s (Send y l) way = refl

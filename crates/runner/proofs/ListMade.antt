@@ -2,10 +2,10 @@
 use Prim.Native.Nat.{ℕ, zero, suc, _+_, _-_, _*_, _/_, _≤_}
 use native.Mathlib.Omega.{arith}
 use mathlib.Core.Path.{_≡_, refl, sym, ap, subst, _∙_}
-use mathlib.Core.Bool.{Bool, true, false, false≢true}
+use mathlib.Core.Bool.{true, false, false≢true}
 use mathlib.Core.List.{List}
 use lib.ListN.{length, take, drop, length-drop}
-use lib.Seq.{sets, take-all}
+use lib.Seq.{take-all}
 use Rattle.bench.specs.State.{State}
 use Rattle.bench.specs.Lists.{Ran, ran, runs, Listed, listed, listOf}
 use Rattle.bench.specs.Lists as lists
@@ -17,7 +17,7 @@ use Rattle.runner.specs.Fills.{fills}
 use Rattle.runner.specs.Lists.{listTexts, ListFits, StepsMade, MadeOrNot}
 use Rattle.runner.specs.declared.Runner.{Runner}
 use Rattle.runner.proofs.ListSteps.{stateAt, Roomy}
-use Rattle.runner.proofs.ListTurns.{replyAfter, listOn, list-steps}
+use Rattle.runner.proofs.ListTurns.{listOn, list-steps}
 
 -- the buffers with a state of the bench, and bytes to be printed
 abbrev pub buffersOf : State → List ℕ → List ℕ → Buffers

@@ -1,35 +1,31 @@
 -- An event that is made in a list is a step on: its number is 0, and its text is told by its three numbers. Assumes nothing.
-use Prim.Native.Nat.{ℕ, zero, suc, _+_, _-_, _*_, _≤_, _<_}
+use Prim.Native.Nat.{ℕ, suc, _+_, _-_, _*_, _≤_}
 use native.Mathlib.Omega.{arith}
 use mathlib.Core.Path.{_≡_, refl, sym, ap, _∙_}
-use mathlib.Core.Bool.{Bool, true, false, cond, _&&_}
+use mathlib.Core.Bool.{true}
 use mathlib.Core.List.{List, [], _∷_, _++_, append-assoc}
 use borrow.Author.Tests.{le-leb}
 use lib.ListN.{length, take, drop, length-drop}
 use lib.Seq.{sets, sets-eq, drop-drop}
-use lib.Dec.{leb}
 use Rattle.distances.proofs.Booleans.{true-both}
 use Rattle.bench.specs.Paths as paths
 use Rattle.bench.specs.State.{State}
-use Rattle.bench.specs.Answers.{pathOf}
-use Rattle.bench.specs.Lists.{callOf, isMade, wayAfter}
+use Rattle.bench.specs.Lists.{isMade, wayAfter}
 use Rattle.bench.specs.Lists as lists
 use Rattle.bench.proofs.ListLaws.{made-by, PathTold, delivers, stays, path-told}
 use Rattle.plan.specs.Reading.{readReply}
 use Rattle.plan.specs.declared.Event.{Event}
 use Rattle.plan.specs.declared.Event.the-variants.{Update, Send, Deliver, Repeat, Lose, Cut, Restore, Report, Path}
 use Rattle.plan.specs.declared.Field.{Field}
-use Rattle.plan.specs.declared.Progress.{Progress}
 use Rattle.plan.specs.declared.Read.{Read}
-use Rattle.runner.specs.Buffers.{Buffers, buffers, buffersLong, stateOn, progressOf}
+use Rattle.runner.specs.Buffers.{buffers, buffersLong, stateOn, progressOf}
 use Rattle.runner.specs.Events.{replyOf, rowsAfter, textOf, wayText, stateAfter}
-use Rattle.runner.specs.Turns.{Turn, turn, opened, eventTurn, fieldTurn, readTurn, runnerInRange, stepOf}
+use Rattle.runner.specs.Turns.{Turn, turn, eventTurn, fieldTurn, readTurn, runnerInRange, stepOf}
 use Rattle.runner.specs.Fills.{stepOn, stepsOn}
 use Rattle.runner.specs.Lists.{wayIn, eventText}
-use Rattle.runner.specs.declared.Runner.{Runner}
 use Rattle.runner.proofs.RunEvents.{opened-on}
 use Rattle.runner.proofs.FillTexts.{text-short}
-use Rattle.runner.proofs.FillTurns.{buffersBehind, restBehind, next}
+use Rattle.runner.proofs.FillTurns.{buffersBehind, next}
 
 -- ---- the event
 

@@ -1,23 +1,22 @@
 -- A list of events is so many steps on, with their texts one behind the other. Assumes nothing.
-use Prim.Native.Nat.{ℕ, zero, suc, _+_, _-_, _*_, _≤_}
+use Prim.Native.Nat.{ℕ, zero, suc, _+_, _*_, _≤_}
 use native.Mathlib.Nat.{add-zero}
 use native.Mathlib.Omega.{arith}
 use mathlib.Core.Path.{_≡_, refl, sym, ap, subst, _∙_}
-use mathlib.Core.Bool.{Bool, true, cond}
-use mathlib.Core.List.{List, [], _++_}
-use lib.ListN.{length, take, drop, length-append, length-drop}
+use mathlib.Core.Bool.{true}
+use mathlib.Core.List.{List, _++_}
+use lib.ListN.{length, take, drop, length-drop}
 use lib.Seq.{sets, length-sets, length-take-le, take-at, drop-at, drop-drop}
-use Rattle.bench.specs.State.{State}
 use Rattle.bench.specs.Whole.{stepBy}
 use Rattle.bench.specs.Lists.{callOf, isMade, wayAfter, Ran, ran, runs}
 use Rattle.bench.specs.Lists as lists
 use Rattle.bench.proofs.CallLengths.{step-kept}
 use Rattle.bench.proofs.CallSteps.{step-lasting}
-use Rattle.bench.proofs.ListLaws.{Next, stops, goes, runs-none, runs-next, length-way}
+use Rattle.bench.proofs.ListLaws.{Next, stops, goes, runs-none, runs-next}
+use Rattle.bench.proofs.ListSteps.{way-length}
 use Rattle.plan.specs.Reading.{readReply}
 use Rattle.plan.specs.declared.Event.{Event}
 use Rattle.plan.specs.declared.Field.{Field}
-use Rattle.plan.specs.declared.Progress.{Progress}
 use Rattle.plan.specs.declared.Read.{Read}
 use Rattle.plan.proofs.Laws.{field-size}
 use Rattle.text.specs.Writing.{Put}
@@ -25,8 +24,8 @@ use Rattle.text.proofs.Puts.{joined}
 use Rattle.runner.specs.Buffers.{buffers}
 use Rattle.runner.specs.Events.{textOf}
 use Rattle.runner.specs.Turns.{Turn, turn}
-use Rattle.runner.specs.Fills.{stepOn, stepsOn, fills}
-use Rattle.runner.specs.Lists.{eventText, readText, listTexts}
+use Rattle.runner.specs.Fills.{fills}
+use Rattle.runner.specs.Lists.{readText, listTexts}
 use Rattle.runner.proofs.FillTurns.{fills-more}
 use Rattle.runner.proofs.ListSteps.{stateAt, Roomy, eventOn, made-text, steps-on, event-short, step-on-event}
 
@@ -99,7 +98,7 @@ module _ (rest : List ℕ) where
       texts-on : textsOn t whole ≡ textOf (stateAt t) (t .buffers .rows) e ++ textsOn (eventOn t e used) r
       unfolding listTexts readText
       texts-on =
-          let three : length (wayAfter (stateAt t) e way) ≡ 3 = length-way (stateAt t) e way ∙ long in
+          let three : length (wayAfter (stateAt t) e way) ≡ 3 = way-length (stateAt t) e way ∙ long in
           rw (read, take-at (wayAfter (stateAt t) e way) (r .ways) 3 three, drop-at (wayAfter (stateAt t) e way) (r .ways) 3 three, made-text (stateAt t) (t .buffers .rows) e way ok long, progress-kept, drop-drop)
 
       list-on : listOn (eventOn t e used) r ≡ listOn t whole

@@ -75,7 +75,17 @@ fn steps_listed(
     ensures { λ s. ⌜ StepsMade (turn (done .reply) (done .going) (done .used) (done .written) (done .runner) (buffers (now (costs .entry)) (now (tables .entry)) (now (sent .entry)) (now (held .entry)) (now (messages .entry)) (now (rows .entry)) (now (out .entry)))) (now (rest .entry)) (turn (s .reply) (s .going) (s .used) (s .written) (s .runner) (buffers (now (costs .exit)) (now (tables .exit)) (now (sent .exit)) (now (held .exit)) (now (messages .exit)) (now (rows .exit)) (now (out .exit)))) ⌝ }
 {
     let mut ways = [0u32; 180];
-    let next = list_in_room(done, rest, costs, tables, sent, held, messages, out, &mut ways);
+    let next = list_in_room(
+        done,
+        rest,
+        costs,
+        tables,
+        sent,
+        held,
+        messages,
+        out,
+        &mut ways,
+    );
     if next.going {
         return next;
     }

@@ -1,19 +1,15 @@
+-- `fills::fill` meets its contract: the steps go on from the first as the definition's do. Assumes nothing.
+use native.Mathlib.Omega.{arith}
+use mathlib.Core.Path.{_≡_, refl}
+use mathlib.Core.Bool.{true, false}
 use borrow.Author.Needs.{needs}
-use Rattle.runner.proofs.FillTurns.{left, Underway, begun, tested, onward, shrinks, filled}
+use lib.ListN.{length}
 use Rattle.runner.specs.declared.Stepped.{Stepped}
 use Rattle.runner.specs.Turns.{Turn, turn}
 use Rattle.runner.specs.Buffers.{Buffers, buffers}
-use lib.ListN.{length}
-use mathlib.Core.Path.{_≡_, refl}
-use mathlib.Core.Bool.{true, false}
-use native.Mathlib.Omega.{arith}
+use Rattle.runner.proofs.FillTurns.{left, Underway, begun, tested, onward, shrinks, filled}
 use Rattle.runner.proofs.fills.fill.Statement.{statement}
 use Rattle.runner.proofs.fills.fill.Tie as tie
-use Rattle.runner.proofs.fills.fill.Reads as reads
-use Rattle.runner.proofs.fills.fill.Lts as lts
-use Rattle.runner.proofs.fills.steps_more.Reads as steps-more-reads
-use Rattle.runner.proofs.fills.steps_on.Reads as steps-on-reads
-use Rattle.runner.proofs.steps.step.Reads as step-reads
 
 abbrev turnOf : Stepped → Buffers → Turn
 turnOf s k = turn (s .reply) (s .going) (s .used) (s .written) (s .runner) k
@@ -33,69 +29,55 @@ abbrev μ-loop : tie.MeasureT-loop
 μ-loop rest costs₀ tables₀ sent₀ held₀ messages₀ rows₀ out₀ done₀ costs tables sent held messages rows out done =
     left (turnOf done (buffers costs tables sent held messages rows out)) rest
 
--- src/fills.rt:127:9
 step-requires : tie.Need-step-requires Inv-loop μ-loop
 step-requires c κs = search needs
 
--- src/fills.rt:128:5
 loop-holds : tie.Need-loop-holds Inv-loop μ-loop
 loop-holds c = (begun _ _ _ _ (c .before .before .before .before .before .before .before .before .before .before .before .before .before .before .step .ensures), refl, refl, refl, refl, refl, refl, refl)
 
--- src/fills.rt:128:11
 steps-on-requires : tie.Need-steps-on-requires Inv-loop μ-loop
 steps-on-requires c κs = c .loop .inv .0 .written
 
--- src/fills.rt:129:9
 steps-more-requires : tie.Need-steps-more-requires Inv-loop μ-loop
 steps-more-requires c κs = (c .before .before .before .before .before .before .before .before .before .loop .inv .0 .used, c .before .before .before .before .before .before .before .before .before .loop .inv .0 .written, tested _ true _ (c .before .before .before .before .before .before .before .before .steps-on .ensures) (c .before .before .before .before .before .before .before .if1 .taken))
 
--- src/fills.rt:128:5
 loop-less : tie.Need-loop-less Inv-loop μ-loop
 loop-less c = shrinks _ _ _ (tested _ true _ (c .before .before .before .before .before .before .before .before .before .before .before .before .before .before .before .before .before .before .before .before .before .before .before .steps-on .ensures) (c .before .before .before .before .before .before .before .before .before .before .before .before .before .before .before .before .before .before .before .before .before .before .if1 .taken)) (c .before .before .before .before .before .before .before .before .before .before .before .before .before .before .steps-more .ensures)
 
--- src/fills.rt:128:5
 loop-again : tie.Need-loop-again Inv-loop μ-loop
 loop-again c = let kept = c .before .before .before .before .before .before .before .before .before .before .before .before .before .before .steps-more .kept in
-  let old = c .before .before .before .before .before .before .before .before .before .before .before .before .before .before .before .before .before .before .before .before .before .before .before .before .loop .inv in (
-  onward _ _ _ _ (old .0) (c .before .before .before .before .before .before .before .before .before .before .before .before .before .before .steps-more .ensures),
-  omega (arith, kept, old .1),
-  omega (arith, kept, old .2),
-  omega (arith, kept, old .3),
-  omega (arith, kept, old .4),
-  omega (arith, kept, old .5),
-  omega (arith, kept, old .6),
-  omega (arith, kept, old .7),
-  )
+    let old = c .before .before .before .before .before .before .before .before .before .before .before .before .before .before .before .before .before .before .before .before .before .before .before .before .loop .inv in (
+      onward _ _ _ _ (old .0) (c .before .before .before .before .before .before .before .before .before .before .before .before .before .before .steps-more .ensures),
+      omega (arith, kept, old .1),
+      omega (arith, kept, old .2),
+      omega (arith, kept, old .3),
+      omega (arith, kept, old .4),
+      omega (arith, kept, old .5),
+      omega (arith, kept, old .6),
+      omega (arith, kept, old .7),
+    )
 
--- src/fills.rt:114:1
 same-length : tie.Need-same-length Inv-loop μ-loop
 same-length c = omega (arith, c .before .before .loop .inv .1, c .before .before .before .before .before .before .before .before .before .before .before .before .before .before .before .before .before .step .kept)
 
--- src/fills.rt:114:1
 same-length-2 : tie.Need-same-length-2 Inv-loop μ-loop
 same-length-2 c = omega (arith, c .before .before .loop .inv .2, c .before .before .before .before .before .before .before .before .before .before .before .before .before .before .before .before .before .step .kept)
 
--- src/fills.rt:114:1
 same-length-3 : tie.Need-same-length-3 Inv-loop μ-loop
 same-length-3 c = omega (arith, c .before .before .loop .inv .3, c .before .before .before .before .before .before .before .before .before .before .before .before .before .before .before .before .before .step .kept)
 
--- src/fills.rt:114:1
 same-length-4 : tie.Need-same-length-4 Inv-loop μ-loop
 same-length-4 c = omega (arith, c .before .before .loop .inv .4, c .before .before .before .before .before .before .before .before .before .before .before .before .before .before .before .before .before .step .kept)
 
--- src/fills.rt:114:1
 same-length-5 : tie.Need-same-length-5 Inv-loop μ-loop
 same-length-5 c = omega (arith, c .before .before .loop .inv .5, c .before .before .before .before .before .before .before .before .before .before .before .before .before .before .before .before .before .step .kept)
 
--- src/fills.rt:114:1
 same-length-6 : tie.Need-same-length-6 Inv-loop μ-loop
 same-length-6 c = omega (arith, c .before .before .loop .inv .6, c .before .before .before .before .before .before .before .before .before .before .before .before .before .before .before .before .before .step .kept)
 
--- src/fills.rt:114:1
 same-length-7 : tie.Need-same-length-7 Inv-loop μ-loop
 same-length-7 c = omega (arith, c .before .before .loop .inv .7, c .before .before .before .before .before .before .before .before .before .before .before .before .before .before .before .before .before .step .kept)
 
--- src/fills.rt:114:1
 returns : tie.Need-returns Inv-loop μ-loop
 returns c = filled _ _ _ _ _ (c .before .before .before .before .before .before .before .before .before .before .before .before .before .before .before .before .before .step .ensures) (c .before .before .loop .inv .0) (tested _ false _ (c .before .steps-on .ensures) (c .if1 .left))
 

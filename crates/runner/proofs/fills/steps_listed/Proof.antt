@@ -1,14 +1,11 @@
-use Rattle.runner.proofs.FillTurns.{one-made-kept, goes-on}
-use Rattle.runner.specs.Turns.{Turn, turn}
-use Rattle.runner.specs.Buffers.{buffers}
+-- `fills::steps_listed` meets its contract: the steps of a list, or one step where no call was made. Assumes nothing.
 use native.Mathlib.Omega.{arith}
 use borrow.Author.Needs.{needs}
+use Rattle.runner.specs.Turns.{Turn, turn}
+use Rattle.runner.specs.Buffers.{buffers}
+use Rattle.runner.proofs.FillTurns.{one-made-kept, goes-on}
 use Rattle.runner.proofs.fills.steps_listed.Statement.{statement}
 use Rattle.runner.proofs.fills.steps_listed.Tie as tie
-use Rattle.runner.proofs.fills.steps_listed.Reads as reads
-use Rattle.runner.proofs.fills.steps_listed.Lts as lts
-use Rattle.runner.proofs.fills.step_on.Reads as step-on-reads
-use Rattle.runner.proofs.lists.list_in_room.Reads as list-in-room-reads
 
 -- the turn that is handed over
 abbrev TurnOf : tie.Start → Turn
@@ -17,75 +14,57 @@ TurnOf s =
     turn (a .done .reply) (a .done .going) (a .done .used) (a .done .written) (a .done .runner)
     (buffers (a .costs .now) (a .tables .now) (a .sent .now) (a .held .now) (a .messages .now) (a .rows .now) (a .out .now))
 
--- src/fills.rt:78:83
 slice-aggregate-list-in-room : tie.Need-slice-aggregate-list-in-room
 slice-aggregate-list-in-room c = search needs
 
--- src/fills.rt:78:9
 list-in-room-requires : tie.Need-list-in-room-requires
 list-in-room-requires c κs = ((goes-on (TurnOf (c .before .before .before .before .before .before .before .before .before .before .before .before .before .before .before)) (c .before .before .before .before .before .before .before .before .before .before .before .before .before .before .before .pre .0 .2), c .before .before .before .before .before .before .before .before .before .before .before .before .before .before .before .pre .0 .0, c .before .before .before .before .before .before .before .before .before .before .before .before .before .before .before .pre .1 .0), (search needs, c .before .before .before .before .before .before .before .before .before .before .before .before .before .before .before .pre .0 .1))
 
--- src/fills.rt:80:9
 same-length : tie.Need-same-length
 same-length c = search needs
 
--- src/fills.rt:80:9
 same-length-2 : tie.Need-same-length-2
 same-length-2 c = search needs
 
--- src/fills.rt:80:9
 same-length-3 : tie.Need-same-length-3
 same-length-3 c = search needs
 
--- src/fills.rt:80:9
 same-length-4 : tie.Need-same-length-4
 same-length-4 c = search needs
 
--- src/fills.rt:80:9
 same-length-5 : tie.Need-same-length-5
 same-length-5 c = search needs
 
--- src/fills.rt:80:9
 same-length-6 : tie.Need-same-length-6
 same-length-6 c = search needs
 
--- src/fills.rt:80:9
 returns : tie.Need-returns
 returns c = c .before .before .before .before .before .before .before .before .before .before .list-in-room .ensures _ (c .before .before .before .before .before .before .before .before .before .before .before .before .before .before .before .before .before .before .before .before .before .before .before .before .before .before .pre .1 .1) .made (c .if1 .taken)
 
--- src/fills.rt:82:5
 step-on-requires : tie.Need-step-on-requires
 step-on-requires c κs = (c .before .before .before .before .before .before .before .before .before .before .before .before .before .before .before .before .before .before .before .before .before .before .before .before .before .before .before .before .before .before .before .before .before .pre .0 .0, omega (arith, c .before .before .before .before .before .before .before .before .before .before .before .before .before .before .before .before .before .before .before .before .before .before .before .before .before .before .before .before .before .before .before .before .before .pre .0 .1, c .before .before .before .before .before .before .before .before .before .before .before .before .before .before .before .before .before .list-in-room .kept))
 
--- src/fills.rt:62:1
 same-length-7 : tie.Need-same-length-7
 same-length-7 c = search needs
 
--- src/fills.rt:62:1
 same-length-8 : tie.Need-same-length-8
 same-length-8 c = search needs
 
--- src/fills.rt:62:1
 same-length-9 : tie.Need-same-length-9
 same-length-9 c = omega (arith, c .before .before .before .before .before .before .before .before .before .before .before .before .before .before .step-on .kept, c .before .before .before .before .before .before .before .before .before .before .before .before .before .before .before .before .before .before .before .before .before .before .before .before .before .before .before .before .before .before .before .before .list-in-room .kept)
 
--- src/fills.rt:62:1
 same-length-10 : tie.Need-same-length-10
 same-length-10 c = omega (arith, c .before .before .before .before .before .before .before .before .before .before .before .before .before .before .step-on .kept, c .before .before .before .before .before .before .before .before .before .before .before .before .before .before .before .before .before .before .before .before .before .before .before .before .before .before .before .before .before .before .before .before .list-in-room .kept)
 
--- src/fills.rt:62:1
 same-length-11 : tie.Need-same-length-11
 same-length-11 c = omega (arith, c .before .before .before .before .before .before .before .before .before .before .before .before .before .before .step-on .kept, c .before .before .before .before .before .before .before .before .before .before .before .before .before .before .before .before .before .before .before .before .before .before .before .before .before .before .before .before .before .before .before .before .list-in-room .kept)
 
--- src/fills.rt:62:1
 same-length-12 : tie.Need-same-length-12
 same-length-12 c = omega (arith, c .before .before .before .before .before .before .before .before .before .before .before .before .before .before .step-on .kept, c .before .before .before .before .before .before .before .before .before .before .before .before .before .before .before .before .before .before .before .before .before .before .before .before .before .before .before .before .before .before .before .before .list-in-room .kept)
 
--- src/fills.rt:62:1
 same-length-13 : tie.Need-same-length-13
 same-length-13 c = omega (arith, c .before .before .before .before .before .before .before .before .before .before .before .before .before .before .step-on .kept, c .before .before .before .before .before .before .before .before .before .before .before .before .before .before .before .before .before .before .before .before .before .before .before .before .before .before .before .before .before .before .before .before .list-in-room .kept)
 
--- src/fills.rt:62:1
 returns-2 : tie.Need-returns-2
 returns-2 c = one-made-kept _ (TurnOf (c .before .before .before .before .before .before .before .before .before .before .before .before .before .before .before .before .before .before .before .before .before .before .before .before .before .before .before .before .before .before .before .before .before .before .before .before .before .before .before .before .before .before .before .before .before .before .before .before)) _ _ (c .before .before .before .before .before .before .before .before .before .before .before .before .before .before .before .before .before .before .before .before .before .before .before .before .before .before .before .before .before .before .before .before .before .before .before .before .before .before .before .before .before .before .before .before .before .before .before .before .pre .0 .2) (c .before .before .before .before .before .before .before .before .before .before .before .before .before .before .before .before .before .before .before .before .before .before .before .before .before .before .before .before .before .before .before .before .list-in-room .ensures _ (c .before .before .before .before .before .before .before .before .before .before .before .before .before .before .before .before .before .before .before .before .before .before .before .before .before .before .before .before .before .before .before .before .before .before .before .before .before .before .before .before .before .before .before .before .before .before .before .before .pre .1 .1) .not (c .before .before .before .before .before .before .before .before .before .before .before .before .before .before .before .before .before .before .before .before .before .before .if1 .left)) (c .before .before .before .before .before .before .before .before .before .before .before .before .before .before .step-on .ensures)
 

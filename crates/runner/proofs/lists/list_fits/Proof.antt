@@ -1,37 +1,29 @@
-use Rattle.distances.proofs.Booleans.{both-true}
-use borrow.Author.Tests.{eqb-true, leb-true}
+-- `lists::list_fits` meets its contract: what its tests tell. Assumes nothing.
 use Prim.Native.Nat.{_-_}
-use mathlib.Core.Path.{_≡_, sym, _∙_}
-use mathlib.Core.Bool.{false≢true}
 use native.Mathlib.Omega.{arith}
+use mathlib.Core.Path.{sym, _∙_}
+use mathlib.Core.Bool.{false≢true}
+use borrow.Author.Tests.{eqb-true, leb-true}
 use borrow.Author.Needs.{needs}
+use Rattle.distances.proofs.Booleans.{both-true}
 use Rattle.runner.proofs.lists.list_fits.Statement.{statement}
 use Rattle.runner.proofs.lists.list_fits.Tie as tie
-use Rattle.runner.proofs.lists.list_fits.Reads as reads
-use Rattle.runner.proofs.lists.list_fits.Lts as lts
-use Rattle.distances.proofs.ready.both.Reads as both-reads
 
--- src/lists.rt:40:9
 returns : tie.Need-returns
 returns c = λ e. absurd (false≢true e)
 
--- src/lists.rt:43:9
 both-requires : tie.Need-both-requires
 both-requires c κs = search needs
 
--- src/lists.rt:44:33
 cast-both : tie.Need-cast-both
 cast-both c = search needs
 
--- src/lists.rt:44:9
 both-requires-2 : tie.Need-both-requires-2
 both-requires-2 c κs = search needs
 
--- src/lists.rt:42:5
 both-requires-3 : tie.Need-both-requires-3
 both-requires-3 c κs = search needs
 
--- src/lists.rt:36:1
 returns-2 : tie.Need-returns-2
 returns-2 c = λ e.
     let all = both-true _ _ (sym (c .both3 .ensures) ∙ e) in

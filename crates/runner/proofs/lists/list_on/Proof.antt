@@ -1,16 +1,13 @@
-use Rattle.runner.proofs.ListMade.{none-made, few-made, some-made}
+-- `lists::list_on` meets its contract: the calls that were made are steps on, and their lines are written behind. Assumes nothing.
+use Prim.Native.Nat.{ℕ}
+use native.Mathlib.Omega.{arith}
+use mathlib.Core.List.{List, []}
+use borrow.Author.Needs.{needs}
 use Rattle.runner.specs.Turns.{Turn, turn}
 use Rattle.runner.specs.Buffers.{buffers}
-use mathlib.Core.List.{List, []}
-use native.Mathlib.Omega.{arith}
-use Prim.Native.Nat.{ℕ}
-use borrow.Author.Needs.{needs}
+use Rattle.runner.proofs.ListMade.{none-made, few-made, some-made}
 use Rattle.runner.proofs.lists.list_on.Statement.{statement}
 use Rattle.runner.proofs.lists.list_on.Tie as tie
-use Rattle.runner.proofs.lists.list_on.Reads as reads
-use Rattle.runner.proofs.lists.list_on.Lts as lts
-use Rattle.bench.proofs.lists.run.Reads as run-reads
-use Rattle.runner.proofs.lists.tell_all.Reads as tell-all-reads
 
 -- the turn that is handed over, with any rows
 abbrev TurnOf : tie.Start → List ℕ → Turn
@@ -19,105 +16,81 @@ TurnOf s rows =
     turn (a .done .reply) (a .done .going) (a .done .used) (a .done .written) (a .done .runner)
     (buffers (a .costs .now) (a .tables .now) (a .sent .now) (a .held .now) (a .messages .now) rows (a .out .now))
 
--- src/lists.rt:149:9
 sub-run : tie.Need-sub-run
 sub-run c = omega (arith, c .before .before .before .before .before .before .before .before .before .before .before .before .before .pre .0 .1)
 
--- src/lists.rt:149:9
 part-run-start : tie.Need-part-run-start
 part-run-start c = omega (arith, c .before .before .before .before .before .before .before .before .before .before .before .before .before .pre .0 .1)
 
--- src/lists.rt:149:9
 part-run-end : tie.Need-part-run-end
 part-run-end c = omega (arith, c .before .before .before .before .before .before .before .before .before .before .before .before .before .pre .0 .1)
 
--- src/lists.rt:142:9
 run-requires : tie.Need-run-requires
 run-requires c κs = search needs
 
--- src/lists.rt:154:9
 same-length : tie.Need-same-length
 same-length c = search needs
 
--- src/lists.rt:154:9
 same-length-2 : tie.Need-same-length-2
 same-length-2 c = search needs
 
--- src/lists.rt:154:9
 same-length-3 : tie.Need-same-length-3
 same-length-3 c = search needs
 
--- src/lists.rt:154:9
 same-length-4 : tie.Need-same-length-4
 same-length-4 c = search needs
 
--- src/lists.rt:154:9
 returns : tie.Need-returns
 returns c = λ rows long. none-made (c .before .before .before .before .before .before .before .before .before .before .before .before .before .before .before .before .before .before .before .before .before .before .before .before .before .args .rest .now) (c .before .before .before .before .before .before .before .before .before .before .before .before .before .before .before .before .before .before .before .before .before .before .before .before .before .args .ways .now) (TurnOf (c .before .before .before .before .before .before .before .before .before .before .before .before .before .before .before .before .before .before .before .before .before .before .before .before .before) rows) (c .before .before .before .before .before .before .before .before .before .run .ensures .0) (c .if1 .taken) _ _ _ _
 
--- src/lists.rt:168:33
 sub-tell-all : tie.Need-sub-tell-all
 sub-tell-all c = omega (arith, c .before .before .before .before .before .before .before .before .before .before .before .before .before .before .before .before .before .before .before .before .before .before .before .before .before .pre .0 .1)
 
--- src/lists.rt:168:33
 part-tell-all-start : tie.Need-part-tell-all-start
 part-tell-all-start c = omega (arith, c .before .before .before .before .before .before .before .before .before .before .before .before .before .before .before .before .before .before .before .before .before .before .before .before .before .pre .0 .1)
 
--- src/lists.rt:168:33
 part-tell-all-end : tie.Need-part-tell-all-end
 part-tell-all-end c = omega (arith, c .before .before .before .before .before .before .before .before .before .before .before .before .before .before .before .before .before .before .before .before .before .before .before .before .before .pre .0 .1)
 
--- src/lists.rt:168:9
 tell-all-requires : tie.Need-tell-all-requires
 tell-all-requires c κs = let few = few-made (c .before .before .before .before .before .before .before .before .before .before .before .before .before .before .before .before .before .before .before .before .before .before .before .before .before .before .before .before .args .rest .now) (c .before .before .before .before .before .before .before .before .before .before .before .before .before .before .before .before .before .before .before .before .before .before .before .before .before .before .before .before .args .ways .now) (TurnOf (c .before .before .before .before .before .before .before .before .before .before .before .before .before .before .before .before .before .before .before .before .before .before .before .before .before .before .before .before) []) (c .before .before .before .before .before .before .before .before .before .before .before .before .run .ensures .0) (c .before .before .before .if1 .left) in
-  (omega (arith, few .0, c .before .before .before .before .before .before .before .before .before .before .before .before .run .kept), omega (arith, few .0, c .before .before .before .before .before .before .before .before .before .before .before .before .before .before .before .before .before .before .before .before .before .before .before .before .before .before .before .before .pre .1 .1))
+    (omega (arith, few .0, c .before .before .before .before .before .before .before .before .before .before .before .before .run .kept), omega (arith, few .0, c .before .before .before .before .before .before .before .before .before .before .before .before .before .before .before .before .before .before .before .before .before .before .before .before .before .before .before .before .pre .1 .1))
 
--- src/lists.rt:173:28
 cast-t40 : tie.Need-cast-t40
 cast-t40 c = let few = few-made (c .before .before .before .before .before .before .before .before .before .before .before .before .before .before .before .before .before .before .before .before .before .before .before .before .before .before .before .before .before .before .before .before .args .rest .now) (c .before .before .before .before .before .before .before .before .before .before .before .before .before .before .before .before .before .before .before .before .before .before .before .before .before .before .before .before .before .before .before .before .args .ways .now) (TurnOf (c .before .before .before .before .before .before .before .before .before .before .before .before .before .before .before .before .before .before .before .before .before .before .before .before .before .before .before .before .before .before .before .before) []) (c .before .before .before .before .before .before .before .before .before .before .before .before .before .before .before .before .run .ensures .0) (c .before .before .before .before .before .before .before .if1 .left) in
-  omega (arith, few .0, c .before .before .before .before .before .before .before .before .before .before .before .before .before .before .before .before .before .before .before .before .before .before .before .before .before .before .before .before .before .before .before .before .pre .1 .0)
+    omega (arith, few .0, c .before .before .before .before .before .before .before .before .before .before .before .before .before .before .before .before .before .before .before .before .before .before .before .before .before .before .before .before .before .before .before .before .pre .1 .0)
 
--- src/lists.rt:173:17
 add-t41 : tie.Need-add-t41
 add-t41 c = let few = few-made (c .before .before .before .before .before .before .before .before .before .before .before .before .before .before .before .before .before .before .before .before .before .before .before .before .before .before .before .before .before .before .before .before .before .args .rest .now) (c .before .before .before .before .before .before .before .before .before .before .before .before .before .before .before .before .before .before .before .before .before .before .before .before .before .before .before .before .before .before .before .before .before .args .ways .now) (TurnOf (c .before .before .before .before .before .before .before .before .before .before .before .before .before .before .before .before .before .before .before .before .before .before .before .before .before .before .before .before .before .before .before .before .before) []) (c .before .before .before .before .before .before .before .before .before .before .before .before .before .before .before .before .before .run .ensures .0) (c .before .before .before .before .before .before .before .before .if1 .left) in
-  omega (arith, few .0, c .before .before .before .before .before .before .before .before .before .before .before .before .before .before .before .before .before .before .before .before .before .before .before .before .before .before .before .before .before .before .before .before .before .pre .1 .0, c .before .before .before .before .before .before .before .before .before .before .before .before .before .before .before .before .before .before .before .before .before .before .before .before .before .before .before .before .before .before .before .before .before .pre .0 .2 .events)
+    omega (arith, few .0, c .before .before .before .before .before .before .before .before .before .before .before .before .before .before .before .before .before .before .before .before .before .before .before .before .before .before .before .before .before .before .before .before .before .pre .1 .0, c .before .before .before .before .before .before .before .before .before .before .before .before .before .before .before .before .before .before .before .before .before .before .before .before .before .before .before .before .before .before .before .before .before .pre .0 .2 .events)
 
--- src/lists.rt:174:28
 cast-t42 : tie.Need-cast-t42
 cast-t42 c = let few = few-made (c .before .before .before .before .before .before .before .before .before .before .before .before .before .before .before .before .before .before .before .before .before .before .before .before .before .before .before .before .before .before .before .before .before .before .args .rest .now) (c .before .before .before .before .before .before .before .before .before .before .before .before .before .before .before .before .before .before .before .before .before .before .before .before .before .before .before .before .before .before .before .before .before .before .args .ways .now) (TurnOf (c .before .before .before .before .before .before .before .before .before .before .before .before .before .before .before .before .before .before .before .before .before .before .before .before .before .before .before .before .before .before .before .before .before .before) []) (c .before .before .before .before .before .before .before .before .before .before .before .before .before .before .before .before .before .before .run .ensures .0) (c .before .before .before .before .before .before .before .before .before .if1 .left) in
-  record { fits = omega (arith, few .1, c .before .before .before .before .before .before .before .before .before .before .before .before .before .before .before .before .before .before .before .before .before .before .before .before .before .before .before .before .before .before .before .before .before .before .pre .0 .2 .offset) }
+    record { fits = omega (arith, few .1, c .before .before .before .before .before .before .before .before .before .before .before .before .before .before .before .before .before .before .before .before .before .before .before .before .before .before .before .before .before .before .before .before .before .before .pre .0 .2 .offset) }
 
--- src/lists.rt:174:17
 add-t43 : tie.Need-add-t43
 add-t43 c = let few = few-made (c .before .before .before .before .before .before .before .before .before .before .before .before .before .before .before .before .before .before .before .before .before .before .before .before .before .before .before .before .before .before .before .before .before .before .before .args .rest .now) (c .before .before .before .before .before .before .before .before .before .before .before .before .before .before .before .before .before .before .before .before .before .before .before .before .before .before .before .before .before .before .before .before .before .before .before .args .ways .now) (TurnOf (c .before .before .before .before .before .before .before .before .before .before .before .before .before .before .before .before .before .before .before .before .before .before .before .before .before .before .before .before .before .before .before .before .before .before .before) []) (c .before .before .before .before .before .before .before .before .before .before .before .before .before .before .before .before .before .before .before .run .ensures .0) (c .before .before .before .before .before .before .before .before .before .before .if1 .left) in
-  record { fits = omega (arith, few .1, c .before .before .before .before .before .before .before .before .before .before .before .before .before .before .before .before .before .before .before .before .before .before .before .before .before .before .before .before .before .before .before .before .before .before .before .pre .0 .2 .offset) }
+    record { fits = omega (arith, few .1, c .before .before .before .before .before .before .before .before .before .before .before .before .before .before .before .before .before .before .before .before .before .before .before .before .before .before .before .before .before .before .before .before .before .before .before .pre .0 .2 .offset) }
 
--- src/lists.rt:179:15
 add-t27 : tie.Need-add-t27
 add-t27 c = let few = few-made (c .before .before .before .before .before .before .before .before .before .before .before .before .before .before .before .before .before .before .before .before .before .before .before .before .before .before .before .before .before .before .before .before .before .before .before .before .args .rest .now) (c .before .before .before .before .before .before .before .before .before .before .before .before .before .before .before .before .before .before .before .before .before .before .before .before .before .before .before .before .before .before .before .before .before .before .before .before .args .ways .now) (TurnOf (c .before .before .before .before .before .before .before .before .before .before .before .before .before .before .before .before .before .before .before .before .before .before .before .before .before .before .before .before .before .before .before .before .before .before .before .before) []) (c .before .before .before .before .before .before .before .before .before .before .before .before .before .before .before .before .before .before .before .before .run .ensures .0) (c .before .before .before .before .before .before .before .before .before .before .before .if1 .left) in
-  record { fits = omega (arith, few .1, c .before .before .before .before .before .before .before .before .before .before .before .before .before .before .before .before .before .before .before .before .before .before .before .before .before .before .before .before .before .before .before .before .before .before .before .before .pre .0 .1, c .before .before .before .before .before .before .before .before .before .before .before .before .before .before .before .before .before .before .before .before .before .before .before .before .before .before .before .before .before .before .before .before .before .before .before .before .good) }
+    record { fits = omega (arith, few .1, c .before .before .before .before .before .before .before .before .before .before .before .before .before .before .before .before .before .before .before .before .before .before .before .before .before .before .before .before .before .before .before .before .before .before .before .before .pre .0 .1, c .before .before .before .before .before .before .before .before .before .before .before .before .before .before .before .before .before .before .before .before .before .before .before .before .before .before .before .before .before .before .before .before .before .before .before .before .good) }
 
--- src/lists.rt:123:1
 same-length-5 : tie.Need-same-length-5
 same-length-5 c = omega (arith, c .before .before .before .before .before .before .before .before .before .before .before .before .before .before .before .before .before .before .before .before .run .kept, c .before .before .before .before .before .before .before .tell-all .kept)
 
--- src/lists.rt:123:1
 same-length-6 : tie.Need-same-length-6
 same-length-6 c = omega (arith, c .before .before .before .before .before .before .before .before .before .before .before .before .before .before .before .before .before .before .before .before .run .kept, c .before .before .before .before .before .before .before .tell-all .kept)
 
--- src/lists.rt:123:1
 same-length-7 : tie.Need-same-length-7
 same-length-7 c = omega (arith, c .before .before .before .before .before .before .before .before .before .before .before .before .before .before .before .before .before .before .before .before .run .kept, c .before .before .before .before .before .before .before .tell-all .kept)
 
--- src/lists.rt:123:1
 same-length-8 : tie.Need-same-length-8
 same-length-8 c = omega (arith, c .before .before .before .before .before .before .before .before .before .before .before .before .before .before .before .before .before .before .before .before .run .kept, c .before .before .before .before .before .before .before .tell-all .kept)
 
--- src/lists.rt:123:1
 same-length-9 : tie.Need-same-length-9
 same-length-9 c = omega (arith, c .before .before .before .before .before .before .before .before .before .before .before .before .before .before .before .before .before .before .before .before .run .kept, c .before .before .before .before .before .before .before .tell-all .kept)
 
--- src/lists.rt:123:1
 returns-2 : tie.Need-returns-2
 returns-2 c = λ rows long. some-made (c .before .before .before .before .before .before .before .before .before .before .before .before .before .before .before .before .before .before .before .before .before .before .before .before .before .before .before .before .before .before .before .before .before .before .before .before .args .rest .now) (c .before .before .before .before .before .before .before .before .before .before .before .before .before .before .before .before .before .before .before .before .before .before .before .before .before .before .before .before .before .before .before .before .before .before .before .before .args .ways .now) (TurnOf (c .before .before .before .before .before .before .before .before .before .before .before .before .before .before .before .before .before .before .before .before .before .before .before .before .before .before .before .before .before .before .before .before .before .before .before .before) rows) (c .before .before .before .before .before .before .before .before .before .before .before .before .before .before .before .before .before .before .before .before .run .ensures .0) (c .before .before .before .before .before .before .before .before .before .before .before .if1 .left) (c .before .before .before .before .before .before .before .before .before .before .before .before .before .before .before .before .before .before .before .before .before .before .before .before .before .before .before .before .before .before .before .before .before .before .before .before .pre .0 .0) (c .before .before .before .before .before .before .before .before .before .before .before .before .before .before .before .before .before .before .before .before .before .before .before .before .before .before .before .before .before .before .before .before .before .before .before .before .pre .0 .1) (c .before .before .before .before .before .before .before .before .before .before .before .before .before .before .before .before .before .before .before .before .before .before .before .before .before .before .before .before .before .before .before .before .before .before .before .before .pre .0 .2) (c .before .before .before .before .before .before .before .before .before .before .before .before .before .before .before .before .before .before .before .before .before .before .before .before .before .before .before .before .before .before .before .before .before .before .before .before .pre .1 .0) (c .before .before .before .before .before .before .before .before .before .before .before .before .before .before .before .before .before .before .before .before .before .before .before .before .before .before .before .before .before .before .before .before .before .before .before .before .pre .1 .1) long _ _ (c .before .before .before .before .before .before .before .tell-all .ensures)
 

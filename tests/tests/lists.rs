@@ -13,7 +13,7 @@ use bench_tests::list_random::{random_list, random_ways};
 use bench_tests::model::{Call, Model};
 use bench_tests::network_random::{damage, random_map, widened, OUT_OF_RANGE};
 use bench_tests::network_run::Run;
-use bench_tests::plan_bytes::first_event;
+use bench_tests::plan_bytes::{field, first_event};
 use bench_tests::random::Random;
 use bench_tests::view::NONE;
 use reference::map::Map;
@@ -285,4 +285,41 @@ fn damaged_plans() {
 #[test]
 fn arbitrary_plans() {
     plans("arbitrary", 162_000_000, spoil::arbitrary);
+}
+
+/// Fields of every tag, the lengths that they say and the bytes that are there right or wrong, alone and before a report.
+fn fields_right_and_wrong() -> Vec<Vec<u8>> {
+    let mut all = Vec::new();
+    for tag in (0..15).chain([255]) {
+        for (high, low, there) in (0..64).map(|k| ([0, 1, 2, 255][k / 16], (k / 4 % 4) as u8, k % 4)) {
+            for (value, past) in [(0, vec![]), (1, vec![]), (0, field(11, &[0]))] {
+                all.push([&[tag, high, low][..], &vec![value; there], &past].concat());
+            }
+        }
+    }
+    all
+}
+
+/// Only whole events are made, each of which is accepted for one of the values.
+#[test]
+fn fields_of_every_tag() {
+    let setup = [field(1, &[3]), field(2, &[0, 1]), field(2, &[1, 2]), field(3, &[0, 0, 0, 1, 0, 0, 0, 1])];
+    let events = [field(5, &[0, 0]), field(5, &[1, 1]), field(9, &[1])];
+    let start = [setup.concat(), events.concat()].concat();
+    let (map, at) = setup_of(&start).expect("a setup");
+    let random = &mut Random::new(170_000_000);
+    let Run { mut model, found, .. } = Run::fresh(random, &map).expect("a fresh network");
+    let mut list = List { lent: found, rest: Buffer::of(&start[at..]), ways: Buffer::of(&random.numbers(4 * WAY)) };
+    assert_eq!(run_both(&mut model, &mut list, &mut Met::default()), Ok(Stop::End));
+    let mut met = Met::default();
+    for bytes in fields_right_and_wrong() {
+        let mut list = List { rest: Buffer::of(&bytes), ..list.clone() };
+        run_both(&mut model.clone(), &mut list, &mut met).unwrap_or_else(|difference| panic!("{bytes:?}: {difference}"));
+        let plan = [&start[..], &bytes].concat();
+        assert_eq!(by_lists(random, &plan), Some(by_reference(&plan)), "{bytes:?}");
+    }
+    let made = ["update", "send", "lose", "cut", "restore"].map(|event| format!("{event} done"));
+    met.at_least("fields", &made, 1);
+    met.at_least("fields", &["deliver agreed", "repeat agreed", "path delivered at once", "Report at once"], 1);
+    met.at_least("fields", &["NoEvent at once"], 1_000);
 }

@@ -44,6 +44,7 @@ pub mod CallReads
 pub mod CallKept
 pub mod ListSteps
 pub mod ListTurns
+pub mod ListRuns
 pub mod AnswerRanges
 pub mod Known
 pub mod EntryChecks

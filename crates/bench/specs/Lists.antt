@@ -1,5 +1,6 @@
 -- A list of calls, made one after the other: the events at the head of the bytes that are left of a plan. Assumes nothing.
 use Prim.Native.Nat.{ℕ, zero, suc, _+_, _/_}
+use mathlib.Core.Path.{_≡_}
 use mathlib.Core.Bool.{Bool, false, cond}
 use mathlib.Core.List.{List, [], _∷_, _++_}
 use lib.ListN.{length, take, drop}
@@ -18,7 +19,7 @@ use Rattle.bench.specs.Changes.{updateOf, cutOf, restoreOf}
 use Rattle.bench.specs.Flights.{sendOf, loseOf}
 use Rattle.bench.specs.Deliveries.{deliverOf, repeatOf, deliveryReady}
 use Rattle.bench.specs.Answers.{pathOf}
-use Rattle.bench.specs.Whole.{stepBy}
+use Rattle.bench.specs.Whole.{stepBy, runBy}
 use Rattle.bench.specs.declared.Bench.{Bench}
 
 -- the call that an event is
@@ -122,3 +123,12 @@ listed reply r = record { reply = reply; ran = r }
 -- a list of calls: 17 where the state is out of range, and then none is made; as many as there is room for answers
 unfoldable pub listOf : State → List ℕ → List ℕ → Listed
 listOf s rest ways = cond (deliveryReady s) (listed 0 (runs (length ways / 3) s rest ways)) (listed 17 (ran 0 0 s ways))
+
+-- as many calls as were made, one after the other, leave that state: what is said of lists of calls is said of it
+pub record IsRun (s : State) (r : Ran) : Type 0 where
+  pub list : List Call
+  pub many : length list ≡ r .calls
+  pub after : runBy s list ≡ r .state
+
+abbrev pub ListsAreRuns : Type 0
+ListsAreRuns = (k : ℕ) (s : State) (rest ways : List ℕ) → IsRun s (runs k s rest ways)

@@ -35,12 +35,14 @@ struct Made {
     bench: Bench,
 }
 
+// The bytes of a call that is answered with a number.
 fn bytes_of(number: u8, used: usize) -> usize
     ensures { λ r. ⌜ r ≡ cond (eqb number 0) used 0 ⌝ }
 {
     if number == 0 { used } else { 0 }
 }
 
+// A call, made or not, by its reply.
 fn by_reply(done: Changed, used: usize) -> Made
     ensures { λ r. ⌜ (r .used ≡ cond (eqb (number (done .reply)) 0) used 0) × (r .bench ≡ done .bench) ⌝ }
 {
@@ -79,6 +81,7 @@ fn put_way(way: &mut [u32], stops: u32, last: u32, hops: u32)
     way[2] = hops;
 }
 
+// A path, made or not.
 fn path_by(
     bench: Bench,
     costs: &[u32],
@@ -134,14 +137,10 @@ fn make(
     ensures { λ r. ⌜ (made (r .used) (state (r .bench) (now (costs .entry)) (now (tables .entry)) (now (sent .exit)) (now (held .exit)) (now (flight .exit))) (now (way .exit)) ≡ eventMade (state bench (now (costs .entry)) (now (tables .entry)) (now (sent .entry)) (now (held .entry)) (now (flight .entry))) event used (now (way .entry))) × (deliveryReady (state (r .bench) (now (costs .entry)) (now (tables .entry)) (now (sent .exit)) (now (held .exit)) (now (flight .exit))) ≡ true) ⌝ }
 {
     match event {
-        Event::Update(bridge, view) => {
-            let y = bridge as usize;
-            let t = view as usize;
-            by_reply(
-                changes::update_ready(bench, costs, tables, sent, held, y, t),
-                used,
-            )
-        }
+        Event::Update(y, t) => by_reply(
+            changes::update_ready(bench, costs, tables, sent, held, y as usize, t as usize),
+            used,
+        ),
         Event::Send(bridge, link) => by_reply(
             messages::send_ready(bench, flight, bridge as usize, link as usize),
             used,
@@ -158,17 +157,7 @@ fn make(
         Event::Cut(link) => by_reply(changes::cut_ready(bench, link as usize), used),
         Event::Restore(link) => by_reply(changes::restore_ready(bench, link as usize), used),
         Event::Report(_) => Made { used: 0, bench },
-        Event::Path(start, dest) => path_by(
-            bench,
-            costs,
-            tables,
-            sent,
-            held,
-            way,
-            start,
-            dest,
-            used,
-        ),
+        Event::Path(from, dest) => path_by(bench, costs, tables, sent, held, way, from, dest, used),
     }
 }
 

@@ -27,11 +27,11 @@ listed s = search (needs, length-mapped)
 enum-known-event : tie.Need-enum-known-event
 enum-known-event c = search needs
 
-cast-y : tie.Need-cast-y
-cast-y c = search needs
+cast-update-ready : tie.Need-cast-update-ready
+cast-update-ready c = search needs
 
-cast-t : tie.Need-cast-t
-cast-t c = search needs
+cast-update-ready-2 : tie.Need-cast-update-ready-2
+cast-update-ready-2 c = search needs
 
 update-ready-requires : tie.Need-update-ready-requires
 update-ready-requires c κs = both-true (stateInRange (Given (c .before .before .before .before .before .before .before .before .before .before .before))) _ (c .before .before .before .before .before .before .before .before .before .before .before .pre .1) .0
@@ -203,8 +203,8 @@ make-spec =
     tie.close
     (tie.spec
     enum-known-event
-    cast-y
-    cast-t
+    cast-update-ready
+    cast-update-ready-2
     update-ready-requires
     by-reply-requires
     enum-known-event-2

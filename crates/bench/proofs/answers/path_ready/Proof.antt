@@ -21,7 +21,7 @@ returns c = turned-down _ _ _ refusedBy _ (c .before .before .before .before .be
 
 walk-requires : tie.Need-walk-requires
 unfolding refuse checks
-walk-requires c κs = 
+walk-requires c κs =
     let s = c .before .before .before .before .before .before in
     (ports-told _ _ _ _ _ (s .pre), bridges-listed (networkOf (s .args .bench) []) (s .args .start) (s .args .dest) _ (sym (c .before .port-refusal .ensures) ∙ c .if1 .left))
 

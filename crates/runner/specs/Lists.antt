@@ -6,6 +6,7 @@ use mathlib.Core.List.{List, [], _∷_, _++_}
 use lib.ListN.{getD, take, drop}
 use lib.Dec.{eqb}
 use Rattle.bench.specs.Paths as paths
+use Rattle.bench.specs.declared.Listed.{Listed}
 use Rattle.plan.specs.Reading.{readReply}
 use Rattle.plan.specs.declared.Event.{Event}
 use Rattle.plan.specs.declared.Event.the-variants.{Update, Send, Deliver, Repeat, Lose, Cut, Restore, Report, Path}
@@ -16,6 +17,7 @@ use Rattle.runner.specs.Events.{wayText}
 use Rattle.runner.specs.Turns.{Turn}
 use Rattle.runner.specs.Fills.{fills}
 use Rattle.runner.specs.declared.Runner.{Runner}
+use Rattle.runner.specs.declared.Stepped.{Stepped}
 
 -- the path that three numbers tell, 0, 0 and its hops, or 1, its last bridge and its hops
 abbrev pub wayIn : List ℕ → paths.Way
@@ -64,6 +66,23 @@ pub record ListFits (r : Runner) (left : ℕ) : Type 0 where
   pub stage : r .stage ≡ 3
   pub events : r .events ≤ 61380
   pub offset : r .offset + left ≤ 61440
+
+-- with the calls of a list that were made, and their texts up to an end
+abbrev pub listedOn : Stepped → Listed → ℕ → Stepped
+listedOn done l end =
+    record {
+      runner =
+          record {
+            bench = l .bench;
+            stage = 3;
+            events = done .runner .events + l .calls;
+            offset = done .runner .offset + l .used;
+          };
+      going = true;
+      used = done .used + l .used;
+      written = end;
+      reply = 0;
+    }
 
 -- one step on, or more
 pub record StepsMade (from : Turn) (rest : List ℕ) (t : Turn) : Type 0 where

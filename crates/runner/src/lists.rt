@@ -2,6 +2,8 @@
 use crate::Runner;
 use crate::Stepped;
 use crate::events::path_text;
+use bench::Bench;
+use bench::Listed;
 use bench::Way;
 use distances::ready::both;
 use plan::Event;
@@ -11,15 +13,16 @@ use plan::Read;
 ghost use mathlib.Core.Path.{_≡_};
 ghost use mathlib.Core.Bool.{true};
 ghost use mathlib.Core.List.{List, [], _∷_};
-ghost use Prim.Native.Nat.{ℕ, _+_, _-_, _*_, _/_, _≤_};
+ghost use Prim.Native.Nat.{ℕ, _+_, _-_, _*_, _/_, _^_, _<_, _≤_};
 ghost use lib.ListN.{length};
 ghost use Rattle.agreement.specs.Call.{says};
 ghost use Rattle.bench.specs.Answers.{waySays};
+ghost use Rattle.bench.specs.Lists.{progressOf};
 ghost use Rattle.text.specs.Writing.{Put};
 ghost use Rattle.runner.specs.Events.{wayFits, line, lineOf};
 ghost use Rattle.runner.specs.Buffers.{buffers};
 ghost use Rattle.runner.specs.Turns.{turn};
-ghost use Rattle.runner.specs.Lists.{wayIn, headText, listTexts, ListFits, MadeOrNot};
+ghost use Rattle.runner.specs.Lists.{wayIn, headText, listTexts, ListFits, listedOn, MadeOrNot};
 
 // The bytes of a field, and the count of those that it prints.
 struct Told {
@@ -118,6 +121,40 @@ pub(crate) fn tell_all(
     end
 }
 
+// How far the reader has come in a list.
+fn progress_of(bench: Bench) -> Progress
+    ensures { λ p. ⌜ p ≡ progressOf bench ⌝ }
+{
+    Progress {
+        stage: 3,
+        bridges: bench.bridges,
+        links: bench.links,
+        views: bench.views,
+    }
+}
+
+// With the calls of a list that were made, and their texts up to `end`.
+fn listed_on(done: Stepped, ran: Listed, end: usize) -> Stepped
+    requires { ⌜ (done .runner .events + ran .calls ≤ 61440) × (done .runner .offset + ran .used ≤ 61440) × (done .used + ran .used < 2 ^ 64) ⌝ }
+    ensures { λ s. ⌜ s ≡ listedOn done ran end ⌝ }
+{
+    let r = done.runner;
+    let bench = ran.bench;
+    let runner = Runner {
+        bench,
+        stage: 3,
+        events: r.events + ran.calls as u32,
+        offset: r.offset + ran.used as u32,
+    };
+    Stepped {
+        runner,
+        going: true,
+        used: done.used + ran.used,
+        written: end,
+        reply: 0,
+    }
+}
+
 // The events at the head of what is left of the plan, as many as a list of calls makes. Where it makes none, nothing is done, and the
 // plan does not go on.
 fn list_on(
@@ -139,47 +176,16 @@ fn list_on(
     let written = done.written;
     let r = done.runner;
     let bench = r.bench;
-    let ran = bench::lists::run(
-        bench,
-        costs,
-        tables,
-        sent,
-        held,
-        messages,
-        &rest[used..],
-        ways,
-    );
+    let left = &rest[used..];
+    let ran = bench::lists::run(bench, costs, tables, sent, held, messages, left, ways);
     let calls = ran.calls;
     if calls == 0 {
-        return Stepped {
-            runner: r,
-            going: false,
-            used,
-            written,
-            reply: 0,
-        };
+        let mut none = done;
+        none.going = false;
+        return none;
     }
-    let p = Progress {
-        stage: 3,
-        bridges: bench.bridges,
-        links: bench.links,
-        views: bench.views,
-    };
-    let end = tell_all(written, &rest[used..], p, calls, ways, out);
-    let after = ran.bench;
-    let runner = Runner {
-        bench: after,
-        stage: 3,
-        events: r.events + calls as u32,
-        offset: r.offset + ran.used as u32,
-    };
-    Stepped {
-        runner,
-        going: true,
-        used: used + ran.used,
-        written: end,
-        reply: 0,
-    }
+    let end = tell_all(written, left, progress_of(bench), calls, ways, out);
+    listed_on(done, ran, end)
 }
 
 // As many events as their texts have room for in `out`, and 60 at most.

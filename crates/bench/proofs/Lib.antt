@@ -43,6 +43,7 @@ pub mod CallSteps
 pub mod CallReads
 pub mod CallKept
 pub mod ListSteps
+pub mod ListCalls
 pub mod ListTurns
 pub mod ListRuns
 pub mod AnswerRanges

@@ -155,9 +155,9 @@ module _ (b : Bench) (costs tables sent held m : List ℕ) (used : ℕ) (way : L
         rw (bytes, is, numbers, path-reads Full [] y d)
         (settled Full (Path y d) used way (pathOf Full y d .number) _ _ refl (path-step Full y d) (λ some. (path-step Full y d, path-refused y d some)) (λ z. refl))
 
-  pub report-made : (d : ℕ) → made 0 Full way ≡ eventMade Full (Report d) used way
-  unfolding eventMade isMade
-  report-made d = refl
+pub report-made : (s : State) (d used : ℕ) (way : List ℕ) → made 0 s way ≡ eventMade s (Report d) used way
+unfolding eventMade isMade
+report-made s d used way = refl
 
 -- ---- the first call
 
@@ -201,14 +201,3 @@ module _ (s : State) (rest way : List ℕ) where
       go (Read.Field (Field.Link x y) used) is = none-told
       go (Read.Field Field.View used) is = none-told
       go (Read.Stop number) is = none-told
-
-  -- ---- for the code: what was read
-
-  module _ (r : Read) (same : r ≡ readReply rest (progressOf (s .bench))) where
-    pub stop-read : {number : ℕ} → r ≡ Read.Stop number → made 0 s way ≡ firstMade s rest way
-    unfolding firstMade readMade
-    stop-read is = rw (← same, is)
-
-    pub field-read : {f : Field} {used : ℕ} → r ≡ Read.Field f used → readMade s (Read.Field f used) way ≡ firstMade s rest way
-    unfolding firstMade
-    field-read is = rw (← same, is)

@@ -13,6 +13,7 @@ use lib.Dec.{eqb, ltb}
 use Rattle.distances.proofs.Booleans.{both-true}
 use Rattle.bench.specs.State.{State}
 use Rattle.bench.specs.Lists.{Made, made, firstMade, Ran, ran, runs}
+use Rattle.bench.proofs.ListCalls.{slot, waysWith, slot-back, FirstCall}
 use Rattle.bench.proofs.ListSteps.{FirstTold, first-told}
 
 -- the calls that are still ahead, if the list goes on
@@ -65,19 +66,12 @@ begins most s rest ways room =
     }
 
 module _ (all : Ran) (most : ℕ) (rest : List ℕ) (s : State) (calls used : ℕ) (ways : List ℕ) where
-  -- the place of the next call's three numbers, and what stands there
+  -- the place of the next call's three numbers
   abbrev place : ℕ
   place = 3 * calls
 
-  abbrev pub slot : List ℕ
-  slot = take 3 (drop place ways)
-
-  -- the lent numbers with others there
-  abbrev pub waysWith : List ℕ → List ℕ
-  waysWith way = take place ways ++ (way ++ drop 3 (drop place ways))
-
   -- no call was made
-  stopped : Underway all most rest s calls used ways true → calls < most → firstMade s (drop used rest) slot .used ≡ 0 → Underway all most rest s calls used ways false
+  stopped : Underway all most rest s calls used ways true → calls < most → firstMade s (drop used rest) (slot calls ways) .used ≡ 0 → Underway all most rest s calls used ways false
   stopped w more none =
       let steps : most - calls ≡ suc (most - suc calls) = omega arith in
       record {
@@ -95,18 +89,18 @@ module _ (all : Ran) (most : ℕ) (rest : List ℕ) (s : State) (calls used : �
       Underway all most rest s calls used ways true →
       calls < most →
       (m : Made) →
-      m ≡ firstMade s (drop used rest) slot →
+      m ≡ firstMade s (drop used rest) (slot calls ways) →
       (m .used ≡ 0 → ⊥) →
-      Underway all most rest (m .state) (suc calls) (used + m .used) (waysWith (m .way)) true
+      Underway all most rest (m .state) (suc calls) (used + m .used) (waysWith calls ways (m .way)) true
   went w more m is some =
       let steps : most - calls ≡ suc (most - suc calls) = omega arith in
-      let told : FirstTold s (drop used rest) slot m = subst (FirstTold s (drop used rest) slot) (sym is) (first-told s (drop used rest) slot) in
+      let told : FirstTold s (drop used rest) (slot calls ways) m = subst (FirstTold s (drop used rest) (slot calls ways)) (sym is) (first-told s (drop used rest) (slot calls ways)) in
       let before : length (take place ways) ≡ place = length-take-le place ways (omega (arith, w .room)) in
       let three : length (m .way) ≡ 3 = told .long ∙ length-take-le 3 (drop place ways) (omega (arith, w .room, length-drop place ways)) in
       let both : length (take place ways ++ m .way) ≡ 3 * suc calls = omega (arith, length-append (take place ways) (m .way)) in
-      let behind : drop (3 * suc calls) (waysWith (m .way)) ≡ drop 3 (drop place ways) =
+      let behind : drop (3 * suc calls) (waysWith calls ways (m .way)) ≡ drop 3 (drop place ways) =
       rw (← append-assoc (take place ways) (m .way) (drop 3 (drop place ways))) (drop-at (take place ways ++ m .way) _ _ both) in
-      let ahead : take (3 * suc calls) (waysWith (m .way)) ≡ take place ways ++ m .way =
+      let ahead : take (3 * suc calls) (waysWith calls ways (m .way)) ≡ take place ways ++ m .way =
       rw (← append-assoc (take place ways) (m .way) (drop 3 (drop place ways))) (take-at (take place ways ++ m .way) _ _ both) in
       record {
         same =
@@ -123,17 +117,16 @@ module _ (all : Ran) (most : ℕ) (rest : List ℕ) (s : State) (calls used : �
       Underway all most rest s calls used ways true →
       calls < most →
       {t : ℕ} {next : State} {way : List ℕ} →
-      made t next way ≡ firstMade s (drop used rest) slot →
-      Underway all most rest next (cond (eqb t 0) calls (suc calls)) (used + t) (waysWith way) (not (eqb t 0))
+      made t next way ≡ firstMade s (drop used rest) (slot calls ways) →
+      Underway all most rest next (cond (eqb t 0) calls (suc calls)) (used + t) (waysWith calls ways way) (not (eqb t 0))
   turned w more {t} {next} {way} is = go (eqb t 0) refl
     where
-      go : (b : Bool) → eqb t 0 ≡ b → Underway all most rest next (cond b calls (suc calls)) (used + t) (waysWith way) (not b)
+      go : (b : Bool) → eqb t 0 ≡ b → Underway all most rest next (cond b calls (suc calls)) (used + t) (waysWith calls ways way) (not b)
       go true z =
           let none : t ≡ 0 = eqb-true t 0 z in
-          let kept : made t next way ≡ made 0 s slot = is ∙ first-told s (drop used rest) slot .none (ap (λ (m : Made). m .used) (sym is) ∙ none) in
-          let whole : waysWith slot ≡ ways = rw (take-append-drop 3 (drop place ways), take-append-drop place ways) in
-          subst (λ (m : Made). Underway all most rest (m .state) calls (used + m .used) (waysWith (m .way)) false) (sym kept)
-          (rw (whole, add-zero used) (stopped w more (ap (λ (m : Made). m .used) (sym is) ∙ none)))
+          let kept : made t next way ≡ made 0 s (slot calls ways) = is ∙ first-told s (drop used rest) (slot calls ways) .none (ap (λ (m : Made). m .used) (sym is) ∙ none) in
+          subst (λ (m : Made). Underway all most rest (m .state) calls (used + m .used) (waysWith calls ways (m .way)) false) (sym kept)
+          (rw (slot-back calls ways, add-zero used) (stopped w more (ap (λ (m : Made). m .used) (sym is) ∙ none)))
       go false z = went w more (made t next way) is (eqb-false t 0 z)
 
   -- ---- for the code: what its calls ensure
@@ -142,24 +135,18 @@ module _ (all : Ran) (most : ℕ) (rest : List ℕ) (s : State) (calls used : �
     pub goes-on : (going ≡ true) × (calls < most)
     goes-on = let h = both-true going (ltb calls most) (sym tested ∙ on) in (h .0, ltb-true calls most (h .1))
 
-    module _
-        (width : ℕ)
-        (three : width ≡ 3)
-        {t : ℕ}
-        {next : State}
-        {way : List ℕ}
-        (is : made t next way ≡ firstMade s (take (length rest - used) (drop used rest)) (take width (drop place ways))) where
-      first : made t next way ≡ firstMade s (drop used rest) slot
-      first = rw (three, take-all (length rest - used) (drop used rest) (omega (arith, length-drop used rest))) at is
+    module _ {t : ℕ} {next : State} {after : List ℕ} (f : FirstCall s (take (length rest - used) (drop used rest)) calls ways t next after) where
+      first : made t next (f .way) ≡ firstMade s (drop used rest) (slot calls ways)
+      first = rw (take-all (length rest - used) (drop used rest) (omega (arith, length-drop used rest))) at (f .first)
 
       pub used-within : used + t ≤ length rest
       used-within =
-          let told = first-told s (drop used rest) slot .within in
+          let told = first-told s (drop used rest) (slot calls ways) .within in
           omega (arith, w .within, ap (λ (m : Made). m .used) first, told, length-drop used rest)
 
       module _ {count : ℕ} (counted : count ≡ cond (eqb t 0) calls (suc calls)) where
-        pub onward : Underway all most rest next count (used + t) (take place ways ++ (way ++ drop width (drop place ways))) (not (eqb t 0))
-        onward = rw (counted, three) (turned (subst (Underway all most rest s calls used ways) (goes-on .0) w) (goes-on .1) first)
+        pub onward : Underway all most rest next count (used + t) after (not (eqb t 0))
+        onward = rw (counted, f .set) (turned (subst (Underway all most rest s calls used ways) (goes-on .0) w) (goes-on .1) first)
 
         pub shrinks : left most count (not (eqb t 0)) < left most calls going
         shrinks = rw (counted, goes-on .0) (go (eqb t 0))

@@ -13,12 +13,13 @@ use Rattle.distances.proofs.Ranges.{true-allBelow}
 use Rattle.agreement.specs.Offer.{opposite}
 use Rattle.plan.specs.declared.Event.{Event}
 use Rattle.bench.specs.Net.{sender}
-use Rattle.bench.specs.Calls.{change, update, cut, restore, send, deliver, repeat, lose, path, refuse, accepted, checks, messageOf}
+use Rattle.bench.specs.Calls.{change, update, cut, restore, send, deliver, repeat, lose, refuse, accepted, checks, messageOf}
 use Rattle.bench.specs.State.{State, state, network, networkOf, messageFrom}
 use Rattle.bench.specs.Ranges.{graphInRange, benchInRange, costsInRange, messageInRange, messagesInRange, networkInRange}
 use Rattle.bench.specs.Changes.{changed, rewritten, movedBench, refusalOf, orRefused, stateInRange, benchWithCut, cutOf, restoreOf, updateOf}
 use Rattle.bench.specs.Flights.{Flown, flown, numbersOf, withCount, sendOf, loseOf}
 use Rattle.bench.specs.Deliveries.{deliveryReady, deliveryRefused, receivedAt, received, deliverOf, repeatOf}
+use Rattle.bench.specs.Steps.{Makes}
 use Rattle.bench.specs.Whole.{stepBy}
 use Rattle.bench.specs.Lists.{callOf, isMade, wayAfter, Made, made, eventMade}
 use Rattle.bench.specs.declared.Bench.{Bench}
@@ -175,21 +176,16 @@ send-stays s y l ok = go (eqb (refusalOf (flightInRange (s .bench) (s .messages)
 pub flight-of : (s : State) → deliveryReady s ≡ true → flightInRange (s .bench) (s .messages) ≡ true
 flight-of s ok = let h = both-true (stateInRange s) _ ok in true-both (network-bench _ _ _ _ _ (h .0)) (h .1)
 
--- a path changes nothing
-pub path-stays : (s : State) (y d : ℕ) → deliveryReady s ≡ true → deliveryReady (stepBy s (path y d)) ≡ true
-unfolding stepBy
-path-stays s y d ok = ok
-
--- an event, made or not
+-- an event that changes, made or not
 pub event-stays :
-    (s : State) (e : Event) (used : ℕ) (way : List ℕ) {m : Made} →
-    m ≡ eventMade s e used way →
+    (s : State) (e : Event) (k : ℕ) {after : State} →
+    ((used : ℕ) (way : List ℕ) → made (cond (eqb k 0) used 0) after way ≡ eventMade s e used way) →
     deliveryReady s ≡ true →
     deliveryReady (stepBy s (callOf e)) ≡ true →
-    (m ≡ eventMade s e used way) × (deliveryReady (m .state) ≡ true)
+    Makes s e k after
 unfolding eventMade
-event-stays s e used way is before after = (is, rw is (go (isMade s e)))
+event-stays s e k is before after = (is, rw (ap (λ (m : Made). m .state) (is 0 [])) (go (isMade s e)))
   where
-    go : (b : Bool) → deliveryReady (cond b (made used (stepBy s (callOf e)) (wayAfter s e way)) (made 0 s way) .state) ≡ true
+    go : (b : Bool) → deliveryReady (cond b (made 0 (stepBy s (callOf e)) (wayAfter s e [])) (made 0 s []) .state) ≡ true
     go true = after
     go false = before

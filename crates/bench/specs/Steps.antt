@@ -1,19 +1,29 @@
 -- What the private functions assume, and answers of theirs. No public contract cites this file. Assumes nothing.
 use Prim.Native.Nat.{ℕ, _+_, _*_, _<_, _≤_}
 use mathlib.Core.Path.{_≡_}
-use mathlib.Core.Bool.{true}
+use mathlib.Core.Bool.{true, cond}
 use mathlib.Core.List.{List}
 use lib.ListN.{length, getD}
+use lib.Dec.{eqb}
 use Rattle.distances.specs.View.{maxCost, costsOf}
 use Rattle.distances.specs.Table.{cell}
 use Rattle.agreement.specs.Call.{Lent, lentGraph}
 use Rattle.agreement.specs.Choice.{choiceBelow}
 use Rattle.agreement.specs.declared.Choice.{Choice}
+use Rattle.plan.specs.Reading.{readReply}
+use Rattle.plan.specs.declared.Event.{Event}
+use Rattle.plan.specs.declared.Event.the-variants.{Update, Send, Deliver, Repeat, Lose, Cut, Restore, Report, Path}
+use Rattle.plan.specs.declared.Field.{Field}
+use Rattle.plan.specs.declared.Read.{Read}
 use Rattle.bench.specs.State.{State, network, lentView}
 use Rattle.bench.specs.Ranges.{networkInRange}
+use Rattle.bench.specs.Deliveries.{deliveryReady}
+use Rattle.bench.specs.Lists.{made, eventMade}
 use Rattle.bench.specs.Ports.{Hop, stays, crosses}
 use Rattle.bench.specs.declared.Bench.{Bench}
 use Rattle.bench.specs.declared.Hop as code
+use Rattle.bench.specs.declared.Way.{Way}
+use Rattle.bench.specs.declared.lists.Next.{Next}
 
 -- what the entry check has told of a bench and of what is lent beside it
 pub record Ready (b : Bench) (costs tables : List ℕ) : Type 0 where
@@ -47,3 +57,49 @@ AreChoices s d e n choices = (y : ℕ) → y < n → (none : Choice) → getD ch
 abbrev pub hopSays : code.Hop → Hop
 hopSays code.Hop.Stays = stays
 hopSays (code.Hop.Crosses l z) = crosses l z
+
+-- a way's numbers fit in 32 bits
+abbrev pub WayFits : Way → Type 0
+WayFits (Way.Refused k) = Unit {0}
+WayFits (Way.Delivered h) = h < 4294967296
+WayFits (Way.Stops last h) = (last < 4294967296) × (h < 4294967296)
+
+-- what an event is to a list of calls: a report is not made in it
+abbrev pub nextOf : Event → ℕ → Next
+nextOf (Update b t) used = Next.Changes (Update b t) used
+nextOf (Send b l) used = Next.Changes (Send b l) used
+nextOf (Deliver p) used = Next.Changes (Deliver p) used
+nextOf (Repeat p) used = Next.Changes (Repeat p) used
+nextOf (Lose p) used = Next.Changes (Lose p) used
+nextOf (Cut l) used = Next.Changes (Cut l) used
+nextOf (Restore l) used = Next.Changes (Restore l) used
+nextOf (Report d) used = Next.Nothing
+nextOf (Path s d) used = Next.Asks s d used
+
+-- and what was read
+abbrev pub nextIn : Read → Next
+nextIn (Read.Field (Field.Event e) used) = nextOf e used
+nextIn (Read.Field (Field.Bridges n) used) = Next.Nothing
+nextIn (Read.Field (Field.Link x y) used) = Next.Nothing
+nextIn (Read.Field Field.View used) = Next.Nothing
+nextIn (Read.Stop number) = Next.Nothing
+
+abbrev pub nextAt : List ℕ → ℕ → ℕ → ℕ → Next
+nextAt rest bridges links views = nextIn (readReply rest (record { stage = 3; bridges = bridges; links = links; views = views }))
+
+-- an event that is neither a report nor a path
+abbrev pub IsChange : Event → Type 0
+IsChange (Update b t) = Unit {0}
+IsChange (Send b l) = Unit {0}
+IsChange (Deliver p) = Unit {0}
+IsChange (Repeat p) = Unit {0}
+IsChange (Lose p) = Unit {0}
+IsChange (Cut l) = Unit {0}
+IsChange (Restore l) = Unit {0}
+IsChange (Report d) = ⊥
+IsChange (Path s d) = ⊥
+
+-- the call of such an event, answered with the number k: the three numbers for a path stay, and a state in range stays so
+abbrev pub Makes : State → Event → ℕ → State → Type 0
+Makes s e k after =
+    ((used : ℕ) (way : List ℕ) → made (cond (eqb k 0) used 0) after way ≡ eventMade s e used way) × (deliveryReady after ≡ true)

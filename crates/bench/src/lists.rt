@@ -24,50 +24,85 @@ ghost use lib.Seq.{sets};
 ghost use lib.Dec.{eqb};
 ghost use Rattle.bench.specs.Changes.{number, NoZero};
 ghost use Rattle.bench.specs.Deliveries.{reactionSays, deliveryReady};
-ghost use Rattle.bench.specs.Ranges.{networkInRange};
-ghost use Rattle.bench.specs.Answers.{pathOf};
+ghost use Rattle.bench.specs.Answers.{waySays};
 ghost use Rattle.bench.specs.State.{state};
-ghost use Rattle.bench.specs.Lists.{wayNumbers, made, eventMade, firstMade, ran, runs, listed, listOf};
+ghost use Rattle.bench.specs.Lists.{wayNumbers, ran, runs, listed, listOf};
+ghost use Rattle.bench.specs.Steps.{nextOf, nextAt, IsChange, WayFits, Makes};
 
-// The bench after one call, and the bytes that it used: 0 where no call was made.
-struct Made {
-    used: usize,
-    bench: Bench,
+// What stands at the head of the bytes that are left: nothing that a list makes; a path; any other call. With the bytes that it takes.
+enum Next {
+    Nothing,
+    Asks(u8, u8, usize),
+    Changes(Event, usize),
 }
 
-// The bytes of a call that is answered with a number.
+fn next_of(event: Event, used: usize) -> Next
+    ensures { λ r. ⌜ r ≡ nextOf event used ⌝ }
+{
+    match event {
+        Event::Update(_, _) => Next::Changes(event, used),
+        Event::Send(_, _) => Next::Changes(event, used),
+        Event::Deliver(_) => Next::Changes(event, used),
+        Event::Repeat(_) => Next::Changes(event, used),
+        Event::Lose(_) => Next::Changes(event, used),
+        Event::Cut(_) => Next::Changes(event, used),
+        Event::Restore(_) => Next::Changes(event, used),
+        Event::Report(_) => Next::Nothing,
+        Event::Path(start, dest) => Next::Asks(start, dest, used),
+    }
+}
+
+fn read_next(rest: &[u8], bridges: usize, links: usize, views: usize) -> Next
+    ensures { λ r. ⌜ r ≡ nextAt (now (rest .entry)) bridges links views ⌝ }
+{
+    let progress = Progress {
+        stage: 3,
+        bridges,
+        links,
+        views,
+    };
+    let read = plan::fields::read_field(rest, progress);
+    let Read::Field(field, used) = read else {
+        return Next::Nothing;
+    };
+    match field {
+        Field::Event(event) => next_of(event, used),
+        Field::Bridges(_) => Next::Nothing,
+        Field::Link(_, _) => Next::Nothing,
+        Field::View => Next::Nothing,
+    }
+}
+
+// The bytes that a call took, by its number: 0 where it was refused.
 fn bytes_of(number: u8, used: usize) -> usize
     ensures { λ r. ⌜ r ≡ cond (eqb number 0) used 0 ⌝ }
 {
     if number == 0 { used } else { 0 }
 }
 
-// A call, made or not, by its reply.
-fn by_reply(done: Changed, used: usize) -> Made
-    ensures { λ r. ⌜ (r .used ≡ cond (eqb (number (done .reply)) 0) used 0) × (r .bench ≡ done .bench) ⌝ }
+fn bytes_by(reply: Reply, used: usize) -> usize
+    ensures { λ r. ⌜ r ≡ cond (eqb (number reply) 0) used 0 ⌝ }
 {
-    let reply = done.reply;
-    let bench = done.bench;
     match reply {
-        Reply::Refused(k) => Made {
-            used: bytes_of(k, used),
-            bench,
-        },
-        Reply::Done => Made { used, bench },
+        Reply::Refused(k) => bytes_of(k, used),
+        Reply::Done => used,
     }
 }
 
-fn by_reaction(done: Delivered, used: usize) -> Made
-    ensures { λ r. ⌜ (r .used ≡ cond (eqb (reactionSays (done .reply) .number) 0) used 0) × (r .bench ≡ done .bench) ⌝ }
+fn by_reaction(done: Delivered) -> Changed
+    ensures { λ r. ⌜ (number (r .reply) ≡ reactionSays (done .reply) .number) × (r .bench ≡ done .bench) ⌝ }
 {
     let reply = done.reply;
     let bench = done.bench;
     match reply {
-        Reaction::Refused(k) => Made {
-            used: bytes_of(k, used),
+        Reaction::Refused(k) => Changed {
+            reply: Reply::Refused(k),
             bench,
         },
-        Reaction::Answered(_) => Made { used, bench },
+        Reaction::Answered(_) => Changed {
+            reply: Reply::Done,
+            bench,
+        },
     }
 }
 
@@ -81,47 +116,24 @@ fn put_way(way: &mut [u32], stops: u32, last: u32, hops: u32)
     way[2] = hops;
 }
 
-// A path, made or not.
-fn path_by(
-    bench: Bench,
-    costs: &[u32],
-    tables: &[u32],
-    sent: &[u32],
-    held: &[u32],
-    way: &mut [u32],
-    start: u8,
-    dest: u8,
-    used: usize,
-) -> Made
-    requires { ⌜ (3 ≤ length (now way)) × (networkInRange bench (now costs) (length (now tables)) (length (now sent)) (length (now held)) ≡ true) ⌝ }
-    ensures { λ r. ⌜ (r .used ≡ cond (eqb (pathOf (state bench (now (costs .entry)) (now (tables .entry)) (now (sent .entry)) (now (held .entry)) []) start dest .number) 0) used 0) × (r .bench ≡ bench) × (now (way .exit) ≡ sets (now (way .entry)) 0 (wayNumbers (pathOf (state bench (now (costs .entry)) (now (tables .entry)) (now (sent .entry)) (now (held .entry)) []) start dest .value))) ⌝ }
+fn path_by(way: &mut [u32], answer: Way, used: usize) -> usize
+    requires { ⌜ (3 ≤ length (now way)) × WayFits answer ⌝ }
+    ensures { λ r. ⌜ (r ≡ cond (eqb (waySays answer .number) 0) used 0) × (now (way .exit) ≡ sets (now (way .entry)) 0 (wayNumbers (waySays answer .value))) ⌝ }
 {
-    let answer = answers::path_ready(
-        bench,
-        costs,
-        tables,
-        sent,
-        held,
-        start as usize,
-        dest as usize,
-    );
     match answer {
         Way::Delivered(hops) => {
             put_way(way, 0, 0, hops as u32);
-            Made { used, bench }
+            used
         }
         Way::Stops(last, hops) => {
             put_way(way, 1, last as u32, hops as u32);
-            Made { used, bench }
+            used
         }
-        Way::Refused(k) => Made {
-            used: bytes_of(k, used),
-            bench,
-        },
+        Way::Refused(k) => bytes_of(k, used),
     }
 }
 
-// Makes an event's call. A report is not made: its rows are lent to a call of its own.
+// Makes the call of an event that changes.
 fn make(
     bench: Bench,
     costs: &[u32],
@@ -129,67 +141,39 @@ fn make(
     sent: &mut [u32],
     held: &mut [u32],
     flight: &mut [u32],
-    way: &mut [u32],
     event: Event,
-    used: usize,
-) -> Made
-    requires { ⌜ (3 ≤ length (now way)) × (deliveryReady (state bench (now costs) (now tables) (now sent) (now held) (now flight)) ≡ true) ⌝ }
-    ensures { λ r. ⌜ (made (r .used) (state (r .bench) (now (costs .entry)) (now (tables .entry)) (now (sent .exit)) (now (held .exit)) (now (flight .exit))) (now (way .exit)) ≡ eventMade (state bench (now (costs .entry)) (now (tables .entry)) (now (sent .entry)) (now (held .entry)) (now (flight .entry))) event used (now (way .entry))) × (deliveryReady (state (r .bench) (now (costs .entry)) (now (tables .entry)) (now (sent .exit)) (now (held .exit)) (now (flight .exit))) ≡ true) ⌝ }
+) -> Changed
+    requires { ⌜ IsChange event × (deliveryReady (state bench (now costs) (now tables) (now sent) (now held) (now flight)) ≡ true) ⌝ }
+    ensures { λ r. ⌜ Makes (state bench (now (costs .entry)) (now (tables .entry)) (now (sent .entry)) (now (held .entry)) (now (flight .entry))) event (number (r .reply)) (state (r .bench) (now (costs .entry)) (now (tables .entry)) (now (sent .exit)) (now (held .exit)) (now (flight .exit))) ⌝ }
 {
     match event {
-        Event::Update(y, t) => by_reply(
-            changes::update_ready(bench, costs, tables, sent, held, y as usize, t as usize),
-            used,
-        ),
-        Event::Send(bridge, link) => by_reply(
-            messages::send_ready(bench, flight, bridge as usize, link as usize),
-            used,
-        ),
-        Event::Deliver(place) => by_reaction(
-            messages::deliver_ready(bench, costs, tables, sent, held, flight, place as usize),
-            used,
-        ),
-        Event::Repeat(place) => by_reaction(
-            messages::repeat_ready(bench, costs, tables, sent, held, flight, place as usize),
-            used,
-        ),
-        Event::Lose(place) => by_reply(messages::lose_ready(bench, flight, place as usize), used),
-        Event::Cut(link) => by_reply(changes::cut_ready(bench, link as usize), used),
-        Event::Restore(link) => by_reply(changes::restore_ready(bench, link as usize), used),
-        Event::Report(_) => Made { used: 0, bench },
-        Event::Path(from, dest) => path_by(bench, costs, tables, sent, held, way, from, dest, used),
-    }
-}
-
-// The call at the head of the bytes that are left.
-fn next_call(
-    bench: Bench,
-    costs: &[u32],
-    tables: &[u32],
-    sent: &mut [u32],
-    held: &mut [u32],
-    flight: &mut [u32],
-    rest: &[u8],
-    way: &mut [u32],
-) -> Made
-    requires { ⌜ (3 ≤ length (now way)) × (deliveryReady (state bench (now costs) (now tables) (now sent) (now held) (now flight)) ≡ true) ⌝ }
-    ensures { λ r. ⌜ (made (r .used) (state (r .bench) (now (costs .entry)) (now (tables .entry)) (now (sent .exit)) (now (held .exit)) (now (flight .exit))) (now (way .exit)) ≡ firstMade (state bench (now (costs .entry)) (now (tables .entry)) (now (sent .entry)) (now (held .entry)) (now (flight .entry))) (now (rest .entry)) (now (way .entry))) × (deliveryReady (state (r .bench) (now (costs .entry)) (now (tables .entry)) (now (sent .exit)) (now (held .exit)) (now (flight .exit))) ≡ true) ⌝ }
-{
-    let progress = Progress {
-        stage: 3,
-        bridges: bench.bridges,
-        links: bench.links,
-        views: bench.views,
-    };
-    let read = plan::fields::read_field(rest, progress);
-    let Read::Field(field, used) = read else {
-        return Made { used: 0, bench };
-    };
-    match field {
-        Field::Event(event) => make(bench, costs, tables, sent, held, flight, way, event, used),
-        Field::Bridges(_) => Made { used: 0, bench },
-        Field::Link(_, _) => Made { used: 0, bench },
-        Field::View => Made { used: 0, bench },
+        Event::Update(bridge, view) => {
+            let y = bridge as usize;
+            let t = view as usize;
+            changes::update_ready(bench, costs, tables, sent, held, y, t)
+        }
+        Event::Send(bridge, link) => {
+            messages::send_ready(bench, flight, bridge as usize, link as usize)
+        }
+        Event::Deliver(place) => {
+            let p = place as usize;
+            by_reaction(messages::deliver_ready(bench, costs, tables, sent, held, flight, p))
+        }
+        Event::Repeat(place) => {
+            let p = place as usize;
+            by_reaction(messages::repeat_ready(bench, costs, tables, sent, held, flight, p))
+        }
+        Event::Lose(place) => messages::lose_ready(bench, flight, place as usize),
+        Event::Cut(link) => changes::cut_ready(bench, link as usize),
+        Event::Restore(link) => changes::restore_ready(bench, link as usize),
+        Event::Report(_) => Changed {
+            reply: Reply::Done,
+            bench,
+        },
+        Event::Path(_, _) => Changed {
+            reply: Reply::Done,
+            bench,
+        },
     }
 }
 
@@ -221,14 +205,28 @@ fn run_in_range(
     let mut used = 0;
     let mut going = true;
     while both(going, calls < most) {
-        let first = 3 * calls;
-        let past = first + 3;
         let left = &rest[used..];
-        let way = &mut ways[first..past];
-        let done = next_call(current, costs, tables, sent, held, flight, left, way);
-        let next = done.bench;
-        let taken = done.used;
-        current = next;
+        let next = read_next(left, current.bridges, current.links, current.views);
+        let mut taken = 0;
+        match next {
+            Next::Nothing => {}
+            Next::Asks(start, dest, size) => {
+                let from = start as usize;
+                let to = dest as usize;
+                let first = 3 * calls;
+                let past = first + 3;
+                let way = &mut ways[first..past];
+                let answer = answers::path_ready(current, costs, tables, sent, held, from, to);
+                taken = path_by(way, answer, size);
+            }
+            Next::Changes(event, size) => {
+                let done = make(current, costs, tables, sent, held, flight, event);
+                let after = done.bench;
+                let reply = done.reply;
+                current = after;
+                taken = bytes_by(reply, size);
+            }
+        }
         calls = counted(calls, taken);
         used += taken;
         going = taken != 0;

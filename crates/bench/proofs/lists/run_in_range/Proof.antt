@@ -3,16 +3,22 @@ use Prim.Native.Nat.{ℕ, _+_, _-_, _*_}
 use native.Mathlib.Omega.{arith}
 use mathlib.Core.Path.{_≡_, refl}
 use mathlib.Core.Bool.{true}
+use mathlib.Core.Logic.{⊎-elim}
+use mathlib.Core.List.{List}
 use borrow.Author.Needs.{needs}
-use lib.ListN.{length}
+use lib.ListN.{length, take, drop}
+use Rattle.distances.proofs.Booleans.{both-true}
+use Rattle.bench.specs.Changes.{number, stateInRange}
 use Rattle.bench.specs.Deliveries.{deliveryReady}
 use Rattle.bench.specs.Lists.{runs}
-use Rattle.bench.specs.State.{state}
+use Rattle.bench.specs.State.{State, state}
+use Rattle.bench.specs.declared.Bench.{Bench}
+use Rattle.bench.proofs.ListCalls.{FirstCall, way-fits, next-changes, nothing-turn, asks-turn, change-turn, ways-long}
 use Rattle.bench.proofs.ListTurns.{left, Underway, begins, goes-on, onward, shrinks, used-within, ended}
 use Rattle.bench.proofs.lists.run_in_range.Statement.{statement}
 use Rattle.bench.proofs.lists.run_in_range.Tie as tie
 
--- the width of what is lent for a call's answer
+-- the width of what is lent for a path's answer
 abbrev widthAt : ℕ → ℕ
 widthAt calls = 3 * calls + 3 - 3 * calls
 
@@ -32,17 +38,37 @@ abbrev μ-loop : tie.MeasureT-loop
 μ-loop costs tables sent₀ held₀ flight₀ rest ways₀ most current₀ calls₀ used₀ going₀ sent held flight ways current calls used going =
     left most calls going
 
+-- the state, with what the loop changes
+abbrev At : tie.Start Inv-loop μ-loop → Bench → List ℕ → List ℕ → List ℕ → State
+At s current sent held flight = state current (s .args .costs .now) (s .args .tables .now) sent held flight
+
+-- where the arms meet: one call was made, or none
+met :
+    (c : tie.At-match-came Inv-loop μ-loop) →
+    let start = c .before .before .before .before .before .before .before .before .before .before .before .before .before in
+    let l = c .before .before .before .before .before .loop in
+    let rest = start .args .rest .now in
+    FirstCall (At start (l .current) (l .sent) (l .held) (l .flight)) (take (length rest - l .used) (drop (l .used) rest)) (l .calls) (l .ways)
+    (c .match .taken)
+    (At start (c .match .current) (c .match .sent) (c .match .held) (c .match .flight))
+    (c .match .ways)
+met c =
+    let calls = c .before .before .before .before .before .loop .calls in
+    let ok = c .before .before .before .before .before .loop .inv .1 in
+    let read = c .before .read-next .ensures in
+    ⊎-elim
+    (λ w. nothing-turn _ _ _ _ _ _ _ read _ _ ok (w .1 .given .1) (w .2) (w .3) (w .4) (w .5) (w .6) (w .7))
+    (λ v. ⊎-elim
+    (λ w. asks-turn _ _ _ _ _ _ _ read _ _ ok (w .6 .result) (widthAt calls) (three calls) (w .1 .given .1) (w .6 .ensures) (w .7 .ensures) (w .10) (w .11) (w .12) (w .13) (w .14) (w .15))
+    (λ w. change-turn _ _ _ _ _ _ _ read _ _ ok (number (w .6 .result .reply)) (w .1 .given .1) (w .6 .ensures) (omega (arith, w .6 .kept)) (omega (arith, w .6 .kept)) (omega (arith, w .6 .kept)) (w .14 .ensures) (w .15) (w .16) (w .17) (w .18) (w .19) (w .20))
+    v)
+    (c .match .came)
+
 loop-holds : tie.Need-loop-holds Inv-loop μ-loop
 loop-holds c = (begins _ _ _ _ (omega arith), c .before .before .before .before .before .before .before .pre, refl, refl, refl, refl)
 
 both-requires : tie.Need-both-requires Inv-loop μ-loop
 both-requires c κs = search needs
-
-mul-first : tie.Need-mul-first Inv-loop μ-loop
-mul-first c = record { fits = omega (arith, c .before .before .loop .inv .0 .few, c .before .before .loop .inv .0 .room, c .before .before .before .before .before .before .before .before .before .before .good) }
-
-add-past : tie.Need-add-past Inv-loop μ-loop
-add-past c = record { fits = omega (arith, c .before .before .loop .inv .0 .few, c .before .before .loop .inv .0 .room, c .before .before .before .before .before .before .before .before .before .before .good) }
 
 sub-left : tie.Need-sub-left Inv-loop μ-loop
 sub-left c = omega (arith, c .before .before .loop .inv .0 .within)
@@ -52,6 +78,27 @@ part-left-start c = omega (arith, c .before .before .loop .inv .0 .within)
 
 part-left-end : tie.Need-part-left-end Inv-loop μ-loop
 part-left-end c = search needs
+
+read-next-requires : tie.Need-read-next-requires Inv-loop μ-loop
+read-next-requires c κs = search needs
+
+enum-told : tie.Need-enum-told Inv-loop μ-loop
+enum-told c = search needs
+
+enum-known-next : tie.Need-enum-known-next Inv-loop μ-loop
+enum-known-next c = search needs
+
+cast-from : tie.Need-cast-from Inv-loop μ-loop
+cast-from c = search needs
+
+cast-to : tie.Need-cast-to Inv-loop μ-loop
+cast-to c = search needs
+
+mul-first : tie.Need-mul-first Inv-loop μ-loop
+mul-first c = record { fits = omega (arith, c .before .before .before .before .before .before .before .loop .inv .0 .few, c .before .before .before .before .before .before .before .loop .inv .0 .room, c .before .before .before .before .before .before .before .before .before .before .before .before .before .before .before .good) }
+
+add-past : tie.Need-add-past Inv-loop μ-loop
+add-past c = record { fits = omega (arith, c .before .before .before .before .before .before .before .loop .inv .0 .few, c .before .before .before .before .before .before .before .loop .inv .0 .room, c .before .before .before .before .before .before .before .before .before .before .before .before .before .before .before .good) }
 
 mul-way : tie.Need-mul-way Inv-loop μ-loop
 mul-way c = search needs
@@ -63,29 +110,41 @@ part-way-start : tie.Need-part-way-start Inv-loop μ-loop
 part-way-start c = search needs
 
 part-way-end : tie.Need-part-way-end Inv-loop μ-loop
-part-way-end c = omega (arith, c .before .before .before .loop .inv .0 .room, goes-on _ _ _ _ _ _ _ (c .before .before .both .ensures) (c .before .if1 .taken) (c .before .before .before .loop .inv .0))
+part-way-end c = omega (arith, c .before .before .before .before .before .before .before .loop .inv .0 .room, goes-on _ _ _ _ _ _ _ (c .before .before .before .before .before .before .both .ensures) (c .before .before .before .before .before .if1 .taken) (c .before .before .before .before .before .before .before .loop .inv .0))
 
-next-call-requires : tie.Need-next-call-requires Inv-loop μ-loop
-next-call-requires c κs = (search needs, c .before .before .before .before .before .before .before .loop .inv .1)
+path-ready-requires : tie.Need-path-ready-requires Inv-loop μ-loop
+path-ready-requires c κs = both-true (stateInRange (At (c .before .before .before .before .before .before .before .before .before .before .before .before .before .before .before .before .before .before) (c .before .before .before .before .before .before .before .before .before .before .loop .current) (c .before .before .before .before .before .before .before .before .before .before .loop .sent) (c .before .before .before .before .before .before .before .before .before .before .loop .held) (c .before .before .before .before .before .before .before .before .before .before .loop .flight))) _ (c .before .before .before .before .before .before .before .before .before .before .loop .inv .1) .0
+
+path-by-requires : tie.Need-path-by-requires Inv-loop μ-loop
+path-by-requires c κs = (search needs, way-fits _ _ _ (c .path-ready .result) (c .path-ready .ensures))
+
+enum-known-next-2 : tie.Need-enum-known-next-2 Inv-loop μ-loop
+enum-known-next-2 c = search needs
+
+make-requires : tie.Need-make-requires Inv-loop μ-loop
+make-requires c κs = (next-changes _ _ _ _ (c .before .before .before .before .before .before .read-next .ensures) (c .before .before .before .before .next2 .given .1), c .before .before .before .before .before .before .before .before .before .before .loop .inv .1)
+
+bytes-by-requires : tie.Need-bytes-by-requires Inv-loop μ-loop
+bytes-by-requires c κs = search needs
 
 counted-requires : tie.Need-counted-requires Inv-loop μ-loop
-counted-requires c κs = omega (arith, c .before .before .before .before .before .before .before .before .before .before .before .before .before .before .before .before .before .loop .inv .0 .few, c .before .before .before .before .before .before .before .before .before .before .before .before .before .before .before .before .before .loop .inv .0 .room, c .before .before .before .before .before .before .before .before .before .before .before .before .before .before .before .before .before .before .before .before .before .before .before .before .before .good)
+counted-requires c κs = omega (arith, c .before .before .before .before .before .loop .inv .0 .few, c .before .before .before .before .before .loop .inv .0 .room, c .before .before .before .before .before .before .before .before .before .before .before .before .before .good)
 
 add-used : tie.Need-add-used Inv-loop μ-loop
-add-used c = record { fits = omega (arith, used-within _ _ _ _ _ _ _ (c .before .before .before .before .before .before .before .before .before .before .before .before .before .before .before .before .before .both .ensures) (c .before .before .before .before .before .before .before .before .before .before .before .before .before .before .before .before .if1 .taken) (c .before .before .before .before .before .before .before .before .before .before .before .before .before .before .before .before .before .before .loop .inv .0) (widthAt (c .before .before .before .before .before .before .before .before .before .before .before .before .before .before .before .before .before .before .loop .calls)) (three (c .before .before .before .before .before .before .before .before .before .before .before .before .before .before .before .before .before .before .loop .calls)) (c .before .before .before .before .before .before .before .before .before .before .next-call .ensures .0), c .before .before .before .before .before .before .before .before .before .before .before .before .before .before .before .before .before .before .before .before .before .before .before .before .before .before .good) }
+add-used c = record { fits = omega (arith, used-within _ _ _ _ _ _ _ (c .before .before .before .before .before .before .both .ensures) (c .before .before .before .before .before .if1 .taken) (c .before .before .before .before .before .before .before .loop .inv .0) (met (c .before .before)), c .before .before .before .before .before .before .before .before .before .before .before .before .before .before .before .good) }
 
 loop-less : tie.Need-loop-less Inv-loop μ-loop
-loop-less c = shrinks _ _ _ _ _ _ _ (c .before .before .before .before .before .before .before .before .before .before .before .before .before .before .before .before .before .both .ensures) (c .before .before .before .before .before .before .before .before .before .before .before .before .before .before .before .before .if1 .taken) (c .before .before .before .before .before .before .before .before .before .before .before .before .before .before .before .before .before .before .loop .inv .0) (widthAt (c .before .before .before .before .before .before .before .before .before .before .before .before .before .before .before .before .before .before .loop .calls)) (three (c .before .before .before .before .before .before .before .before .before .before .before .before .before .before .before .before .before .before .loop .calls)) (c .before .before .before .before .before .before .before .before .before .before .next-call .ensures .0) (c .counted .ensures)
+loop-less c = shrinks _ _ _ _ _ _ _ (c .before .before .before .before .before .before .both .ensures) (c .before .before .before .before .before .if1 .taken) (c .before .before .before .before .before .before .before .loop .inv .0) (met (c .before .before)) (c .before .counted .ensures)
 
 loop-again : tie.Need-loop-again Inv-loop μ-loop
-loop-again c = let kept = c .before .before .before .before .before .before .before .before .before .before .next-call .kept in
-    let old = c .before .before .before .before .before .before .before .before .before .before .before .before .before .before .before .before .before .before .loop .inv in (
-      onward _ _ _ _ _ _ _ (c .before .before .before .before .before .before .before .before .before .before .before .before .before .before .before .before .before .both .ensures) (c .before .before .before .before .before .before .before .before .before .before .before .before .before .before .before .before .if1 .taken) (old .0) (widthAt (c .before .before .before .before .before .before .before .before .before .before .before .before .before .before .before .before .before .before .loop .calls)) (three (c .before .before .before .before .before .before .before .before .before .before .before .before .before .before .before .before .before .before .loop .calls)) (c .before .before .before .before .before .before .before .before .before .before .next-call .ensures .0) (c .counted .ensures),
-      c .before .before .before .before .before .before .before .before .before .before .next-call .ensures .1,
-      omega (arith, kept, old .2),
-      omega (arith, kept, old .3),
-      omega (arith, kept, old .4),
-      omega (arith, kept, old .5),
+loop-again c = let old = c .before .before .before .before .before .before .before .loop .inv in
+    let f = met (c .before .before) in (
+      onward _ _ _ _ _ _ _ (c .before .before .before .before .before .before .both .ensures) (c .before .before .before .before .before .if1 .taken) (old .0) f (c .before .counted .ensures),
+      f .ready,
+      omega (arith, f .sentLong, old .2),
+      omega (arith, f .heldLong, old .3),
+      omega (arith, f .flightLong, old .4),
+      omega (arith, ways-long _ _ _ _ f, old .5),
     )
 
 same-length : tie.Need-same-length Inv-loop μ-loop
@@ -111,16 +170,25 @@ run-in-range-spec =
     μ-loop
     loop-holds
     both-requires
-    mul-first
-    add-past
     sub-left
     part-left-start
     part-left-end
+    read-next-requires
+    enum-told
+    enum-known-next
+    cast-from
+    cast-to
+    mul-first
+    add-past
     mul-way
     sub-way
     part-way-start
     part-way-end
-    next-call-requires
+    path-ready-requires
+    path-by-requires
+    enum-known-next-2
+    make-requires
+    bytes-by-requires
     counted-requires
     add-used
     loop-less

@@ -11,8 +11,8 @@ mod rows;
 // `discarded` the discarded number; `holding` says whether a view is held from the neighbour.
 pub struct EndRecord {
     pub received: u16,
-    pub view: u8,
     pub discarded: u16,
+    pub view: u8,
     pub holding: bool,
 }
 

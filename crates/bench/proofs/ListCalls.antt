@@ -14,9 +14,9 @@ use Rattle.plan.specs.declared.Field.{Field}
 use Rattle.plan.specs.declared.Read.{Read}
 use Rattle.bench.specs.State.{State, state}
 use Rattle.bench.specs.Deliveries.{deliveryReady}
-use Rattle.bench.specs.Answers.{waySays, pathOf}
+use Rattle.bench.specs.Answers.{WayFits, waySays, pathOf}
 use Rattle.bench.specs.Lists.{wayNumbers, Made, made, eventMade, readMade, progressOf, firstMade}
-use Rattle.bench.specs.Steps.{WayFits, nextIn, nextAt, IsChange, Makes}
+use Rattle.bench.specs.Steps.{nextIn, nextAt, IsChange, Makes}
 use Rattle.bench.specs.declared.Bench.{Bench}
 use Rattle.bench.specs.declared.Way.{Way}
 use Rattle.bench.specs.declared.lists.Next.{Next}

@@ -1,5 +1,5 @@
 -- What port, report and path answer. Assumes nothing.
-use Prim.Native.Nat.{ℕ, zero, suc, _+_, _-_, _*_}
+use Prim.Native.Nat.{ℕ, zero, suc, _+_, _-_, _*_, _<_}
 use mathlib.Core.Bool.{Bool, _&&_}
 use mathlib.Core.List.{List, [], _∷_}
 use lib.ListN.{length, getD, set}
@@ -30,6 +30,12 @@ abbrev pub waySays : Way → Said paths.Way
 waySays (Way.Refused k) = refusedBy k
 waySays (Way.Delivered h) = says (paths.delivered h)
 waySays (Way.Stops last h) = says (paths.stops last h)
+
+-- for private functions: the numbers of a path's reply have 32 bits
+abbrev pub WayFits : Way → Type 0
+WayFits (Way.Refused k) = Unit {0}
+WayFits (Way.Delivered h) = h < 4294967296
+WayFits (Way.Stops last h) = (last < 4294967296) × (h < 4294967296)
 
 -- the port that layer 2 finds for bridge y, in y's view
 unfoldable pub found : List Port → Port

@@ -22,7 +22,6 @@ use Rattle.bench.specs.Lists.{made, eventMade}
 use Rattle.bench.specs.Ports.{Hop, stays, crosses}
 use Rattle.bench.specs.declared.Bench.{Bench}
 use Rattle.bench.specs.declared.Hop as code
-use Rattle.bench.specs.declared.Way.{Way}
 use Rattle.bench.specs.declared.lists.Next.{Next}
 
 -- what the entry check has told of a bench and of what is lent beside it
@@ -57,12 +56,6 @@ AreChoices s d e n choices = (y : ℕ) → y < n → (none : Choice) → getD ch
 abbrev pub hopSays : code.Hop → Hop
 hopSays code.Hop.Stays = stays
 hopSays (code.Hop.Crosses l z) = crosses l z
-
--- a way's numbers fit in 32 bits
-abbrev pub WayFits : Way → Type 0
-WayFits (Way.Refused k) = Unit {0}
-WayFits (Way.Delivered h) = h < 4294967296
-WayFits (Way.Stops last h) = (last < 4294967296) × (h < 4294967296)
 
 -- what an event is to a list of calls: a report is not made in it
 abbrev pub nextOf : Event → ℕ → Next

@@ -24,10 +24,10 @@ ghost use lib.Seq.{sets};
 ghost use lib.Dec.{eqb};
 ghost use Rattle.bench.specs.Changes.{number, NoZero};
 ghost use Rattle.bench.specs.Deliveries.{reactionSays, deliveryReady};
-ghost use Rattle.bench.specs.Answers.{waySays};
+ghost use Rattle.bench.specs.Answers.{WayFits, waySays};
 ghost use Rattle.bench.specs.State.{state};
 ghost use Rattle.bench.specs.Lists.{wayNumbers, ran, runs, listed, listOf};
-ghost use Rattle.bench.specs.Steps.{nextOf, nextAt, IsChange, WayFits, Makes};
+ghost use Rattle.bench.specs.Steps.{nextOf, nextAt, IsChange, Makes};
 
 // What stands at the head of the bytes that are left: nothing that a list makes; a path; any other call. With the bytes that it takes.
 enum Next {

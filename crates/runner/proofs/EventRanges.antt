@@ -1,6 +1,5 @@
--- The numbers that an accepted report or path prints are few: the bridges, the hops, and the bridge where a path stops. Assumes nothing.
+-- An accepted report is of few bridges. Assumes nothing.
 use Prim.Native.Nat.{ℕ, _≤_}
-use native.Mathlib.Omega.{arith}
 use mathlib.Core.Path.{_≡_, sym, ap, _∙_}
 use mathlib.Core.Bool.{true, _&&_}
 use mathlib.Core.List.{List}
@@ -9,18 +8,11 @@ use lib.ListN.{length}
 use lib.Dec.{leb}
 use Rattle.distances.proofs.Booleans.{true-both}
 use Rattle.bench.specs.State.{State}
-use Rattle.bench.specs.Answers.{waySays, Reported, report, reportOf, pathOf}
-use Rattle.bench.specs.declared.Way.{Way}
-use Rattle.bench.proofs.AnswerRanges.{path-told, report-few}
-use Rattle.runner.specs.Events.{wayFits}
+use Rattle.bench.specs.Answers.{Reported, report, reportOf}
+use Rattle.bench.proofs.AnswerRanges.{report-few}
 
 module _ (s : State) where
-  pub path-fits : (y d : ℕ) (way : Way) → waySays way ≡ pathOf s y d → wayFits way
-  path-fits y d (Way.Refused k) e = tt
-  path-fits y d (Way.Delivered h) e = let told = path-told s y d _ (sym e) in omega (arith, told .few, told .short)
-  path-fits y d (Way.Stops b h) e = let told = path-told s y d _ (sym e) in omega (arith, told .few, told .short, told .last)
-
-  -- an accepted report is of few bridges: its text is let pass
+  -- so its text is let pass
   pub report-ready :
       (d k : ℕ) (rows after : List ℕ) →
       report k after ≡ reportOf s d rows →

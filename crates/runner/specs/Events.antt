@@ -1,5 +1,5 @@
 -- What an event does, and what it prints (document 01, "Events" and "Plan file"). Assumes nothing.
-use Prim.Native.Nat.{ℕ, _<_, _^_}
+use Prim.Native.Nat.{ℕ}
 use mathlib.Core.Bool.{cond}
 use mathlib.Core.List.{List, [], _∷_}
 use lib.ListN.{length}
@@ -14,7 +14,6 @@ use Rattle.bench.specs.Deliveries.{deliverOf, repeatOf}
 use Rattle.bench.specs.Answers.{reportOf, pathOf}
 use Rattle.bench.specs.Whole.{stepBy}
 use Rattle.bench.specs.declared.Bench.{Bench}
-use Rattle.bench.specs.declared.Way.{Way}
 use Rattle.plan.specs.declared.Event.{Event}
 use Rattle.plan.specs.declared.Event.the-variants.{Update, Send, Deliver, Repeat, Lose, Cut, Restore, Report, Path}
 use Rattle.text.specs.Lines.{reportText, deliveredText, stopsText}
@@ -108,9 +107,3 @@ line count out = record { count = count; out = out }
 
 abbrev pub lineOf : List ℕ → List ℕ → Line
 lineOf text out = line (length text) (sets out 0 text)
-
--- a path's numbers fit a line: hops and bridges do
-abbrev pub wayFits : Way → Type 0
-wayFits (Way.Refused k) = Unit {0}
-wayFits (Way.Delivered h) = h < 2 ^ 32
-wayFits (Way.Stops b h) = (b < 2 ^ 32) × (h < 2 ^ 32)

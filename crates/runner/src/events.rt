@@ -11,8 +11,8 @@ ghost use Rattle.bench.specs.State.{state};
 ghost use Rattle.bench.specs.Changes.{number};
 ghost use Rattle.bench.specs.Deliveries.{reactionSays};
 ghost use Rattle.plan.specs.declared.Event.the-variants.{Update, Send, Deliver, Repeat, Lose, Cut, Restore, Report, Path};
-ghost use Rattle.bench.specs.Answers.{waySays};
-ghost use Rattle.runner.specs.Events.{wayText, wayFits, happening, happenedOf, line, lineOf};
+ghost use Rattle.bench.specs.Answers.{waySays, WayFits};
+ghost use Rattle.runner.specs.Events.{wayText, happening, happenedOf, line, lineOf};
 
 fn number_of(reply: bench::Reply) -> u8
     ensures { λ r. ⌜ r ≡ number reply ⌝ }
@@ -186,7 +186,7 @@ fn report_event(
 }
 
 pub(crate) fn path_text(out: &mut [u8], start: u8, dest: u8, way: bench::Way) -> usize
-    requires { ⌜ (544 ≤ length (now out)) × wayFits way ⌝ }
+    requires { ⌜ (544 ≤ length (now out)) × WayFits way ⌝ }
     ensures { λ r. ⌜ line r (now (out .exit)) ≡ lineOf (wayText start dest (waySays way .value)) (now (out .entry)) ⌝ }
 {
     match way {

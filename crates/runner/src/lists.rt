@@ -16,10 +16,10 @@ ghost use mathlib.Core.List.{List, [], _∷_};
 ghost use Prim.Native.Nat.{ℕ, _+_, _-_, _*_, _/_, _^_, _<_, _≤_};
 ghost use lib.ListN.{length};
 ghost use Rattle.agreement.specs.Call.{says};
-ghost use Rattle.bench.specs.Answers.{waySays};
+ghost use Rattle.bench.specs.Answers.{waySays, WayFits};
 ghost use Rattle.bench.specs.Lists.{progressOf};
 ghost use Rattle.text.specs.Writing.{Put};
-ghost use Rattle.runner.specs.Events.{wayFits, line, lineOf};
+ghost use Rattle.runner.specs.Events.{line, lineOf};
 ghost use Rattle.runner.specs.Buffers.{buffers};
 ghost use Rattle.runner.specs.Turns.{turn};
 ghost use Rattle.runner.specs.Lists.{wayIn, headText, listTexts, ListFits, listedOn, MadeOrNot};
@@ -63,7 +63,7 @@ fn list_room(room: usize) -> usize
 
 // The path that three numbers tell.
 fn way_of(stops: u32, last: u32, hops: u32) -> Way
-    ensures { λ w. ⌜ (waySays w ≡ says (wayIn (stops ∷ last ∷ hops ∷ []))) × wayFits w ⌝ }
+    ensures { λ w. ⌜ (waySays w ≡ says (wayIn (stops ∷ last ∷ hops ∷ []))) × WayFits w ⌝ }
 {
     if stops == 0 {
         return Way::Delivered(hops as usize);

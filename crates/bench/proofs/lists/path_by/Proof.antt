@@ -3,7 +3,7 @@ use native.Mathlib.Omega.{arith}
 use mathlib.Core.Path.{refl, subst}
 use borrow.Author.Needs.{needs}
 use Rattle.bench.specs.Lists.{wayNumbers}
-use Rattle.bench.specs.Steps.{WayFits}
+use Rattle.bench.specs.Answers.{WayFits}
 use Rattle.bench.proofs.lists.path_by.Statement.{statement}
 use Rattle.bench.proofs.lists.path_by.Tie as tie
 

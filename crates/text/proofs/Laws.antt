@@ -27,6 +27,16 @@ unfolding digits
 digits-more zero n p h = absurd (omega arith)
 digits-more (suc k) n p h = let e : suc k - 1 ≡ k = omega arith in rw (le-ltb n 10 h, e)
 
+-- two digits, and three
+pub digits-two : (k n : ℕ) → 0 < k → 10 ≤ n → n < 100 → digits k n ≡ digit (n / 10 % 10) ∷ digit (n % 10) ∷ []
+digits-two k n p h l = rw (digits-more k n p h, digits-one (k - 1) (n / 10) (omega arith))
+
+pub digits-three :
+    (k n : ℕ) → 1 < k → 100 ≤ n → n < 1000 →
+    digits k n ≡ digit (n / 10 / 10 % 10) ∷ digit (n / 10 % 10) ∷ digit (n % 10) ∷ []
+digits-three k n p h l =
+    rw (digits-more k n (omega arith) (omega arith), digits-two (k - 1) (n / 10) (omega arith) (omega arith) (omega arith))
+
 -- what holds of each byte of a list and of one more holds of each byte of both
 every-more :
     (P : ℕ → Type 0) (s : List ℕ) (b : ℕ) → ((i : ℕ) → i < length s → P (getD s i 0)) → P b →

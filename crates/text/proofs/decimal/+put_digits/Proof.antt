@@ -9,7 +9,7 @@ use borrow.Fn.PlainCycle.{Measures, is, falls, and}
 use Rattle.text.proofs.decimal.put_digits.Reads as put-digits
 use Rattle.text.proofs.decimal.put_digits.Kinds as put-digits-kinds
 use Rattle.text.proofs.decimal.+put_digits.Lts-put_digits as put-digits-lts
-use Rattle.text.proofs.decimal.put_byte.Reads as put-byte-reads
+use Rattle.text.proofs.decimal.put_digit.Reads as put-digit-reads
 use Rattle.text.proofs.decimal.+put_digits.{statement}
 use Rattle.text.proofs.decimal.+put_digits.Tie.{close}
 
@@ -24,165 +24,111 @@ abbrev put-digits-below : ℕ → In 1 put-digits-kinds.ps
 put-digits-below t =
     and 1 put-digits-kinds.ps (falls 1 put-digits-kinds.ps _<_ μ-put-digits t) put-digits.Pre
 
-put-digits-cast-put-byte : (t : ℕ) → put-digits-lts.Need-cast-put-byte (
-  put-byte-reads.Asked,
-  put-byte-reads.Learnt,
+put-digits-put-digit-requires : (t : ℕ) → put-digits-lts.Need-put-digit-requires (
+  put-digit-reads.Asked,
+  put-digit-reads.Learnt,
   put-digits-below t,
   put-digits.Post,
 ) (put-digits-at t) put-digits.Post
-put-digits-cast-put-byte t c = omega arith
-
-put-digits-add-put-byte : (t : ℕ) → put-digits-lts.Need-add-put-byte (
-  put-byte-reads.Asked,
-  put-byte-reads.Learnt,
-  put-digits-below t,
-  put-digits.Post,
-) (put-digits-at t) put-digits.Post
-put-digits-add-put-byte t c = omega arith
-
-put-digits-put-byte-requires : (t : ℕ) → put-digits-lts.Need-put-byte-requires (
-  put-byte-reads.Asked,
-  put-byte-reads.Learnt,
-  put-digits-below t,
-  put-digits.Post,
-) (put-digits-at t) put-digits.Post
-put-digits-put-byte-requires t c κs = omega arith
+put-digits-put-digit-requires t c κs = omega arith
 
 put-digits-same-length : (t : ℕ) → put-digits-lts.Need-same-length (
-  put-byte-reads.Asked,
-  put-byte-reads.Learnt,
+  put-digit-reads.Asked,
+  put-digit-reads.Learnt,
   put-digits-below t,
   put-digits.Post,
 ) (put-digits-at t) put-digits.Post
-put-digits-same-length t c = c .before .before .put-byte .kept .0
+put-digits-same-length t c = c .before .before .put-digit .kept .0
 
 put-digits-returns : (t : ℕ) → put-digits-lts.Need-returns (
-  put-byte-reads.Asked,
-  put-byte-reads.Learnt,
+  put-digit-reads.Asked,
+  put-digit-reads.Learnt,
   put-digits-below t,
   put-digits.Post,
 ) (put-digits-at t) put-digits.Post
-put-digits-returns t c = (rw (c .before .before .before .before .if1 .taken, digits-last) (c .before .before .put-byte .ensures), omega arith)
+put-digits-returns t c = (rw (c .before .before .before .before .if1 .taken, digits-last) (c .before .before .put-digit .ensures), omega arith)
 
-put-digits-cast-put-byte-2 : (t : ℕ) → put-digits-lts.Need-cast-put-byte-2 (
-  put-byte-reads.Asked,
-  put-byte-reads.Learnt,
+put-digits-put-digit-requires-2 : (t : ℕ) → put-digits-lts.Need-put-digit-requires-2 (
+  put-digit-reads.Asked,
+  put-digit-reads.Learnt,
   put-digits-below t,
   put-digits.Post,
 ) (put-digits-at t) put-digits.Post
-put-digits-cast-put-byte-2 t c = omega arith
-
-put-digits-add-put-byte-2 : (t : ℕ) → put-digits-lts.Need-add-put-byte-2 (
-  put-byte-reads.Asked,
-  put-byte-reads.Learnt,
-  put-digits-below t,
-  put-digits.Post,
-) (put-digits-at t) put-digits.Post
-put-digits-add-put-byte-2 t c = omega arith
-
-put-digits-put-byte-requires-2 : (t : ℕ) → put-digits-lts.Need-put-byte-requires-2 (
-  put-byte-reads.Asked,
-  put-byte-reads.Learnt,
-  put-digits-below t,
-  put-digits.Post,
-) (put-digits-at t) put-digits.Post
-put-digits-put-byte-requires-2 t c κs = omega arith
+put-digits-put-digit-requires-2 t c κs = omega arith
 
 put-digits-same-length-2 : (t : ℕ) → put-digits-lts.Need-same-length-2 (
-  put-byte-reads.Asked,
-  put-byte-reads.Learnt,
+  put-digit-reads.Asked,
+  put-digit-reads.Learnt,
   put-digits-below t,
   put-digits.Post,
 ) (put-digits-at t) put-digits.Post
-put-digits-same-length-2 t c = c .before .before .put-byte2 .kept .0
+put-digits-same-length-2 t c = c .before .before .put-digit2 .kept .0
 
 put-digits-returns-2 : (t : ℕ) → put-digits-lts.Need-returns-2 (
-  put-byte-reads.Asked,
-  put-byte-reads.Learnt,
+  put-digit-reads.Asked,
+  put-digit-reads.Learnt,
   put-digits-below t,
   put-digits.Post,
 ) (put-digits-at t) put-digits.Post
-put-digits-returns-2 t c = (rw (digits-one (c .before .before .before .before .before .before .before .args .more) (c .before .before .before .before .before .before .before .args .n) (c .before .before .before .before .if2 .taken)) (c .before .before .put-byte2 .ensures), omega arith)
+put-digits-returns-2 t c = (rw (digits-one (c .before .before .before .before .before .before .before .args .more) (c .before .before .before .before .before .before .before .args .n) (c .before .before .before .before .if2 .taken)) (c .before .before .put-digit2 .ensures), omega arith)
 
 put-digits-sub-put-digits : (t : ℕ) → put-digits-lts.Need-sub-put-digits (
-  put-byte-reads.Asked,
-  put-byte-reads.Learnt,
+  put-digit-reads.Asked,
+  put-digit-reads.Learnt,
   put-digits-below t,
   put-digits.Post,
 ) (put-digits-at t) put-digits.Post
 put-digits-sub-put-digits t c = omega arith
 
 put-digits-put-digits-requires : (t : ℕ) → put-digits-lts.Need-put-digits-requires (
-  put-byte-reads.Asked,
-  put-byte-reads.Learnt,
+  put-digit-reads.Asked,
+  put-digit-reads.Learnt,
   put-digits-below t,
   put-digits.Post,
 ) (put-digits-at t) put-digits.Post
 put-digits-put-digits-requires t c κs = omega arith
 
-put-digits-cast-put-byte-3 : (t : ℕ) → put-digits-lts.Need-cast-put-byte-3 (
-  put-byte-reads.Asked,
-  put-byte-reads.Learnt,
+put-digits-put-digit-requires-3 : (t : ℕ) → put-digits-lts.Need-put-digit-requires-3 (
+  put-digit-reads.Asked,
+  put-digit-reads.Learnt,
   put-digits-below t,
   put-digits.Post,
 ) (put-digits-at t) put-digits.Post
-put-digits-cast-put-byte-3 t c = omega arith
-
-put-digits-add-put-byte-3 : (t : ℕ) → put-digits-lts.Need-add-put-byte-3 (
-  put-byte-reads.Asked,
-  put-byte-reads.Learnt,
-  put-digits-below t,
-  put-digits.Post,
-) (put-digits-at t) put-digits.Post
-put-digits-add-put-byte-3 t c = omega arith
-
-put-digits-put-byte-requires-3 : (t : ℕ) → put-digits-lts.Need-put-byte-requires-3 (
-  put-byte-reads.Asked,
-  put-byte-reads.Learnt,
-  put-digits-below t,
-  put-digits.Post,
-) (put-digits-at t) put-digits.Post
-put-digits-put-byte-requires-3 t c κs = omega arith
+put-digits-put-digit-requires-3 t c κs = omega arith
 
 put-digits-same-length-3 : (t : ℕ) → put-digits-lts.Need-same-length-3 (
-  put-byte-reads.Asked,
-  put-byte-reads.Learnt,
+  put-digit-reads.Asked,
+  put-digit-reads.Learnt,
   put-digits-below t,
   put-digits.Post,
 ) (put-digits-at t) put-digits.Post
-put-digits-same-length-3 t c = c .before .before .put-byte3 .kept .0 ∙ c .before .before .before .before .before .before .put-digits .kept .0
+put-digits-same-length-3 t c = c .before .before .put-digit3 .kept .0 ∙ c .before .before .before .before .before .before .put-digits .kept .0
 
 put-digits-returns-3 : (t : ℕ) → put-digits-lts.Need-returns-3 (
-  put-byte-reads.Asked,
-  put-byte-reads.Learnt,
+  put-digit-reads.Asked,
+  put-digit-reads.Learnt,
   put-digits-below t,
   put-digits.Post,
 ) (put-digits-at t) put-digits.Post
-put-digits-returns-3 t c = (rw (digits-more (c .before .before .before .before .before .before .before .before .before .before .before .args .more) (c .before .before .before .before .before .before .before .before .before .before .before .args .n) (omega arith) (c .before .before .before .before .before .before .before .before .if2 .left)) (joined (c .before .before .before .before .before .before .put-digits .ensures .0) (c .before .before .put-byte3 .ensures)), omega arith)
+put-digits-returns-3 t c = (rw (digits-more (c .before .before .before .before .before .before .before .before .before .before .before .args .more) (c .before .before .before .before .before .before .before .before .before .before .before .args .n) (omega arith) (c .before .before .before .before .before .before .before .before .if2 .left)) (joined (c .before .before .before .before .before .before .put-digits .ensures .0) (c .before .before .put-digit3 .ensures)), omega arith)
 
 pub +put-digits-spec : {M : Type 1} → statement M
 +put-digits-spec = close μ-put-digits λ t. put-digits-lts.spec (
-  put-byte-reads.Asked,
-  put-byte-reads.Learnt,
+  put-digit-reads.Asked,
+  put-digit-reads.Learnt,
   put-digits-below t,
   put-digits.Post,
 )
     (put-digits-at t)
     put-digits.Post
-    (put-digits-cast-put-byte t)
-    (put-digits-add-put-byte t)
-    (put-digits-put-byte-requires t)
+    (put-digits-put-digit-requires t)
     (put-digits-same-length t)
     (put-digits-returns t)
-    (put-digits-cast-put-byte-2 t)
-    (put-digits-add-put-byte-2 t)
-    (put-digits-put-byte-requires-2 t)
+    (put-digits-put-digit-requires-2 t)
     (put-digits-same-length-2 t)
     (put-digits-returns-2 t)
     (put-digits-sub-put-digits t)
     (put-digits-put-digits-requires t)
-    (put-digits-cast-put-byte-3 t)
-    (put-digits-add-put-byte-3 t)
-    (put-digits-put-byte-requires-3 t)
+    (put-digits-put-digit-requires-3 t)
     (put-digits-same-length-3 t)
     (put-digits-returns-3 t)

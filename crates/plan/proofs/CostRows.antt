@@ -9,6 +9,7 @@ use borrow.Author.Tests.{le-leb, eqb-true, eqb-false}
 use lib.ListN.{length, getD, length-set}
 use lib.Seq.{getD-set-same, getD-set-other}
 use lib.Dec.{eqb, leb}
+use Rattle.plan.specs.Sizes.{mostLinks}
 use Rattle.plan.specs.Fields.{costIn}
 use Rattle.plan.specs.Reading.{withCosts, stored, costsReply}
 
@@ -31,12 +32,12 @@ module _ (rest : List ℕ) where
   module _ (links : ℕ) (row : List ℕ) where
     pub row-length : length (costsReply rest links row .row) ≡ length row
     unfolding costsReply
-    row-length = go (leb links 32 && leb 32 (length row))
+    row-length = go (leb links mostLinks && leb mostLinks (length row))
       where
         go : (b : Bool) → length (cond b (stored 0 (withCosts rest links row)) (stored 17 row) .row) ≡ length row
         go true = costs-length links row
         go false = refl
 
-    pub row-cost : links ≤ 32 → 32 ≤ length row → (l : ℕ) → l < links → getD (costsReply rest links row .row) l 0 ≡ costIn rest l
+    pub row-cost : links ≤ mostLinks → mostLinks ≤ length row → (l : ℕ) → l < links → getD (costsReply rest links row .row) l 0 ≡ costIn rest l
     unfolding costsReply
-    row-cost few long l h = rw (le-leb links 32 few, le-leb 32 (length row) long) (costs-at links row l h (omega arith))
+    row-cost few long l h = rw (le-leb links mostLinks few, le-leb mostLinks (length row) long) (costs-at links row l h (omega arith))

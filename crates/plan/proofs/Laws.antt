@@ -4,30 +4,34 @@ use native.Mathlib.Omega.{arith}
 use mathlib.Core.Path.{_≡_, refl, sym, subst, _∙_}
 use mathlib.Core.Logic.{⊎-elim}
 use mathlib.Core.Bool.{Bool, true, false, cond, _&&_, _||_, not}
-use mathlib.Core.List.{List, [], _∷_}
+use mathlib.Core.List.{List, []}
 use borrow.Author.Tests.{ltb-true, ltb-false, leb-true, leb-false, eqb-true, eqb-false, not-true, not-false}
 use lib.ListN.{length}
 use lib.Dec.{eqb, leb, ltb}
+use Rattle.distances.specs.View.{maxCost}
 use Rattle.distances.specs.Call.{allBelow}
 use Rattle.distances.specs.Refusal.{check, refusal}
 use Rattle.distances.proofs.Booleans.{both-true, one-true}
 use Rattle.distances.proofs.Ranges.{allBelow-true, allBelow-none, allBelow-more}
-use Rattle.plan.specs.Fields.{byte, tag, valueLength, size, lengthFor, costIn, eventBy, fieldOf}
-use Rattle.plan.specs.Reading.{outOfOrder, headerChecks, costsFit, bridgeChecks, linkChecks, viewChecks, valueChecks, fieldRefusal, readOf, progressInRange, readReply}
+use Rattle.plan.specs.Sizes.{leastBridges, mostBridges, mostLinks, mostViews, headerBytes}
+use Rattle.plan.specs.Tags.{tags, mayCome, passes, known, inOrder, rightLength}
+use Rattle.plan.specs.Fields.{value, tag, valueLength, size, costIn, eventBy, fieldOf}
+use Rattle.plan.specs.Reading.{headerChecks, costsFit, bridgeChecks, linkChecks, viewChecks, valueChecks, fieldRefusal, readOf, progressInRange, readReply}
 use Rattle.plan.specs.declared.Progress.{Progress}
 use Rattle.plan.specs.declared.Field.{Field}
 use Rattle.plan.specs.declared.Read.{Read}
 use Rattle.distances.proofs.Refusals.{passed}
+use Rattle.plan.proofs.TagTable.{event-late}
 
 -- what the checks of each field tell
 pub record BridgesRead (p : Progress) (n : ℕ) : Type 0 where
   pub opening : p .stage ≡ 0
-  pub least : 2 ≤ n
-  pub most : n ≤ 16
+  pub least : leastBridges ≤ n
+  pub most : n ≤ mostBridges
 
 pub record LinkRead (p : Progress) (a b : ℕ) : Type 0 where
   pub counted : p .stage ≡ 1
-  pub room : p .links < 32
+  pub room : p .links < mostLinks
   pub first : a < p .bridges
   pub second : b < p .bridges
   pub differ : a ≡ b → ⊥
@@ -35,9 +39,9 @@ pub record LinkRead (p : Progress) (a b : ℕ) : Type 0 where
 pub record ViewRead (rest : List ℕ) (p : Progress) : Type 0 where
   pub counted : 1 ≤ p .stage
   pub early : p .stage ≤ 2
-  pub listed : p .links ≤ 32
-  pub room : p .views < 32
-  pub costs : (l : ℕ) → l < p .links → costIn rest l ≤ 16777215
+  pub listed : p .links ≤ mostLinks
+  pub room : p .views < mostViews
+  pub costs : (l : ℕ) → l < p .links → costIn rest l ≤ maxCost
 
 abbrev pub Told : List ℕ → Progress → Field → Type 0
 Told rest p (Field.Bridges n) = BridgesRead p n
@@ -46,26 +50,26 @@ Told rest p Field.View = ViewRead rest p
 Told rest p (Field.Event v) = 2 ≤ p .stage
 
 -- the tests of all costs, as the tests below a bound
-fits-below : (rest : List ℕ) (k : ℕ) → costsFit rest k ≡ allBelow k (λ l. leb (costIn rest l) 16777215)
+fits-below : (rest : List ℕ) (k : ℕ) → costsFit rest k ≡ allBelow k (λ l. leb (costIn rest l) maxCost)
 unfolding costsFit
 fits-below rest zero = allBelow-none _
 fits-below rest (suc k) = rw (fits-below rest k, allBelow-more)
 
 -- a view's stage is 1 or 2
-view-stage : (s : ℕ) → not (eqb s 1 || eqb s 2) ≡ false → (1 ≤ s) × (s ≤ 2)
+view-stage : (s : ℕ) → (eqb s 1 || eqb s 2) ≡ true → (1 ≤ s) × (s ≤ 2)
 view-stage s e =
     ⊎-elim
     (λ h. omega (arith, eqb-true s 1 h))
     (λ h. omega (arith, eqb-true s 2 h))
-    (one-true (eqb s 1) (eqb s 2) (not-false _ e))
+    (one-true (eqb s 1) (eqb s 2) e)
 
--- a progress in range has at most 32 links
-pub in-range-links : (p : Progress) → progressInRange p ≡ true → p .links ≤ 32
+-- a progress in range has no link too many
+pub in-range-links : (p : Progress) → progressInRange p ≡ true → p .links ≤ mostLinks
 unfolding progressInRange
 in-range-links p e =
     let counts = both-true (leb (p .stage) 3) _ e .1 in
-    let more = both-true (eqb (p .bridges) 0 || leb 2 (p .bridges) && leb (p .bridges) 16) _ counts .1 in
-    leb-true (p .links) 32 (both-true (leb (p .links) 32) _ more .0)
+    let more = both-true (eqb (p .bridges) 0 || leb leastBridges (p .bridges) && leb (p .bridges) mostBridges) _ counts .1 in
+    leb-true (p .links) mostLinks (both-true (leb (p .links) mostLinks) _ more .0)
 
 -- a stop is no field
 stops : {n : ℕ} {f : Field} {k : ℕ} → Read.Stop n ≡ Read.Field f k → ⊥
@@ -73,79 +77,79 @@ stops e = let z : _≡_ {A = ℕ} 0 1 = cc in omega arith
 
 module _ (rest : List ℕ) (p : Progress) where
   record Header : Type 0 where
-    order : outOfOrder (p .stage) (tag rest) ≡ false
+    order : inOrder (tag rest) (p .stage) ≡ true
     whole : size rest ≤ length rest
 
   header-told : refusal (headerChecks rest p) ≡ 0 → Header
   unfolding headerChecks
   header-told e =
-      let one = passed (check (ltb (length rest) 3) 1) _ (omega arith) e in
-      let two = passed (check (not (leb 1 (tag rest) && leb (tag rest) 12)) 2) _ (omega arith) (one .1) in
-      let three = passed (check (outOfOrder (p .stage) (tag rest)) 4) _ (omega arith) (two .1) in
-      let four = passed (check (not (eqb (valueLength rest) (lengthFor (p .links) (tag rest)))) 3) _ (omega arith) (three .1) in
+      let one = passed (check (ltb (length rest) headerBytes) 1) _ (omega arith) e in
+      let two = passed (check (not (known (tag rest))) 2) _ (omega arith) (one .1) in
+      let three = passed (check (not (inOrder (tag rest) (p .stage))) 4) _ (omega arith) (two .1) in
+      let four = passed (check (not (rightLength (tag rest) (p .links) (valueLength rest))) 3) _ (omega arith) (three .1) in
       let five = passed (check (ltb (length rest) (size rest)) 1) _ (omega arith) (four .1) in
-      record { order = three .0; whole = ltb-false (length rest) (size rest) (five .0) }
+      record { order = not-false _ (three .0); whole = ltb-false (length rest) (size rest) (five .0) }
 
-  bridges-told : tag rest ≡ 1 → outOfOrder (p .stage) (tag rest) ≡ false → refusal (bridgeChecks rest p) ≡ 0 → BridgesRead p (byte rest 3)
-  unfolding outOfOrder bridgeChecks
+  bridges-told : tag rest ≡ 1 → inOrder (tag rest) (p .stage) ≡ true → refusal (bridgeChecks rest p) ≡ 0 → BridgesRead p (value rest 0)
+  unfolding inOrder passes tags mayCome bridgeChecks
   bridges-told t order e =
-      let one = passed (check (not (leb 2 (byte rest 3) && leb (byte rest 3) 16)) 5) [] (omega arith) e in
-      let both = both-true (leb 2 (byte rest 3)) (leb (byte rest 3) 16) (not-false _ (one .0)) in
+      let one = passed (check (not (leb leastBridges (value rest 0) && leb (value rest 0) mostBridges)) 5) [] (omega arith) e in
+      let both = both-true (leb leastBridges (value rest 0)) (leb (value rest 0) mostBridges) (not-false _ (one .0)) in
       record {
-        opening = eqb-true (p .stage) 0 (not-false _ (rw t at order));
-        least = leb-true 2 (byte rest 3) (both .0);
-        most = leb-true (byte rest 3) 16 (both .1);
+        opening = eqb-true (p .stage) 0 (rw t at order);
+        least = leb-true leastBridges (value rest 0) (both .0);
+        most = leb-true (value rest 0) mostBridges (both .1);
       }
 
-  link-told : tag rest ≡ 2 → outOfOrder (p .stage) (tag rest) ≡ false → refusal (linkChecks rest p) ≡ 0 → LinkRead p (byte rest 3) (byte rest 4)
-  unfolding outOfOrder linkChecks
+  link-told : tag rest ≡ 2 → inOrder (tag rest) (p .stage) ≡ true → refusal (linkChecks rest p) ≡ 0 → LinkRead p (value rest 0) (value rest 1)
+  unfolding inOrder passes tags mayCome linkChecks
   link-told t order e =
-      let a = byte rest 3 in
-      let b = byte rest 4 in
-      let one = passed (check (leb 32 (p .links)) 6) _ (omega arith) e in
+      let a = value rest 0 in
+      let b = value rest 1 in
+      let one = passed (check (leb mostLinks (p .links)) 6) _ (omega arith) e in
       let two = passed (check (not (ltb a (p .bridges) && (ltb b (p .bridges) && not (eqb a b)))) 7) [] (omega arith) (one .1) in
       let both = both-true (ltb a (p .bridges)) _ (not-false _ (two .0)) in
       let more = both-true (ltb b (p .bridges)) _ (both .1) in
       record {
-        counted = eqb-true (p .stage) 1 (not-false _ (rw t at order));
-        room = leb-false 32 (p .links) (one .0);
+        counted = eqb-true (p .stage) 1 (rw t at order);
+        room = leb-false mostLinks (p .links) (one .0);
         first = ltb-true a (p .bridges) (both .0);
         second = ltb-true b (p .bridges) (more .0);
         differ = eqb-false a b (not-true (eqb a b) (more .1));
       }
 
-  view-told : tag rest ≡ 3 → p .links ≤ 32 → outOfOrder (p .stage) (tag rest) ≡ false → refusal (viewChecks rest p) ≡ 0 → ViewRead rest p
-  unfolding outOfOrder viewChecks
+  view-told : tag rest ≡ 3 → p .links ≤ mostLinks → inOrder (tag rest) (p .stage) ≡ true → refusal (viewChecks rest p) ≡ 0 → ViewRead rest p
+  unfolding inOrder passes tags mayCome viewChecks
   view-told t listed order e =
-      let one = passed (check (leb 32 (p .views)) 8) _ (omega arith) e in
+      let one = passed (check (leb mostViews (p .views)) 8) _ (omega arith) e in
       let two = passed (check (not (costsFit rest (p .links))) 9) [] (omega arith) (one .1) in
       let stage = view-stage (p .stage) (rw t at order) in
       record {
         counted = stage .0;
         early = stage .1;
         listed = listed;
-        room = leb-false 32 (p .views) (one .0);
+        room = leb-false mostViews (p .views) (one .0);
         costs = λ l h.
-            leb-true (costIn rest l) 16777215
-            (allBelow-true (p .links) (λ l. leb (costIn rest l) 16777215) (sym (fits-below rest (p .links)) ∙ not-false _ (two .0)) l h);
+            leb-true (costIn rest l) maxCost
+            (allBelow-true (p .links) (λ l. leb (costIn rest l) maxCost) (sym (fits-below rest (p .links)) ∙ not-false _ (two .0)) l h);
       }
 
   -- by the tag
-  value-told : p .links ≤ 32 → outOfOrder (p .stage) (tag rest) ≡ false → refusal (valueChecks rest p) ≡ 0 → Told rest p (fieldOf rest)
-  unfolding valueChecks fieldOf outOfOrder
+  value-told : p .links ≤ mostLinks → inOrder (tag rest) (p .stage) ≡ true → refusal (valueChecks rest p) ≡ 0 → Told rest p (fieldOf rest)
+  unfolding valueChecks fieldOf
   value-told listed order = go (eqb (tag rest) 1) (eqb (tag rest) 2) (eqb (tag rest) 3) refl refl refl
     where
       go : (a b c : Bool) → eqb (tag rest) 1 ≡ a → eqb (tag rest) 2 ≡ b → eqb (tag rest) 3 ≡ c →
           refusal (cond a (bridgeChecks rest p) (cond b (linkChecks rest p) (cond c (viewChecks rest p) []))) ≡ 0 →
-          Told rest p (cond a (Field.Bridges (byte rest 3)) (cond b (Field.Link (byte rest 3) (byte rest 4)) (cond c Field.View (Field.Event (eventBy (tag rest) (byte rest 3) (byte rest 4))))))
+          Told rest p (cond a (Field.Bridges (value rest 0)) (cond b (Field.Link (value rest 0) (value rest 1)) (cond c Field.View (Field.Event (eventBy (tag rest) (value rest 0) (value rest 1))))))
       go true b c one two three e = bridges-told (eqb-true (tag rest) 1 one) order e
       go false true c one two three e = link-told (eqb-true (tag rest) 2 two) order e
       go false false true one two three e = view-told (eqb-true (tag rest) 3 three) listed order e
-      go false false false one two three e = ltb-false (p .stage) 2 (rw (one, two, three) at order)
+      go false false false one two three e = event-late (tag rest) (p .stage) one two three order
 
   -- a field that was read: none of its checks applies
   record Passed (f : Field) (k : ℕ) : Type 0 where
-    listed : p .links ≤ 32
+    listed : p .links ≤ mostLinks
     field : fieldOf rest ≡ f
     taken : k ≡ size rest
     header : refusal (headerChecks rest p) ≡ 0
@@ -175,7 +179,7 @@ module _ (rest : List ℕ) (p : Progress) where
           absurd (eqb-false (refusal (headerChecks rest p)) 0 h (t .2))
 
 -- the bytes that a field takes are there, its header among them
-pub field-size : (rest : List ℕ) (p : Progress) {f : Field} {k : ℕ} → readReply rest p ≡ Read.Field f k → (3 ≤ k) × (k ≤ length rest) × (k ≡ size rest)
+pub field-size : (rest : List ℕ) (p : Progress) {f : Field} {k : ℕ} → readReply rest p ≡ Read.Field f k → (headerBytes ≤ k) × (k ≤ length rest) × (k ≡ size rest)
 field-size rest p e =
     let t = none-applies rest p e in
     let h = header-told rest p (t .header) in

@@ -1,2 +1,3 @@
+pub mod TagTable
 pub mod Laws
 pub mod CostRows

@@ -1,2 +1,4 @@
+pub mod Sizes
+pub mod Tags
 pub mod Fields
 pub mod Reading

@@ -1,50 +1,47 @@
 -- What is read at the head of the bytes that are left (document 01, "Where input is turned down"). Assumes nothing.
-use Prim.Native.Nat.{ℕ, zero, suc, _+_, _*_}
+use Prim.Native.Nat.{ℕ, zero, suc}
 use mathlib.Core.Bool.{Bool, true, cond, _&&_, _||_, not}
 use mathlib.Core.List.{List, [], _∷_}
 use lib.ListN.{length, set}
 use lib.Dec.{eqb, leb, ltb}
+use Rattle.distances.specs.View.{maxCost}
 use Rattle.distances.specs.Refusal.{Check, check, refusal}
-use Rattle.plan.specs.Fields.{byte, tag, valueLength, size, lengthFor, costIn, fieldOf}
+use Rattle.plan.specs.Sizes.{leastBridges, mostBridges, mostLinks, mostViews, headerBytes}
+use Rattle.plan.specs.Tags.{known, inOrder, rightLength}
+use Rattle.plan.specs.Fields.{value, tag, valueLength, size, costIn, fieldOf}
 use Rattle.plan.specs.declared.Progress.{Progress}
 use Rattle.plan.specs.declared.Read.{Read}
 use Rattle.plan.specs.declared.Costs.{Costs}
 
--- the field is out of order: the bridge count first and only there, links before views, views before events, no event before any view
-unfoldable pub outOfOrder : ℕ → ℕ → Bool
-outOfOrder stage t =
-    cond (eqb t 1) (not (eqb stage 0))
-    (cond (eqb t 2) (not (eqb stage 1)) (cond (eqb t 3) (not (eqb stage 1 || eqb stage 2)) (ltb stage 2)))
-
 -- the header's checks, in document 01's order
 unfoldable pub headerChecks : List ℕ → Progress → List Check
 headerChecks rest p =
-    check (ltb (length rest) 3) 1
-    ∷ check (not (leb 1 (tag rest) && leb (tag rest) 12)) 2
-    ∷ check (outOfOrder (p .stage) (tag rest)) 4
-    ∷ check (not (eqb (valueLength rest) (lengthFor (p .links) (tag rest)))) 3
+    check (ltb (length rest) headerBytes) 1
+    ∷ check (not (known (tag rest))) 2
+    ∷ check (not (inOrder (tag rest) (p .stage))) 4
+    ∷ check (not (rightLength (tag rest) (p .links) (valueLength rest))) 3
     ∷ check (ltb (length rest) (size rest)) 1
     ∷ []
 
--- every cost of the first k links is at most 16,777,215
+-- every cost of the first k links is at most the greatest there is
 unfoldable pub costsFit : List ℕ → ℕ → Bool
 costsFit rest zero = true
-costsFit rest (suc l) = costsFit rest l && leb (costIn rest l) 16777215
+costsFit rest (suc l) = costsFit rest l && leb (costIn rest l) maxCost
 
 -- the tag's own
 unfoldable pub bridgeChecks : List ℕ → Progress → List Check
-bridgeChecks rest p = check (not (leb 2 (byte rest 3) && leb (byte rest 3) 16)) 5 ∷ []
+bridgeChecks rest p = check (not (leb leastBridges (value rest 0) && leb (value rest 0) mostBridges)) 5 ∷ []
 
 unfoldable pub linkChecks : List ℕ → Progress → List Check
 linkChecks rest p =
-    check (leb 32 (p .links)) 6
+    check (leb mostLinks (p .links)) 6
     ∷ check
-    (not (ltb (byte rest 3) (p .bridges) && (ltb (byte rest 4) (p .bridges) && not (eqb (byte rest 3) (byte rest 4)))))
+    (not (ltb (value rest 0) (p .bridges) && (ltb (value rest 1) (p .bridges) && not (eqb (value rest 0) (value rest 1)))))
     7
     ∷ []
 
 unfoldable pub viewChecks : List ℕ → Progress → List Check
-viewChecks rest p = check (leb 32 (p .views)) 8 ∷ check (not (costsFit rest (p .links))) 9 ∷ []
+viewChecks rest p = check (leb mostViews (p .views)) 8 ∷ check (not (costsFit rest (p .links))) 9 ∷ []
 
 unfoldable pub valueChecks : List ℕ → Progress → List Check
 valueChecks rest p =
@@ -65,7 +62,8 @@ readOf rest p =
 unfoldable pub progressInRange : Progress → Bool
 progressInRange p =
     leb (p .stage) 3
-    && ((eqb (p .bridges) 0 || leb 2 (p .bridges) && leb (p .bridges) 16) && (leb (p .links) 32 && leb (p .views) 32))
+    && ((eqb (p .bridges) 0 || leb leastBridges (p .bridges) && leb (p .bridges) mostBridges)
+    && (leb (p .links) mostLinks && leb (p .views) mostViews))
 
 -- for any progress handed in: 17 where it is out of range
 unfoldable pub readReply : List ℕ → Progress → Read
@@ -90,4 +88,4 @@ costsNumber Costs.Stored = 0
 
 unfoldable pub costsReply : List ℕ → ℕ → List ℕ → Stored
 costsReply rest links row =
-    cond (leb links 32 && leb 32 (length row)) (stored 0 (withCosts rest links row)) (stored 17 row)
+    cond (leb links mostLinks && leb mostLinks (length row)) (stored 0 (withCosts rest links row)) (stored 17 row)

@@ -4,6 +4,11 @@ use crate::Progress;
 use crate::Read;
 use crate::bytes::value_length;
 use crate::header::header_refusal;
+use crate::sizes::HEADER_BYTES;
+use crate::sizes::LEAST_BRIDGES;
+use crate::sizes::MOST_BRIDGES;
+use crate::sizes::MOST_LINKS;
+use crate::sizes::MOST_VIEWS;
 use crate::values;
 use distances::ready::both;
 ghost use mathlib.Core.Path.{_≡_};
@@ -11,15 +16,16 @@ ghost use mathlib.Core.Bool.{_&&_, _||_};
 ghost use Prim.Native.Nat.{_≤_};
 ghost use lib.ListN.{length};
 ghost use lib.Dec.{eqb, leb};
+ghost use Rattle.plan.specs.Sizes.{leastBridges, mostBridges, mostLinks};
 ghost use Rattle.plan.specs.Reading.{progressInRange, readReply, withCosts, costsNumber, stored, costsReply};
 
 fn count_in_range(bridges: usize) -> bool
-    ensures { λ r. ⌜ r ≡ (eqb bridges 0 || leb 2 bridges && leb bridges 16) ⌝ }
+    ensures { λ r. ⌜ r ≡ (eqb bridges 0 || leb leastBridges bridges && leb bridges mostBridges) ⌝ }
 {
     if bridges == 0 {
         return true;
     }
-    both(2 <= bridges, bridges <= 16)
+    both(LEAST_BRIDGES <= bridges, bridges <= MOST_BRIDGES)
 }
 
 fn progress_in_range(p: Progress) -> bool
@@ -28,7 +34,7 @@ fn progress_in_range(p: Progress) -> bool
     let counted = count_in_range(p.bridges);
     both(
         p.stage <= 3,
-        both(counted, both(p.links <= 32, p.views <= 32)),
+        both(counted, both(p.links <= MOST_LINKS, p.views <= MOST_VIEWS)),
     )
 }
 
@@ -53,17 +59,17 @@ pub fn read_field(rest: &[u8], p: Progress) -> Read
     if value != 0 {
         return Read::Stop(value);
     }
-    Read::Field(values::field_of(rest), 3 + value_length(rest))
+    Read::Field(values::field_of(rest), HEADER_BYTES + value_length(rest))
 }
 
-// A view's costs into a lent row of 32: the first `links` numbers. 17 where there are more links, or the row is shorter.
+// A view's costs into a lent row with room for the most links: the first `links` numbers. 17 where there are more links, or the row is shorter.
 pub fn read_costs(rest: &[u8], links: usize, row: &mut [u32]) -> Costs
     ensures { λ r. ⌜ stored (costsNumber r) (now (row .exit)) ≡ costsReply (now (rest .entry)) links (now (row .entry)) ⌝ }
 {
-    if 32 < links {
+    if MOST_LINKS < links {
         return Costs::Refused;
     }
-    if row.len() < 32 {
+    if row.len() < MOST_LINKS {
         return Costs::Refused;
     }
     store_costs(rest, links, row);
@@ -71,7 +77,7 @@ pub fn read_costs(rest: &[u8], links: usize, row: &mut [u32]) -> Costs
 }
 
 fn store_costs(rest: &[u8], links: usize, row: &mut [u32])
-    requires { ⌜ (links ≤ 32) × (32 ≤ length (now row)) ⌝ }
+    requires { ⌜ (links ≤ mostLinks) × (mostLinks ≤ length (now row)) ⌝ }
     ensures { λ r. ⌜ now (row .exit) ≡ withCosts (now (rest .entry)) links (now (row .entry)) ⌝ }
 {
     let mut l = 0;

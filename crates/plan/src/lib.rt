@@ -2,6 +2,8 @@
 mod bytes;
 pub mod fields;
 mod header;
+mod sizes;
+mod tags;
 mod values;
 
 // How far a plan has come. Stage 0: nothing read; 1: the bridge count; 2: a view; 3: an event.

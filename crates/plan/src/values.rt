@@ -3,34 +3,42 @@ use crate::Event;
 use crate::Field;
 use crate::Progress;
 use crate::bytes::byte_at;
+use crate::bytes::value_at;
+use crate::sizes::COST_BYTES;
+use crate::sizes::LEAST_BRIDGES;
+use crate::sizes::MAX_COST;
+use crate::sizes::MOST_BRIDGES;
+use crate::sizes::MOST_LINKS;
+use crate::sizes::MOST_VIEWS;
 use distances::ready::both;
 ghost use mathlib.Core.Path.{_≡_};
 ghost use Prim.Native.Nat.{_≤_, _<_};
 ghost use Rattle.distances.specs.Refusal.{refusal};
+ghost use Rattle.plan.specs.Sizes.{mostLinks};
 ghost use Rattle.plan.specs.Fields.{costIn, eventBy, fieldOf};
 ghost use Rattle.plan.specs.Reading.{costsFit, bridgeChecks, linkChecks, viewChecks, valueChecks};
 
-// The cost of link l in a view's value: four bytes.
+// The cost of link l in a view's value.
 pub(crate) fn cost_in(rest: &[u8], l: usize) -> u32
-    requires { ⌜ l < 32 ⌝ }
+    requires { ⌜ l < mostLinks ⌝ }
     ensures { λ r. ⌜ r ≡ costIn (now (rest .entry)) l ⌝ }
 {
-    let at = 4 * l;
-    let a = byte_at(rest, at + 3) as u32;
-    let b = byte_at(rest, at + 4) as u32;
-    let c = byte_at(rest, at + 5) as u32;
-    let d = byte_at(rest, at + 6) as u32;
+    let at = COST_BYTES * l;
+    let a = value_at(rest, at) as u32;
+    let b = value_at(rest, at + 1) as u32;
+    let c = value_at(rest, at + 2) as u32;
+    let d = value_at(rest, at + 3) as u32;
     16777216 * a + (65536 * b + (256 * c + d))
 }
 
 fn costs_fit(rest: &[u8], links: usize) -> bool
-    requires { ⌜ links ≤ 32 ⌝ }
+    requires { ⌜ links ≤ mostLinks ⌝ }
     ensures { λ r. ⌜ r ≡ costsFit (now (rest .entry)) links ⌝ }
 {
     let mut ok = true;
     let mut l = 0;
     while l < links {
-        ok = both(ok, cost_in(rest, l) <= 16777215);
+        ok = both(ok, cost_in(rest, l) <= MAX_COST);
         l += 1;
     }
     ok
@@ -39,11 +47,11 @@ fn costs_fit(rest: &[u8], links: usize) -> bool
 fn bridge_refusal(rest: &[u8], p: Progress) -> u8
     ensures { λ r. ⌜ r ≡ refusal (bridgeChecks (now (rest .entry)) p) ⌝ }
 {
-    let count = byte_at(rest, 3);
-    if count < 2 {
+    let count = value_at(rest, 0) as usize;
+    if count < LEAST_BRIDGES {
         return 5;
     }
-    if 16 < count {
+    if MOST_BRIDGES < count {
         return 5;
     }
     0
@@ -52,11 +60,11 @@ fn bridge_refusal(rest: &[u8], p: Progress) -> u8
 fn link_refusal(rest: &[u8], p: Progress) -> u8
     ensures { λ r. ⌜ r ≡ refusal (linkChecks (now (rest .entry)) p) ⌝ }
 {
-    if 32 <= p.links {
+    if MOST_LINKS <= p.links {
         return 6;
     }
-    let a = byte_at(rest, 3) as usize;
-    let b = byte_at(rest, 4) as usize;
+    let a = value_at(rest, 0) as usize;
+    let b = value_at(rest, 1) as usize;
     if p.bridges <= a {
         return 7;
     }
@@ -70,10 +78,10 @@ fn link_refusal(rest: &[u8], p: Progress) -> u8
 }
 
 fn view_refusal(rest: &[u8], p: Progress) -> u8
-    requires { ⌜ p .links ≤ 32 ⌝ }
+    requires { ⌜ p .links ≤ mostLinks ⌝ }
     ensures { λ r. ⌜ r ≡ refusal (viewChecks (now (rest .entry)) p) ⌝ }
 {
-    if 32 <= p.views {
+    if MOST_VIEWS <= p.views {
         return 8;
     }
     if costs_fit(rest, p.links) {
@@ -83,7 +91,7 @@ fn view_refusal(rest: &[u8], p: Progress) -> u8
 }
 
 pub(crate) fn value_refusal(rest: &[u8], p: Progress) -> u8
-    requires { ⌜ p .links ≤ 32 ⌝ }
+    requires { ⌜ p .links ≤ mostLinks ⌝ }
     ensures { λ r. ⌜ r ≡ refusal (valueChecks (now (rest .entry)) p) ⌝ }
 {
     let tag = byte_at(rest, 0);
@@ -133,8 +141,8 @@ pub(crate) fn field_of(rest: &[u8]) -> Field
     ensures { λ r. ⌜ r ≡ fieldOf (now (rest .entry)) ⌝ }
 {
     let tag = byte_at(rest, 0);
-    let a = byte_at(rest, 3);
-    let b = byte_at(rest, 4);
+    let a = value_at(rest, 0);
+    let b = value_at(rest, 1);
     if tag == 1 {
         return Field::Bridges(a);
     }

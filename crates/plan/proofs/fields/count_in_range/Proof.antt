@@ -1,5 +1,4 @@
 -- `fields::count_in_range` meets its contract. Assumes nothing.
-use mathlib.Core.Path.{sym}
 use borrow.Author.Needs.{needs}
 use borrow.Author.Tests.{eq-eqb, ne-eqb}
 use Rattle.plan.proofs.fields.count_in_range.Statement.{statement}

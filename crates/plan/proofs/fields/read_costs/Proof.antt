@@ -8,11 +8,11 @@ use Rattle.plan.proofs.fields.read_costs.Tie as tie
 
 returns : tie.Need-returns
 unfolding costsReply
-returns c = rw (lt-leb _ 32 (c .if1 .taken))
+returns c = rw (lt-leb _ _ (c .if1 .taken))
 
 returns-2 : tie.Need-returns-2
 unfolding costsReply
-returns-2 c = rw (not-both _ _ (lt-leb 32 _ (c .if2 .taken)))
+returns-2 c = rw (not-both _ _ (lt-leb _ _ (c .if2 .taken)))
 
 store-costs-requires : tie.Need-store-costs-requires
 store-costs-requires c κs = search needs
@@ -24,8 +24,8 @@ returns-3 : tie.Need-returns-3
 unfolding costsReply
 returns-3 c =
     rw (
-      le-leb _ 32 (c .before .before .before .before .before .if1 .left),
-      le-leb 32 _ (c .before .before .before .before .if2 .left),
+      le-leb _ _ (c .before .before .before .before .before .if1 .left),
+      le-leb _ _ (c .before .before .before .before .if2 .left),
     )
     (cc)
 

@@ -1,91 +1,108 @@
 -- `header::header_refusal` meets its contract. Each return cites the first check that applies. Assumes nothing.
 use Prim.Native.Nat.{ℕ, _+_}
 use native.Mathlib.Omega.{arith}
-use mathlib.Core.Path.{_≡_}
+use mathlib.Core.Path.{_≡_, sym, _∙_}
 use mathlib.Core.Bool.{not}
 use mathlib.Core.List.{[], _∷_}
 use borrow.Author.Needs.{needs}
-use borrow.Author.Tests.{lt-ltb, le-ltb, eq-eqb, ne-eqb}
+use borrow.Author.Tests.{lt-ltb, le-ltb, not-false}
 use lib.ListN.{length}
-use lib.Dec.{eqb, ltb}
+use lib.Dec.{ltb}
 use Rattle.distances.specs.Refusal.{check, refusal}
+use Rattle.plan.specs.Sizes.{headerBytes}
+use Rattle.plan.specs.Tags.{mayCome, lengthFits, inOrder, rightLength}
+use Rattle.plan.specs.Fields.{valueLength, size}
 use Rattle.plan.specs.Reading.{headerChecks}
-use Rattle.distances.proofs.Refusals.{First, First.none, First.here, First.next, first, within, too-low, too-high}
+use Rattle.distances.proofs.Refusals.{First, First.none, First.here, First.next, first}
 use Rattle.plan.proofs.header.header_refusal.Statement.{statement}
 use Rattle.plan.proofs.header.header_refusal.Tie as tie
 
 returns : tie.Need-returns
 unfolding headerChecks
-returns c = first (here (lt-ltb _ 3 (c .if1 .taken)))
+returns c = first (here (lt-ltb _ _ (c .if1 .taken)))
 
 byte-at-requires : tie.Need-byte-at-requires
 byte-at-requires c κs = search needs
 
+cast-tag : tie.Need-cast-tag
+cast-tag c = search needs
+
+known-requires : tie.Need-known-requires
+known-requires c κs = search needs
+
 returns-2 : tie.Need-returns-2
 unfolding headerChecks
 returns-2 c =
-    rw (← c .before .byte-at .ensures)
-    (first (next (le-ltb _ 3 (c .before .before .if1 .left)) (here (too-low 1 _ 12 (c .if2 .taken)))))
+    rw (← c .before .before .byte-at .ensures, ← c .before .known .ensures)
+    (first (next (le-ltb _ _ (c .before .before .before .if1 .left)) (here (c .if2 .taken))))
+
+rule-of-requires : tie.Need-rule-of-requires
+rule-of-requires c κs = sym (c .before .known .ensures) ∙ not-false _ (c .if2 .left)
+
+may-come-requires : tie.Need-may-come-requires
+may-come-requires c κs = search needs
+
+-- a known tag: its rule and the length decide
+past-known :
+    (c : tie.After-rule-of) {m : ℕ} →
+    let a = c .before .before .before .before .before .before .args in
+    let rule = c .rule-of .result in
+    First
+    (check (not (mayCome (rule .0) (a .p .stage))) 4
+    ∷ check (not (lengthFits (rule .1) (a .p .links) (valueLength (a .rest .now)))) 3
+    ∷ check (ltb (length (a .rest .now)) (size (a .rest .now))) 1
+    ∷ [])
+    m →
+    m ≡ refusal (headerChecks (a .rest .now) (a .p))
+unfolding headerChecks inOrder rightLength
+past-known c f =
+    let a = c .before .before .before .before .before .before .args in
+    rw (
+      ← c .before .before .before .byte-at .ensures,
+      ← c .before .before .known .ensures,
+      c .rule-of .ensures (λ r. mayCome (r .place) (a .p .stage)),
+      c .rule-of .ensures (λ r. lengthFits (r .length) (a .p .links) (valueLength (a .rest .now))),
+    )
+    (first (next (le-ltb _ _ (c .before .before .before .before .if1 .left)) (next (c .before .if2 .left) f)))
 
 returns-3 : tie.Need-returns-3
-unfolding headerChecks
-returns-3 c =
-    rw (← c .before .before .byte-at .ensures)
-    (first (next (le-ltb _ 3 (c .before .before .before .if1 .left)) (here (too-high 1 _ 12 (c .if3 .taken)))))
-
-out-of-order-requires : tie.Need-out-of-order-requires
-out-of-order-requires c κs = search needs
-
-returns-4 : tie.Need-returns-4
-unfolding headerChecks
-returns-4 c =
-    rw (← c .before .before .before .before .byte-at .ensures, ← c .before .out-of-order .ensures)
-    (first
-    (next (le-ltb _ 3 (c .before .before .before .before .before .if1 .left))
-    (next (within 1 _ 12 (c .before .before .before .if2 .left) (c .before .before .if3 .left)) (here (c .if4 .taken)))))
+returns-3 c = past-known (c .before .before) (here (rw (← c .before .may-come .ensures) (c .if3 .taken)))
 
 value-length-requires : tie.Need-value-length-requires
 value-length-requires c κs = search needs
 
-length-for-requires : tie.Need-length-for-requires
-length-for-requires c κs = search needs
+length-fits-requires : tie.Need-length-fits-requires
+length-fits-requires c κs = search needs
 
--- in order: the two checks of the length decide
+-- in order: the length decides
 past-order :
-    (c : tie.After-length-for) {m : ℕ} →
-    let a = c .before .before .before .before .before .before .before .before .before .args in
+    (c : tie.After-length-fits) {m : ℕ} →
+    let a = c .before .before .before .before .before .before .before .before .before .before .args in
     let n = c .before .value-length .result in
-    First (check (not (eqb n (c .length-for .result))) 3 ∷ check (ltb (length (a .rest .now)) (3 + n)) 1 ∷ []) m →
+    First (check (not (c .length-fits .result)) 3 ∷ check (ltb (length (a .rest .now)) (headerBytes + n)) 1 ∷ []) m →
     m ≡ refusal (headerChecks (a .rest .now) (a .p))
-unfolding headerChecks
 past-order c f =
-    rw (
-      ← c .before .before .before .before .before .before .byte-at .ensures,
-      ← c .before .before .before .out-of-order .ensures,
-      ← c .before .value-length .ensures,
-      ← c .length-for .ensures,
-    )
-    (first
-    (next (le-ltb _ 3 (c .before .before .before .before .before .before .before .if1 .left))
-    (next
-    (within 1 _ 12 (c .before .before .before .before .before .if2 .left) (c .before .before .before .before .if3 .left))
-    (next (c .before .before .if4 .left) f))))
+    past-known (c .before .before .before .before)
+    (next (rw (← c .before .before .before .may-come .ensures) (c .before .before .if3 .left))
+    (rw (← c .before .value-length .ensures, ← c .length-fits .ensures) f))
+
+returns-4 : tie.Need-returns-4
+returns-4 c = past-order (c .before) (here (c .if4 .taken))
+
+add-if5 : tie.Need-add-if5
+add-if5 c =
+    let bound = c .before .before .before .before .before .before .before .before .before .before .shared-slice-known .given in
+    omega (arith, bound 1, bound 2)
 
 returns-5 : tie.Need-returns-5
-returns-5 c = past-order (c .before) (here (rw (ne-eqb _ _ (c .if5 .taken))))
-
-add-if6 : tie.Need-add-if6
-add-if6 c =
-    let known = c .before .before .before .before .before .before .before .before .before .shared-slice-known .given in
-    omega (arith, known 1, known 2)
+returns-5 c =
+    past-order (c .before .before)
+    (next (c .before .if4 .left) (here (lt-ltb _ _ (c .if5 .taken))))
 
 returns-6 : tie.Need-returns-6
 returns-6 c =
-    past-order (c .before .before) (next (rw (eq-eqb _ _ (c .before .if5 .left))) (here (lt-ltb _ _ (c .if6 .taken))))
-
-returns-7 : tie.Need-returns-7
-returns-7 c =
-    past-order (c .before .before) (next (rw (eq-eqb _ _ (c .before .if5 .left))) (next (le-ltb _ _ (c .if6 .left)) none))
+    past-order (c .before .before)
+    (next (c .before .if4 .left) (next (le-ltb _ _ (c .if5 .left)) none))
 
 pub header-refusal-spec : {M : Type 1} → statement M
 header-refusal-spec =
@@ -93,13 +110,15 @@ header-refusal-spec =
     (tie.spec
     returns
     byte-at-requires
+    cast-tag
+    known-requires
     returns-2
+    rule-of-requires
+    may-come-requires
     returns-3
-    out-of-order-requires
-    returns-4
     value-length-requires
-    length-for-requires
+    length-fits-requires
+    returns-4
+    add-if5
     returns-5
-    add-if6
-    returns-6
-    returns-7)
+    returns-6)

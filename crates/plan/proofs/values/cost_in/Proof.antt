@@ -7,38 +7,35 @@ use Rattle.plan.proofs.values.cost_in.Tie as tie
 mul-at : tie.Need-mul-at
 mul-at c = search needs
 
-add-byte-at : tie.Need-add-byte-at
-add-byte-at c = search needs
-
-byte-at-requires : tie.Need-byte-at-requires
-byte-at-requires c κs = search needs
+value-at-requires : tie.Need-value-at-requires
+value-at-requires c κs = search needs
 
 cast-a : tie.Need-cast-a
 cast-a c = search needs
 
-add-byte-at-2 : tie.Need-add-byte-at-2
-add-byte-at-2 c = search needs
+add-value-at : tie.Need-add-value-at
+add-value-at c = search needs
 
-byte-at-requires-2 : tie.Need-byte-at-requires-2
-byte-at-requires-2 c κs = search needs
+value-at-requires-2 : tie.Need-value-at-requires-2
+value-at-requires-2 c κs = search needs
 
 cast-b : tie.Need-cast-b
 cast-b c = search needs
 
-add-byte-at-3 : tie.Need-add-byte-at-3
-add-byte-at-3 c = search needs
+add-value-at-2 : tie.Need-add-value-at-2
+add-value-at-2 c = search needs
 
-byte-at-requires-3 : tie.Need-byte-at-requires-3
-byte-at-requires-3 c κs = search needs
+value-at-requires-3 : tie.Need-value-at-requires-3
+value-at-requires-3 c κs = search needs
 
 cast-c : tie.Need-cast-c
 cast-c c = search needs
 
-add-byte-at-4 : tie.Need-add-byte-at-4
-add-byte-at-4 c = search needs
+add-value-at-3 : tie.Need-add-value-at-3
+add-value-at-3 c = search needs
 
-byte-at-requires-4 : tie.Need-byte-at-requires-4
-byte-at-requires-4 c κs = search needs
+value-at-requires-4 : tie.Need-value-at-requires-4
+value-at-requires-4 c κs = search needs
 
 cast-d : tie.Need-cast-d
 cast-d c = search needs
@@ -70,17 +67,16 @@ cost-in-spec =
     tie.close
     (tie.spec
     mul-at
-    add-byte-at
-    byte-at-requires
+    value-at-requires
     cast-a
-    add-byte-at-2
-    byte-at-requires-2
+    add-value-at
+    value-at-requires-2
     cast-b
-    add-byte-at-3
-    byte-at-requires-3
+    add-value-at-2
+    value-at-requires-3
     cast-c
-    add-byte-at-4
-    byte-at-requires-4
+    add-value-at-3
+    value-at-requires-4
     cast-d
     mul-result
     mul-result-2

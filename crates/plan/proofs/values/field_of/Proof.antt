@@ -8,15 +8,15 @@ use Rattle.plan.proofs.values.field_of.Tie as tie
 byte-at-requires : tie.Need-byte-at-requires
 byte-at-requires c κs = search needs
 
-byte-at-requires-2 : tie.Need-byte-at-requires-2
-byte-at-requires-2 c κs = search needs
+value-at-requires : tie.Need-value-at-requires
+value-at-requires c κs = search needs
 
-byte-at-requires-3 : tie.Need-byte-at-requires-3
-byte-at-requires-3 c κs = search needs
+value-at-requires-2 : tie.Need-value-at-requires-2
+value-at-requires-2 c κs = search needs
 
 returns : tie.Need-returns
 unfolding fieldOf
-returns c = rw (← c .before .before .before .byte-at .ensures, c .if1 .taken, ← c .before .before .byte-at2 .ensures)
+returns c = rw (← c .before .before .before .byte-at .ensures, c .if1 .taken, ← c .before .before .value-at .ensures)
 
 returns-2 : tie.Need-returns-2
 unfolding fieldOf
@@ -24,8 +24,8 @@ returns-2 c =
     rw (
       ← c .before .before .before .before .byte-at .ensures,
       c .if2 .taken,
-      ← c .before .before .before .byte-at2 .ensures,
-      ← c .before .before .byte-at3 .ensures,
+      ← c .before .before .before .value-at .ensures,
+      ← c .before .before .value-at2 .ensures,
     )
 
 returns-3 : tie.Need-returns-3
@@ -43,8 +43,8 @@ returns-4 c =
       ne-eqb _ 1 (c .before .before .before .if1 .left),
       ne-eqb _ 2 (c .before .before .if2 .left),
       ne-eqb _ 3 (c .before .if3 .left),
-      ← c .before .before .before .before .before .byte-at2 .ensures,
-      ← c .before .before .before .before .byte-at3 .ensures,
+      ← c .before .before .before .before .before .value-at .ensures,
+      ← c .before .before .before .before .value-at2 .ensures,
       c .event-of .ensures,
     )
 
@@ -53,8 +53,8 @@ field-of-spec =
     tie.close
     (tie.spec
     byte-at-requires
-    byte-at-requires-2
-    byte-at-requires-3
+    value-at-requires
+    value-at-requires-2
     returns
     returns-2
     returns-3

@@ -14,31 +14,31 @@ use Rattle.plan.proofs.values.link_refusal.Tie as tie
 
 returns : tie.Need-returns
 unfolding linkChecks
-returns c = first (here (le-leb 32 _ (c .if1 .taken)))
+returns c = first (here (le-leb _ _ (c .if1 .taken)))
 
-byte-at-requires : tie.Need-byte-at-requires
-byte-at-requires c κs = search needs
+value-at-requires : tie.Need-value-at-requires
+value-at-requires c κs = search needs
 
 cast-a : tie.Need-cast-a
 cast-a c = search needs
 
-byte-at-requires-2 : tie.Need-byte-at-requires-2
-byte-at-requires-2 c κs = search needs
+value-at-requires-2 : tie.Need-value-at-requires-2
+value-at-requires-2 c κs = search needs
 
 cast-b : tie.Need-cast-b
 cast-b c = search needs
 
 -- room for a link: the check of its ends decides
 past-room :
-    (c : tie.After-byte-at2) {m : ℕ} →
+    (c : tie.After-value-at2) {m : ℕ} →
     let s = c .before .before .before .before .before .args in
-    let a = c .before .byte-at .result in
-    let b = c .byte-at2 .result in
+    let a = c .before .value-at .result in
+    let b = c .value-at2 .result in
     First (check (not (ltb a (s .p .bridges) && (ltb b (s .p .bridges) && not (eqb a b)))) 7 ∷ []) m →
     m ≡ refusal (linkChecks (s .rest .now) (s .p))
 unfolding linkChecks
 past-room c f =
-    rw (← c .before .byte-at .ensures, ← c .byte-at2 .ensures) (first (next (lt-leb 32 _ (c .before .before .if1 .left)) f))
+    rw (← c .before .value-at .ensures, ← c .value-at2 .ensures) (first (next (lt-leb _ _ (c .before .before .if1 .left)) f))
 
 returns-2 : tie.Need-returns-2
 returns-2 c = past-room (c .before .before) (here (rw (le-ltb _ _ (c .if2 .taken))))
@@ -65,9 +65,9 @@ link-refusal-spec =
     tie.close
     (tie.spec
     returns
-    byte-at-requires
+    value-at-requires
     cast-a
-    byte-at-requires-2
+    value-at-requires-2
     cast-b
     returns-2
     returns-3

@@ -9,7 +9,7 @@ use Rattle.plan.proofs.values.view_refusal.Tie as tie
 
 returns : tie.Need-returns
 unfolding viewChecks
-returns c = first (here (le-leb 32 _ (c .if1 .taken)))
+returns c = first (here (le-leb _ _ (c .if1 .taken)))
 
 costs-fit-requires : tie.Need-costs-fit-requires
 costs-fit-requires c κs = search needs
@@ -21,11 +21,11 @@ returns-2 c =
       ← c .before .costs-fit .ensures,
       c .if2 .taken,
     )
-    (first (next (lt-leb 32 _ (c .before .before .if1 .left)) (next refl none)))
+    (first (next (lt-leb _ _ (c .before .before .if1 .left)) (next refl none)))
 
 returns-3 : tie.Need-returns-3
 unfolding viewChecks
-returns-3 c = rw (← c .before .costs-fit .ensures, c .if2 .left) (first (next (lt-leb 32 _ (c .before .before .if1 .left)) (here refl)))
+returns-3 c = rw (← c .before .costs-fit .ensures, c .if2 .left) (first (next (lt-leb _ _ (c .before .before .if1 .left)) (here refl)))
 
 pub view-refusal-spec : {M : Type 1} → statement M
 view-refusal-spec = tie.close (tie.spec returns costs-fit-requires returns-2 returns-3)

@@ -1,0 +1,106 @@
+-- The code's table of tags is the definitions': one computed test of all rows, and what a look-up by position finds. Assumes nothing.
+use Prim.Native.Nat.{ℕ, zero, suc, _+_, _-_, _≤_, _<_}
+use native.Mathlib.Nat.{not-suc-le-zero}
+use native.Mathlib.Omega.{arith}
+use mathlib.Core.Path.{_≡_, refl, sym, _∙_}
+use mathlib.Core.Bool.{Bool, true, false, cond, _&&_, false≢true}
+use mathlib.Core.List.{List, [], _∷_}
+use borrow.Author.Tests.{eq-eqb, ne-eqb, leb-true, leb-false}
+use lib.ListN.{length, getD, drop}
+use lib.Dec.{eqb, leb}
+use Rattle.distances.proofs.Booleans.{both-true}
+use Rattle.plan.specs.Tags.{Row, row, tags, mayCome, passes, known, inOrder, IsRow}
+use Rattle.plan.specs.declared.tags.Rule.{Rule}
+use Rattle.plan.specs.declared.tags.Length.the-variants.{CostPerLink}
+use Rattle.plan.specs.declared.tags.Place.{Place}
+use Rattle.plan.specs.declared.tags.Place.the-variants.{First, BeforeViews, BeforeEvents, AfterView}
+
+-- the rows that a list of rules stands for, the first one for tag k
+rows : ℕ → List Rule → List Row
+rows k [] = []
+rows k (x ∷ xs) = row k (x .0) (x .1) ∷ rows (suc k) xs
+
+module _ (test : Row → Bool) (t : ℕ) where
+  -- the tag's row stands at the tag's position
+  at : (xs : List Rule) (x : Rule) (k i : ℕ) → t ≡ k + i → i < length xs → passes test t (rows k xs) ≡ test (row t (getD xs i x .0) (getD xs i x .1))
+  unfolding passes rows
+  at [] x k i e h = absurd (not-suc-le-zero h)
+  at (y ∷ ys) x k zero e h = let same : t ≡ k = omega arith in rw (same, eq-eqb k k refl)
+  at (y ∷ ys) x k (suc i) e h = rw (ne-eqb t k (λ (z : t ≡ k). omega arith)) (at ys x (suc k) i (omega arith) (omega arith))
+
+  -- a tag that is the number of no position has none
+  nowhere : (xs : List Rule) (k : ℕ) → ((i : ℕ) → i < length xs → t ≡ k + i → ⊥) → passes test t (rows k xs) ≡ false
+  unfolding passes rows
+  nowhere [] k away = refl
+  nowhere (y ∷ ys) k away =
+      rw (ne-eqb t k (λ (z : t ≡ k). away 0 (omega arith) (omega arith)))
+      (nowhere ys (suc k) (λ i h e. away (suc i) (omega arith) (omega arith)))
+
+-- so the tags with a row are those from 1 to the list's length
+range : (xs : List Rule) (x : Rule) (t : ℕ) → passes (λ r. true) t (rows 1 xs) ≡ (leb 1 t && leb t (length xs))
+range xs x t = go (leb 1 t) (leb t (length xs)) refl refl
+  where
+    go : (p q : Bool) → leb 1 t ≡ p → leb t (length xs) ≡ q → passes (λ r. true) t (rows 1 xs) ≡ (p && q)
+    go true true l h = at (λ r. true) t xs x 1 (t - 1) (omega (arith, leb-true 1 t l)) (omega (arith, leb-true 1 t l, leb-true t (length xs) h))
+    go true false l h = nowhere (λ r. true) t xs 1 (λ i g e. omega (arith, leb-false t (length xs) h))
+    go false q l h = nowhere (λ r. true) t xs 1 (λ i g e. omega (arith, leb-false 1 t l))
+
+-- the code's list: the table's rules in their order
+unfoldable pub rulesOf : List Row → List Rule
+rulesOf [] = []
+rulesOf (r ∷ rs) = (r .place, r .length) ∷ rulesOf rs
+
+unfoldable pub rules : List Rule
+rules = rulesOf tags
+
+-- the test of every row: the tags count from 1
+counted : rows 1 rules ≡ tags
+unfolding rows rulesOf rules tags
+counted = refl
+
+pub known-range : (t : ℕ) → known t ≡ (leb 1 t && leb t (length rules))
+unfolding known
+known-range t = rw counted at (range rules (First, CostPerLink) t)
+
+pub in-range : (t : ℕ) → known t ≡ true → (1 ≤ t) × (t ≤ length rules)
+in-range t e =
+    let both = both-true (leb 1 t) (leb t (length rules)) (sym (known-range t) ∙ e) in
+    (leb-true 1 t (both .0), leb-true t (length rules) (both .1))
+
+pub rule-at : (x : Rule) (t : ℕ) → known t ≡ true → IsRow t (row t (getD rules (t - 1) x .0) (getD rules (t - 1) x .1))
+rule-at x t e test = let inside = in-range t e in rw counted at (at test t rules x 1 (t - 1) (omega arith) (omega arith))
+
+-- the rows of events: after a view
+isLate : Place → Bool
+isLate First = false
+isLate BeforeViews = false
+isLate BeforeEvents = false
+isLate AfterView = true
+
+allLate : List Row → Bool
+allLate [] = true
+allLate (r ∷ rs) = isLate (r .place) && allLate rs
+
+module _ (t stage : ℕ) where
+  late-place : (q : Place) → isLate q ≡ true → mayCome q stage ≡ true → 2 ≤ stage
+  unfolding isLate mayCome
+  late-place First e h = absurd (false≢true e)
+  late-place BeforeViews e h = absurd (false≢true e)
+  late-place BeforeEvents e h = absurd (false≢true e)
+  late-place AfterView e h = leb-true 2 stage h
+
+  late : (rs : List Row) → allLate rs ≡ true → passes (λ r. mayCome (r .place) stage) t rs ≡ true → 2 ≤ stage
+  unfolding allLate passes
+  late [] e h = absurd (false≢true h)
+  late (r ∷ rs) e h =
+      let both = both-true (isLate (r .place)) (allLate rs) e in
+      go (eqb t (r .tag)) (late-place (r .place) (both .0)) (late rs (both .1)) h
+    where
+      go : (b : Bool) {here later : Bool} → (here ≡ true → 2 ≤ stage) → (later ≡ true → 2 ≤ stage) → cond b here later ≡ true → 2 ≤ stage
+      go true f g = f
+      go false f g = g
+
+  -- an event, which is what every tag from 4 on is, comes after a view
+  pub event-late : eqb t 1 ≡ false → eqb t 2 ≡ false → eqb t 3 ≡ false → inOrder t stage ≡ true → 2 ≤ stage
+  unfolding isLate allLate passes inOrder tags
+  event-late one two three h = late (drop 3 tags) refl (rw (one, two, three) at h)

@@ -1,0 +1,16 @@
+// Document 01's sizes that a plan is read by.
+pub(crate) const LEAST_BRIDGES: usize = 2;
+
+pub(crate) const MOST_BRIDGES: usize = 16;
+
+pub(crate) const MOST_LINKS: usize = 32;
+
+pub(crate) const MOST_VIEWS: usize = 32;
+
+pub(crate) const MAX_COST: u32 = 16777215;
+
+// A field's header: one byte of tag, two of length.
+pub(crate) const HEADER_BYTES: usize = 3;
+
+// A link's cost in a view.
+pub(crate) const COST_BYTES: usize = 4;

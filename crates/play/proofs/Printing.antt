@@ -6,16 +6,13 @@ use mathlib.Core.Bool.{Bool, true, false, cond}
 use mathlib.Core.List.{List, []}
 use lib.ListN.{length, take, drop, length-append, length-drop}
 use lib.Seq.{take-all, length-take-le, drop-drop}
-use Rattle.text.specs.Lines.{refusedText}
 use Rattle.runner.specs.Buffers.{Buffers}
-use Rattle.runner.specs.Events.{Line, line, lineOf}
 use Rattle.runner.specs.Turns.{Turn}
 use Rattle.runner.specs.Plans.{firstRunner, firstBuffers, prints}
 use Rattle.runner.specs.Fills.{buffersWithOut, fillOf}
 use Rattle.runner.specs.declared.Runner.{Runner}
 use Rattle.runner.proofs.FillTurns.{fill-within}
-use Rattle.runner.proofs.FillLaws.{fill-prints, first-out, prints-most, printed-carried, printed-refused}
-use Rattle.play.specs.Output.{Counts}
+use Rattle.runner.proofs.FillLaws.{fill-prints, first-out, prints-most}
 
 -- the bytes that a plan prints
 abbrev pub whole : List ℕ → ℕ
@@ -101,19 +98,12 @@ module _ (plan : List ℕ) (going : Bool) (at : ℕ) (on : going ≡ true) where
   pub fewer-left : (more : ℕ) → more < suc (length plan - at) → more < left going plan at
   fewer-left more less = rw on less
 
+-- a write that failed had a byte to write
+pub stopped :
+    (plan : List ℕ) (at printed : ℕ) (u : Turn) → Turned plan at printed u →
+    (taken : Bool) → taken ≡ false → (taken ≡ false → 0 < length (take (u .written) (u .buffers .out))) → printed < whole plan
+stopped plan at printed u t taken e some = omega (arith, some e, t .fits, length-take-le (u .written) (u .buffers .out) (t .written))
+
 -- a plan prints no more than can be counted
 pub whole-few : (plan : List ℕ) → length plan ≤ 61440 → whole plan ≤ 33423904
 whole-few plan few = omega (arith, prints-most (suc (length plan)) firstRunner firstBuffers plan)
-
--- ---- the reply
-
-pub counts-carried : (plan : List ℕ) (n : ℕ) → length plan ≤ 61440 → n ≡ whole plan → Counts n
-counts-carried plan n few e = record { plan = plan; few = omega (arith, few); count = e ∙ sym (ap length (printed-carried plan few)) }
-
-pub counts-refused : (plan m out : List ℕ) (n : ℕ) → length plan ≡ 61441 → line n m ≡ lineOf (refusedText 18 61440) out → Counts n
-counts-refused plan m out n long e =
-    record {
-      plan = plan;
-      few = omega (arith, long);
-      count = ap (λ (l : Line). l .count) e ∙ sym (ap length (printed-refused plan (omega (arith, long))));
-    }

@@ -1,13 +1,25 @@
--- How many bytes a run prints. Assumes nothing.
-use Prim.Native.Nat.{ℕ, _≤_}
+-- What is replied for a plan, and for what it was read from. Assumes nothing.
+use Prim.Native.Nat.{ℕ, _≤_, _<_}
 use mathlib.Core.Path.{_≡_}
 use mathlib.Core.List.{List}
 use lib.ListN.{length}
 use Rattle.runner.specs.Plans.{printed}
+use Rattle.play.specs.declared.Input.{Input}
+use Rattle.play.specs.declared.Reply.{Reply}
 
--- as many as the definition of the output has for a list of bytes, one longer than a plan may be at most; that it is the one that was
--- read, no contract can say
-pub record Counts (n : ℕ) : Type 0 where
-  pub plan : List ℕ
-  pub few : length plan ≤ 61441
-  pub count : n ≡ length (printed plan)
+-- of a text: all of it was handed on; or a write failed after a proper beginning
+abbrev pub Handed : Reply → List ℕ → Type 0
+Handed (Reply.Printed n) text = n ≡ length text
+Handed (Reply.Stopped n) text = n < length text
+Handed Reply.Unread text = ⊥
+
+-- of a descriptor: it could not be read; or so of the output of a list of bytes, at most one more than a plan may have, of which no
+-- contract can say that they are those that were read
+pub data Played : Reply → Type 0 where
+  unread : Played Reply.Unread
+  read : {r : Reply} (plan : List ℕ) → length plan ≤ 61441 → Handed r (printed plan) → Played r
+
+-- the bytes that were read lie within those that are lent
+abbrev pub Within : Input → List ℕ → Type 0
+Within (Input.Read n) bytes = n ≤ length bytes
+Within Input.Failed bytes = Unit {0}

@@ -3,44 +3,92 @@
 use libc::STDOUT_FILENO;
 use text::Written;
 ghost use mathlib.Core.Path.{_≡_};
-ghost use Prim.Native.Nat.{suc, _≤_};
+ghost use mathlib.Core.Bool.{false};
+ghost use Prim.Native.Nat.{suc, _≤_, _<_};
 ghost use lib.ListN.{length};
-ghost use Rattle.play.specs.Output.{Counts};
-ghost use Rattle.runner.specs.Events.{line, lineOf};
-ghost use Rattle.runner.specs.Plans.{firstRunner, firstBuffers, prints};
+ghost use lib.Seq.{sets};
+ghost use Rattle.play.specs.Output.{Handed, Played, Within};
+ghost use Rattle.runner.specs.Plans.{firstRunner, firstBuffers, prints, printed};
 ghost use Rattle.text.specs.Lines.{refusedText};
 
-// Reads a plan and prints all that document 01 asks for it. The first buffer has one byte more than the longest plan, so that a longer
-// one is seen. The reply is the number of bytes handed to standard output.
-pub fn play(fd: i32) -> usize
-    ensures { λ r. ⌜ Counts r ⌝ }
+// What became of a plan: all that it prints was handed to standard output, so many bytes; or a write failed, and so many had been handed
+// on before it; or the plan could not be read, and nothing was handed on.
+pub enum Reply {
+    Printed(usize),
+    Stopped(usize),
+    Unread,
+}
+
+// What a descriptor gave: so many bytes; or a read failed.
+enum Input {
+    Read(usize),
+    Failed,
+}
+
+// Reads a plan and prints all that document 01 asks for it. The lent bytes are one more than the longest plan has, so that a longer
+// one is seen.
+pub fn play(fd: i32) -> Reply
+    ensures { λ r. ⌜ Played r ⌝ }
 {
     let mut plan = [0u8; 61441];
+    let input = read_plan(fd, &mut plan);
+    let Input::Read(n) = input else {
+        return Reply::Unread;
+    };
+    print(&plan[..n])
+}
+
+// Reads until the input ends, a read fails or no byte more is lent.
+fn read_plan(fd: i32, plan: &mut [u8]) -> Input
+    ensures { λ r. ⌜ Within r (now (plan .exit)) ⌝ }
+{
+    let mut n = 0;
+    while n < plan.len() {
+        let got = libc::read(fd, &mut plan[n..]);
+        if got < 0 {
+            return Input::Failed;
+        }
+        let more = io::count(got, &plan[n..]);
+        if more == 0 {
+            return Input::Read(n);
+        }
+        n += more;
+    }
+    Input::Read(n)
+}
+
+// Prints all that document 01 asks for these bytes as a plan. Up to 61,440 of them are carried out, more are refused.
+pub fn print(plan: &[u8]) -> Reply
+    ensures { λ r. ⌜ Handed r (printed (now (plan .entry))) ⌝ }
+{
     let mut out = [0u8; 32768];
-    let n = io::read_full(fd, &mut plan);
-    if 61440 < n {
+    if 61440 < plan.len() {
         return too_long(&mut out);
     }
-    carry_out(&plan[..n], &mut out)
+    carry_out(plan, &mut out)
 }
 
 // Prints the refusal of a plan that is too long.
-fn too_long(out: &mut [u8]) -> usize
+fn too_long(out: &mut [u8]) -> Reply
     requires { ⌜ 544 ≤ length (now out) ⌝ }
-    ensures { λ r. ⌜ line r (now (out .exit)) ≡ lineOf (refusedText 18 61440) (now (out .entry)) ⌝ }
+    ensures { λ r. ⌜ Handed r (refusedText 18 61440) ⌝ }
+    ensures { λ _. ⌜ now (out .exit) ≡ sets (now (out .entry)) 0 (refusedText 18 61440) ⌝ }
 {
     let text = text::lines::refused(out, 18, 61440);
+    // the text has room, so this is never taken
     let Written::Bytes(written) = text else {
-        return 0;
+        return Reply::Unread;
     };
-    io::write_all(STDOUT_FILENO, &out[..written]);
-    written
+    if !hand_on(&out[..written]) {
+        return Reply::Stopped(0);
+    }
+    Reply::Printed(written)
 }
 
-// Carries a plan out and prints what it fills, until it goes no further.
-fn carry_out(plan: &[u8], out: &mut [u8]) -> usize
+// Carries a plan out and prints what it fills, until it goes no further or a write fails.
+fn carry_out(plan: &[u8], out: &mut [u8]) -> Reply
     requires { ⌜ (length (now plan) ≤ 61440) × (544 ≤ length (now out)) ⌝ }
-    ensures { λ r. ⌜ r ≡ length (prints (suc (length (now (plan .entry)))) firstRunner firstBuffers (now (plan .entry))) ⌝ }
+    ensures { λ r. ⌜ Handed r (prints (suc (length (now (plan .entry)))) firstRunner firstBuffers (now (plan .entry))) ⌝ }
 {
     let mut costs = [0u32; 1024];
     let mut tables = [0u32; 8192];
@@ -65,11 +113,23 @@ fn carry_out(plan: &[u8], out: &mut [u8]) -> usize
             out,
         );
         let written = filled.written;
-        io::write_all(STDOUT_FILENO, &out[..written]);
+        if !hand_on(&out[..written]) {
+            return Reply::Stopped(printed);
+        }
         printed += written;
         at += filled.used;
         going = filled.going;
         r = filled.runner;
     }
-    printed
+    Reply::Printed(printed)
+}
+
+// Writes these bytes to standard output; false where that failed. Without a byte to write nothing fails.
+fn hand_on(bytes: &[u8]) -> bool
+    ensures { λ r. ⌜ (r ≡ false → 0 < length (now (bytes .entry))) ⌝ }
+{
+    if bytes.len() == 0 {
+        return true;
+    }
+    io::write_all(STDOUT_FILENO, bytes)
 }

@@ -1,6 +1,8 @@
 // Carries out each plan of its data folder and prints its name and its output. The program is held to the file stdout, and that
 // file to the known outputs in plans/.
-// A plan that cannot be opened is named on standard error, and its output is missing.
+// A plan that cannot be opened, read or printed is named on standard error with the reason, and its output is missing.
+use play::Reply;
+
 fn replay(name: &[u8]) {
     io::write_all(libc::STDOUT_FILENO, name);
     io::write_all(libc::STDOUT_FILENO, b"\n");
@@ -9,7 +11,11 @@ fn replay(name: &[u8]) {
         os::fail(name);
         return;
     }
-    play::play(fd);
+    let reply = play::play(fd);
+    match reply {
+        Reply::Printed(_) => {}
+        _ => os::fail(name),
+    }
     libc::close(fd);
 }
 

@@ -1,57 +1,63 @@
--- `play` meets its contract: what is counted is what is printed. Assumes nothing.
+-- `play` meets its contract: what was read is handed on to `print`. Assumes nothing.
 use Prim.Native.Nat.{ℕ, _≤_}
 use native.Mathlib.Omega.{arith}
-use lib.ListN.{length, take, replicate, length-take, length-replicate}
+use mathlib.Core.Path.{_≡_, sym, subst}
+use mathlib.Core.List.{List}
+use lib.ListN.{length, take, length-take}
+use lib.Seq.{length-take-le}
 use borrow.Author.Needs.{needs}
-use Rattle.play.proofs.Printing.{counts-carried, counts-refused}
+use Rattle.runner.specs.Plans.{printed}
+use Rattle.play.specs.Output.{Handed, Within, Played}
+use Rattle.play.specs.declared.Input.{Input}
+use Rattle.play.specs.declared.Reply.{Reply}
 use Rattle.play.proofs.play.Statement.{statement}
 use Rattle.play.proofs.play.Tie as tie
 
--- the bytes that are lent
-room : 544 ≤ length (replicate {A = ℕ} 32768 0)
-room = omega (arith, length-replicate {A = ℕ} 32768 0)
+-- what was read lies within the bytes that are lent
+lies : (i : Input) (n : ℕ) (bytes : List ℕ) → i ≡ Input.Read n → Within i bytes → n ≤ length bytes
+lies i n bytes e = subst (λ (j : Input). Within j bytes) e
 
-slice-aggregate-read-full : tie.Need-slice-aggregate-read-full
-slice-aggregate-read-full c = search needs
+-- some bytes, at most as many as were lent
+told : (n : ℕ) (bytes : List ℕ) → length bytes ≡ 61441 → (r : Reply) → Handed r (printed (take n bytes)) → Played r
+told n bytes long r handed = Played.read (take n bytes) (omega (arith, length-take n bytes)) handed
 
-read-full-requires : tie.Need-read-full-requires
-read-full-requires c κs = search needs
+slice-aggregate-read-plan : tie.Need-slice-aggregate-read-plan
+slice-aggregate-read-plan c = search needs
 
-slice-aggregate-too-long : tie.Need-slice-aggregate-too-long
-slice-aggregate-too-long c = search needs
+read-plan-requires : tie.Need-read-plan-requires
+read-plan-requires c κs = search needs
 
-too-long-requires : tie.Need-too-long-requires
-too-long-requires c κs = room
+enum-known-input : tie.Need-enum-known-input
+enum-known-input c = search needs
+
+enum-told : tie.Need-enum-told
+enum-told c = search needs
 
 returns : tie.Need-returns
-returns c = counts-refused (c .before .before .before .before .before .read-full .last .1 .0) _ _ _ (omega (arith, c .before .before .before .before .before .read-full .kept)) (c .before .too-long .ensures)
+returns c = Played.unread
 
 array-share-prefix-plan : tie.Need-array-share-prefix-plan
-array-share-prefix-plan c = search needs
+array-share-prefix-plan c = omega (arith, c .before .before .before .before .read-plan .kept, lies _ _ _ (c .before .input .given .1) (c .before .before .before .before .read-plan .ensures))
 
-slice-aggregate-carry-out : tie.Need-slice-aggregate-carry-out
-slice-aggregate-carry-out c = search needs
+slice-aggregate-print : tie.Need-slice-aggregate-print
+slice-aggregate-print c = sym (length-take-le _ _ (lies _ _ _ (c .before .before .input .given .1) (c .before .before .before .before .before .read-plan .ensures)))
 
-slice-aggregate-carry-out-2 : tie.Need-slice-aggregate-carry-out-2
-slice-aggregate-carry-out-2 c = search needs
-
-carry-out-requires : tie.Need-carry-out-requires
-carry-out-requires c κs = (omega (arith, c .before .before .if1 .left, length-take (c .before .before .before .before .read-full .result) (c .before .before .before .before .read-full .last .1 .0)), room)
+print-requires : tie.Need-print-requires
+print-requires c κs = search needs
 
 returns-2 : tie.Need-returns-2
-returns-2 c = counts-carried (take (c .before .before .before .before .before .before .read-full .result) (c .before .before .before .before .before .before .read-full .last .1 .0)) _ (omega (arith, c .before .before .before .before .if1 .left, length-take (c .before .before .before .before .before .before .read-full .result) (c .before .before .before .before .before .before .read-full .last .1 .0))) (c .before .carry-out .ensures)
+returns-2 c = told (c .before .before .before .input .given .0 .0) (c .before .before .before .before .before .before .read-plan .last .1 .0) (omega (arith, c .before .before .before .before .before .before .read-plan .kept)) (c .print .result) (c .print .ensures)
 
 pub play-spec : {M : Type 1} → statement M
 play-spec =
     tie.close
     (tie.spec
-    slice-aggregate-read-full
-    read-full-requires
-    slice-aggregate-too-long
-    too-long-requires
+    slice-aggregate-read-plan
+    read-plan-requires
+    enum-known-input
+    enum-told
     returns
     array-share-prefix-plan
-    slice-aggregate-carry-out
-    slice-aggregate-carry-out-2
-    carry-out-requires
+    slice-aggregate-print
+    print-requires
     returns-2)

@@ -1,11 +1,11 @@
--- `too_long` meets its contract: the text has room, and is printed whole. Assumes nothing.
-use Prim.Native.Nat.{ℕ, _≤_}
+-- `too_long` meets its contract: the text has room, and is handed on whole or not at all. Assumes nothing.
+use Prim.Native.Nat.{ℕ, _≤_, _<_}
 use native.Mathlib.Omega.{arith}
 use mathlib.Core.Path.{_≡_, refl, sym, ap, _∙_}
 use mathlib.Core.Bool.{true}
 use mathlib.Core.List.{List}
-use lib.ListN.{length}
-use lib.Seq.{length-sets, length-take-le}
+use lib.ListN.{length, length-append}
+use lib.Seq.{sets, length-sets, length-take-le}
 use Rattle.text.specs.Lines.{refusedText}
 use Rattle.text.specs.Writing.{outcome, writing}
 use Rattle.text.specs.declared.Written.{Written}
@@ -17,14 +17,25 @@ use borrow.Author.Needs.{needs}
 use Rattle.play.proofs.too_long.Statement.{statement}
 use Rattle.play.proofs.too_long.Tie as tie
 
+abbrev text : List ℕ
+text = refusedText 18 61440
+
+some : 0 < length text
+unfolding refusedText
+some = simp length-append (omega arith)
+
 -- the line lies within the bytes that are lent
-within : (n : ℕ) (m out : List ℕ) → 544 ≤ length out → line n m ≡ lineOf (refusedText 18 61440) out → n ≤ length m
+within : (n : ℕ) (m out : List ℕ) → 544 ≤ length out → line n m ≡ lineOf text out → n ≤ length m
 within n m out long e =
-    omega (arith, long, ap (λ (l : Line). l .count) e, ap (λ (l : Line). length (l .out)) e, length-sets out 0 (refusedText 18 61440), length-refusedText 18 61440)
+    omega (arith, ap (λ (l : Line). l .count) e, ap (λ (l : Line). length (l .out)) e, length-sets out 0 text, length-refusedText 18 61440)
 
 -- the count of what the text's call has answered
-told : (w v : Written) (m out : List ℕ) → w ≡ v → 544 ≤ length out → outcome w m ≡ writing true (refusedText 18 61440) out → line (countOf v) m ≡ lineOf (refusedText 18 61440) out
-told w v m out is long e = ap (λ (x : Written). line (countOf x) m) (sym is) ∙ counted w m true (refusedText 18 61440) out refl long e
+told : (w v : Written) (m out : List ℕ) → w ≡ v → 544 ≤ length out → outcome w m ≡ writing true text out → line (countOf v) m ≡ lineOf text out
+told w v m out is long e = ap (λ (x : Written). line (countOf x) m) (sym is) ∙ counted w m true text out refl long e
+
+-- what is counted, and what stands in the bytes that are lent
+says : (n : ℕ) (m out : List ℕ) → line n m ≡ lineOf text out → (n ≡ length text) × (m ≡ sets out 0 text)
+says n m out e = (ap (λ (l : Line). l .count) e, ap (λ (l : Line). l .out) e)
 
 refused-requires : tie.Need-refused-requires
 refused-requires c κs = search needs
@@ -39,22 +50,28 @@ same-length : tie.Need-same-length
 same-length c = search needs
 
 returns : tie.Need-returns
-returns c = told _ _ _ _ (c .enum-told .given .1) (c .before .before .before .before .before .before .before .pre) (c .before .before .before .before .refused .ensures)
+returns c = let e = says _ _ _ (told _ _ _ _ (c .enum-told .given .1) (c .before .before .before .before .before .before .before .pre) (c .before .before .before .before .refused .ensures)) in (omega (arith, some, e .0), e .1)
 
-slice-reshare-prefix-write-all : tie.Need-slice-reshare-prefix-write-all
-slice-reshare-prefix-write-all c = within _ _ _ (c .before .before .before .before .before .before .before .before .pre) (told _ _ _ _ (c .before .text .given .1) (c .before .before .before .before .before .before .before .before .pre) (c .before .before .before .before .before .refused .ensures))
+slice-reshare-prefix-hand-on : tie.Need-slice-reshare-prefix-hand-on
+slice-reshare-prefix-hand-on c = within _ _ _ (c .before .before .before .before .before .before .before .before .pre) (told _ _ _ _ (c .before .text .given .1) (c .before .before .before .before .before .before .before .before .pre) (c .before .before .before .before .before .refused .ensures))
 
-slice-aggregate-write-all : tie.Need-slice-aggregate-write-all
-slice-aggregate-write-all c = sym (length-take-le _ _ (within _ _ _ (c .before .before .before .before .before .before .before .before .before .pre) (told _ _ _ _ (c .before .before .text .given .1) (c .before .before .before .before .before .before .before .before .before .pre) (c .before .before .before .before .before .before .refused .ensures))))
+slice-aggregate-hand-on : tie.Need-slice-aggregate-hand-on
+slice-aggregate-hand-on c = sym (length-take-le _ _ (within _ _ _ (c .before .before .before .before .before .before .before .before .before .pre) (told _ _ _ _ (c .before .before .text .given .1) (c .before .before .before .before .before .before .before .before .before .pre) (c .before .before .before .before .before .before .refused .ensures))))
 
-write-all-requires : tie.Need-write-all-requires
-write-all-requires c κs = search needs
+hand-on-requires : tie.Need-hand-on-requires
+hand-on-requires c κs = search needs
 
 same-length-2 : tie.Need-same-length-2
 same-length-2 c = search needs
 
 returns-2 : tie.Need-returns-2
-returns-2 c = told _ _ _ _ (c .before .before .before .text .given .1) (c .before .before .before .before .before .before .before .before .before .before .pre) (c .before .before .before .before .before .before .before .refused .ensures)
+returns-2 c = (some, says _ _ _ (told _ _ _ _ (c .before .before .before .before .text .given .1) (c .before .before .before .before .before .before .before .before .before .before .before .pre) (c .before .before .before .before .before .before .before .before .refused .ensures)) .1)
+
+same-length-3 : tie.Need-same-length-3
+same-length-3 c = search needs
+
+returns-3 : tie.Need-returns-3
+returns-3 c = says _ _ _ (told _ _ _ _ (c .before .before .before .before .text .given .1) (c .before .before .before .before .before .before .before .before .before .before .before .pre) (c .before .before .before .before .before .before .before .before .refused .ensures))
 
 pub too-long-spec : {M : Type 1} → statement M
 too-long-spec =
@@ -65,8 +82,10 @@ too-long-spec =
     enum-told
     same-length
     returns
-    slice-reshare-prefix-write-all
-    slice-aggregate-write-all
-    write-all-requires
+    slice-reshare-prefix-hand-on
+    slice-aggregate-hand-on
+    hand-on-requires
     same-length-2
-    returns-2)
+    returns-2
+    same-length-3
+    returns-3)

@@ -35,6 +35,27 @@ pub enum Flaw {
     LatestKeepsPlace,
 }
 
+/// Those that calls of layer 3 notice.
+pub const FLAWS: [Flaw; 17] = [
+    Flaw::SentMayBeEqual,
+    Flaw::ClearsOnSending,
+    Flaw::SentOnChosenOnly,
+    Flaw::EqualIsStale,
+    Flaw::CutForgets,
+    Flaw::UpdateForgetsOldViews,
+    Flaw::UpdateNeverAdopts,
+    Flaw::HoldsOwnOffers,
+    Flaw::ClearsUnasked,
+    Flaw::NeverClears,
+    Flaw::NotedIsHeld,
+    Flaw::NotedDiscards,
+    Flaw::AgreedKeepsDiscarded,
+    Flaw::LatestKeepsPlace,
+    Flaw::SentOfCutLinks,
+    Flaw::HeldMustBeBelow,
+    Flaw::HighestLink,
+];
+
 /// A link end, its bridge, and its records before a call.
 pub struct Site<'a> {
     pub map: &'a Map,

@@ -11,8 +11,6 @@ extern "C" {
         bench_len: usize,
         costs: *const u32,
         costs_len: usize,
-        tables: *const u32,
-        tables_len: usize,
         sent: *mut u32,
         sent_len: usize,
         held: *mut u32,
@@ -47,7 +45,7 @@ impl List {
 
     pub fn run(&mut self) -> u8 {
         let List { lent, rest, ways } = self;
-        let (b, c, t) = (lent.bench.numbers_mut(), lent.costs.numbers(), lent.tables.numbers());
+        let (b, c) = (lent.bench.numbers_mut(), lent.costs.numbers());
         let (s, h, m) = (lent.sent.numbers_mut(), lent.held.numbers_mut(), lent.messages.numbers_mut());
         let (r, w, o) = (rest.numbers(), ways.numbers_mut(), lent.out.numbers_mut());
         // SAFETY: each pointer comes with the length of its buffer, and no two buffers share memory.
@@ -57,8 +55,6 @@ impl List {
                 b.len(),
                 c.as_ptr(),
                 c.len(),
-                t.as_ptr(),
-                t.len(),
                 s.as_mut_ptr(),
                 s.len(),
                 h.as_mut_ptr(),

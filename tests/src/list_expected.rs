@@ -6,13 +6,13 @@ use crate::list_call::{List, WAY};
 use crate::model::{Call, Model};
 use crate::network_call::{Lent, ANSWER};
 use crate::network_entry::{is_turned_down, needed};
+use crate::network_event::event;
 use crate::network_numbers::{compare, compare_buffer, expect, put_bench};
-use crate::network_run::event;
 use crate::plan_bytes::first_event;
 use std::mem::replace;
 
 /// The place of `out` in `Lent::buffers`.
-const OUT: usize = 6;
+const OUT: usize = 5;
 
 /// How many numbers the counts take.
 const COUNTS: usize = 2;
@@ -28,7 +28,7 @@ pub enum Stop {
 }
 
 /// The least length of each buffer, in the order of `Lent::buffers`.
-pub fn list_needs() -> [usize; 7] {
+pub fn list_needs() -> [usize; 6] {
     let mut lengths = needed(Some(Call::Deliver(0)));
     lengths[OUT] = COUNTS;
     lengths

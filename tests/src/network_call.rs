@@ -7,7 +7,6 @@ use crate::model::Call;
 /// The lengths that the calls need.
 pub const BENCH: usize = 388;
 pub const COSTS: usize = 1024;
-pub const TABLES: usize = 8192;
 pub const LIMITS: usize = 1024;
 pub const MESSAGES: usize = 320;
 pub const ANSWER: usize = 3;
@@ -27,8 +26,6 @@ extern "C" {
         bench_len: usize,
         costs: *const u32,
         costs_len: usize,
-        tables: *mut u32,
-        tables_len: usize,
         sent: *mut u32,
         sent_len: usize,
         held: *mut u32,
@@ -39,8 +36,6 @@ extern "C" {
         bench_len: usize,
         costs: *const u32,
         costs_len: usize,
-        tables: *const u32,
-        tables_len: usize,
         sent: *mut u32,
         sent_len: usize,
         held: *mut u32,
@@ -64,8 +59,6 @@ extern "C" {
         bench_len: usize,
         costs: *const u32,
         costs_len: usize,
-        tables: *const u32,
-        tables_len: usize,
         sent: *const u32,
         sent_len: usize,
         held: *const u32,
@@ -80,8 +73,6 @@ extern "C" {
         bench_len: usize,
         costs: *const u32,
         costs_len: usize,
-        tables: *const u32,
-        tables_len: usize,
         sent: *const u32,
         sent_len: usize,
         held: *const u32,
@@ -95,8 +86,6 @@ extern "C" {
         bench_len: usize,
         costs: *const u32,
         costs_len: usize,
-        tables: *const u32,
-        tables_len: usize,
         sent: *const u32,
         sent_len: usize,
         held: *const u32,
@@ -118,8 +107,6 @@ macro_rules! deliveries {
                 bench_len: usize,
                 costs: *const u32,
                 costs_len: usize,
-                tables: *const u32,
-                tables_len: usize,
                 sent: *mut u32,
                 sent_len: usize,
                 held: *mut u32,
@@ -149,7 +136,6 @@ pub(crate) enum Delivery {
 pub struct Lent {
     pub bench: Buffer,
     pub costs: Buffer,
-    pub tables: Buffer,
     pub sent: Buffer,
     pub held: Buffer,
     pub messages: Buffer,
@@ -157,11 +143,10 @@ pub struct Lent {
 }
 
 impl Lent {
-    pub fn buffers(&self) -> [(&'static str, &Buffer); 7] {
+    pub fn buffers(&self) -> [(&'static str, &Buffer); 6] {
         [
             ("bench", &self.bench),
             ("costs", &self.costs),
-            ("tables", &self.tables),
             ("sent", &self.sent),
             ("held", &self.held),
             ("messages", &self.messages),
@@ -171,8 +156,8 @@ impl Lent {
 
     /// A buffer by its place in `buffers`.
     pub fn buffer_mut(&mut self, which: usize) -> &mut Buffer {
-        let Lent { bench, costs, tables, sent, held, messages, out } = self;
-        [bench, costs, tables, sent, held, messages, out][which]
+        let Lent { bench, costs, sent, held, messages, out } = self;
+        [bench, costs, sent, held, messages, out][which]
     }
 
     /// The same with one buffer, by its place in `buffers`, of another length: cut off, or with zeros at the end.
@@ -199,22 +184,9 @@ impl Lent {
     // SAFETY, of each call below: each pointer comes with the length of its buffer, and no two buffers share memory.
 
     pub fn fresh(&mut self) -> u8 {
-        let (b, c, t) = (self.bench.numbers_mut(), self.costs.numbers(), self.tables.numbers_mut());
+        let (b, c) = (self.bench.numbers_mut(), self.costs.numbers());
         let (s, h) = (self.sent.numbers_mut(), self.held.numbers_mut());
-        unsafe {
-            bench_net_fresh(
-                b.as_mut_ptr(),
-                b.len(),
-                c.as_ptr(),
-                c.len(),
-                t.as_mut_ptr(),
-                t.len(),
-                s.as_mut_ptr(),
-                s.len(),
-                h.as_mut_ptr(),
-                h.len(),
-            )
-        }
+        unsafe { bench_net_fresh(b.as_mut_ptr(), b.len(), c.as_ptr(), c.len(), s.as_mut_ptr(), s.len(), h.as_mut_ptr(), h.len()) }
     }
 
     pub fn call(&mut self, call: Call) -> u8 {
@@ -253,7 +225,7 @@ impl Lent {
     }
 
     fn update(&mut self, bridge: usize, view: usize) -> u8 {
-        let (b, c, t) = (self.bench.numbers_mut(), self.costs.numbers(), self.tables.numbers());
+        let (b, c) = (self.bench.numbers_mut(), self.costs.numbers());
         let (s, h) = (self.sent.numbers_mut(), self.held.numbers_mut());
         unsafe {
             bench_net_update(
@@ -261,8 +233,6 @@ impl Lent {
                 b.len(),
                 c.as_ptr(),
                 c.len(),
-                t.as_ptr(),
-                t.len(),
                 s.as_mut_ptr(),
                 s.len(),
                 h.as_mut_ptr(),
@@ -280,7 +250,7 @@ impl Lent {
             Delivery::SliceDeliver => bench_slice_deliver,
             Delivery::SliceRepeat => bench_slice_repeat,
         };
-        let (b, c, t) = (self.bench.numbers_mut(), self.costs.numbers(), self.tables.numbers());
+        let (b, c) = (self.bench.numbers_mut(), self.costs.numbers());
         let (s, h, m, o) =
             (self.sent.numbers_mut(), self.held.numbers_mut(), self.messages.numbers_mut(), self.out.numbers_mut());
         unsafe {
@@ -289,8 +259,6 @@ impl Lent {
                 b.len(),
                 c.as_ptr(),
                 c.len(),
-                t.as_ptr(),
-                t.len(),
                 s.as_mut_ptr(),
                 s.len(),
                 h.as_mut_ptr(),
@@ -305,7 +273,7 @@ impl Lent {
     }
 
     fn port(&mut self, bridge: usize, dest: usize) -> u8 {
-        let (b, c, t) = (self.bench.numbers(), self.costs.numbers(), self.tables.numbers());
+        let (b, c) = (self.bench.numbers(), self.costs.numbers());
         let (s, h, o) = (self.sent.numbers(), self.held.numbers(), self.out.numbers_mut());
         unsafe {
             bench_net_port(
@@ -313,8 +281,6 @@ impl Lent {
                 b.len(),
                 c.as_ptr(),
                 c.len(),
-                t.as_ptr(),
-                t.len(),
                 s.as_ptr(),
                 s.len(),
                 h.as_ptr(),
@@ -328,7 +294,7 @@ impl Lent {
     }
 
     fn report(&mut self, dest: usize) -> u8 {
-        let (b, c, t) = (self.bench.numbers(), self.costs.numbers(), self.tables.numbers());
+        let (b, c) = (self.bench.numbers(), self.costs.numbers());
         let (s, h, o) = (self.sent.numbers(), self.held.numbers(), self.out.numbers_mut());
         unsafe {
             bench_net_report(
@@ -336,8 +302,6 @@ impl Lent {
                 b.len(),
                 c.as_ptr(),
                 c.len(),
-                t.as_ptr(),
-                t.len(),
                 s.as_ptr(),
                 s.len(),
                 h.as_ptr(),
@@ -350,7 +314,7 @@ impl Lent {
     }
 
     fn path(&mut self, start: usize, dest: usize) -> u8 {
-        let (b, c, t) = (self.bench.numbers(), self.costs.numbers(), self.tables.numbers());
+        let (b, c) = (self.bench.numbers(), self.costs.numbers());
         let (s, h, o) = (self.sent.numbers(), self.held.numbers(), self.out.numbers_mut());
         unsafe {
             bench_net_path(
@@ -358,8 +322,6 @@ impl Lent {
                 b.len(),
                 c.as_ptr(),
                 c.len(),
-                t.as_ptr(),
-                t.len(),
                 s.as_ptr(),
                 s.len(),
                 h.as_ptr(),

@@ -4,7 +4,7 @@
 use crate::call::RECORD;
 use crate::entry::{is_bridge_count, is_link_count, is_received_view, is_view, is_view_count};
 use crate::model::Call;
-use crate::network_call::{Lent, ANSWER, BENCH, COSTS, CUT, ENDS, LIMITS, MESSAGES, NUMBER, RECORDS, ROWS, TABLES, VIEW};
+use crate::network_call::{Lent, ANSWER, BENCH, COSTS, CUT, ENDS, LIMITS, MESSAGES, NUMBER, RECORDS, ROWS, VIEW};
 use crate::records_numbers::{Field, BYTES, NUMBERS, RECORD_FIELDS};
 use crate::view::MAX_COST;
 use reference::network::MOST_IN_FLIGHT;
@@ -27,11 +27,11 @@ fn answer_length(call: Call) -> usize {
 }
 
 /// The least length of each buffer, in the order of `Lent::buffers`, 0 for one that is not lent to the call; `None` is `fresh`.
-pub fn needed(call: Option<Call>) -> [usize; 7] {
-    let Some(call) = call else { return [BENCH, COSTS, TABLES, LIMITS, LIMITS, 0, 0] };
+pub fn needed(call: Option<Call>) -> [usize; 6] {
+    let Some(call) = call else { return [BENCH, COSTS, LIMITS, LIMITS, 0, 0] };
     let views = |length: usize| if reads_views(call) { length } else { 0 };
     let messages = if reads_messages(call) { MESSAGES } else { 0 };
-    [BENCH, views(COSTS), views(TABLES), views(LIMITS), views(LIMITS), messages, answer_length(call)]
+    [BENCH, views(COSTS), views(LIMITS), views(LIMITS), messages, answer_length(call)]
 }
 
 /// Is the call refused with 17.

@@ -3,29 +3,25 @@
 
 use crate::call::RECORD;
 use crate::guard::{Buffer, Guard};
-use crate::model::{Call, Model, Reply};
+use crate::model::{byte, Call, Model, Reply};
 use crate::network_call::{Lent, BENCH, CUT, NUMBER, RECORDS, VIEW};
 use crate::network_entry::{reads_messages, reads_views};
+use crate::network_random::map_of;
 use crate::records_numbers::{agreement_number, answer_numbers, fields_of, put_fresh_limits, put_limits, records_in, NO_VIEW};
 use crate::view::NONE;
-use reference::map::{End, Map, View};
+use reference::map::{End, Map};
 use reference::network::Network;
 use reference::records::{Bridge, Message};
 use std::fmt::Display;
 
 // ---- the network in the numbers
 
-/// Bridges, links, costs and distances as they stand in the numbers.
+/// Bridges, links and costs as they stand in the numbers, with the distances that the reference computes.
 fn map_in(lent: &Lent) -> Map {
     let [bridges, links, views, _] = lent.counts();
-    let costs = lent.costs.numbers().chunks_exact(32);
-    let tables = lent.tables.numbers().chunks_exact(256);
-    let column = |table: &[u32], dest: usize| (0..bridges).map(|bridge| table[16 * bridge + dest]).collect();
-    let view = |(costs, table): (&[u32], &[u32])| View {
-        costs: costs[..links].to_vec(),
-        distances: (0..bridges).map(|dest| column(table, dest)).collect(),
-    };
-    Map::given(bridges, lent.pairs(), costs.zip(tables).take(views).map(view).collect())
+    let pairs: Vec<[u8; 2]> = lent.pairs().into_iter().map(|pair| pair.map(byte)).collect();
+    let costs = lent.costs.numbers().chunks_exact(32).take(views);
+    map_of(bridges, &pairs, &costs.map(|view| view[..links].to_vec()).collect::<Vec<_>>())
 }
 
 /// The network that stands in numbers which are in range.
@@ -97,11 +93,6 @@ pub fn put_fresh(map: &Map, lent: &mut Lent) -> Network {
     b[RECORDS..CUT].chunks_exact_mut(RECORD).for_each(|record| record.copy_from_slice(&[0, NO_VIEW, 0, 0]));
     b[CUT..BENCH].fill(0);
     put_bench(&network, b);
-    for (t, table) in lent.tables.numbers_mut().chunks_exact_mut(256).take(map.view_count()).enumerate() {
-        for (bridge, row) in table.chunks_exact_mut(16).take(map.bridge_count()).enumerate() {
-            (0..map.bridge_count()).for_each(|dest| row[dest] = map.distance(t, dest, bridge));
-        }
-    }
     for &end in network.ends.iter().flatten() {
         let records = &network.records[end.link][end.side];
         put_fresh_limits(map, end, records, lent.sent.numbers_mut(), lent.held.numbers_mut());

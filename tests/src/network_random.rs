@@ -1,15 +1,15 @@
-//! Random maps, calls, and networks that no fresh one leads to.
+//! Random maps and calls, buffers with a map in them, and damage to a network.
 
 use crate::call::RECORD;
 use crate::entry::too_great;
 use crate::guard::Buffer;
 use crate::model::Call;
-use crate::network_call::{Lent, BENCH, COSTS, CUT, ENDS, LIMITS, MESSAGES, NUMBER, RECORDS, ROWS, TABLES, VIEW};
+use crate::network_call::{Lent, BENCH, COSTS, CUT, ENDS, LIMITS, MESSAGES, NUMBER, RECORDS, ROWS, VIEW};
 use crate::network_entry::{field_at, is_counted};
 use crate::random::Random;
 use crate::random_case::any_record;
-use crate::records_numbers::{BYTES, NO_VIEW, NUMBERS};
-use crate::view::{random_arguments, MAX_COST, NONE};
+use crate::records_numbers::{BYTES, NUMBERS};
+use crate::view::{random_arguments, MAX_COST};
 use reference::map::{End, Map};
 use reference::network::Network;
 use std::collections::BTreeSet;
@@ -32,7 +32,7 @@ pub fn pair(map: &Map, link: usize) -> [usize; 2] {
 }
 
 /// Small costs have many paths of equal length; the others are any.
-fn random_cost(random: &mut Random, small: bool) -> u32 {
+pub fn random_cost(random: &mut Random, small: bool) -> u32 {
     match random.below(6) {
         0 => 0,
         1 if !small => MAX_COST,
@@ -67,7 +67,7 @@ pub fn random_map(random: &mut Random) -> Map {
 }
 
 /// Any numbers that fit their fields, from an end or a view of a bench on.
-fn fill(random: &mut Random, b: &mut [u32], from: usize) {
+pub(crate) fn fill(random: &mut Random, b: &mut [u32], from: usize) {
     b[from..NUMBER].iter_mut().for_each(|x| *x = random.below(BYTES as usize) as u32);
     b[NUMBER..RECORDS].iter_mut().for_each(|x| *x = random.below(NUMBERS as usize) as u32);
     b[RECORDS..CUT].chunks_exact_mut(RECORD).for_each(|record| record.copy_from_slice(&any_record(random)));
@@ -81,9 +81,8 @@ pub fn lend(random: &mut Random, map: &Map) -> Lent {
         let more = if random.one_in(2) { 0 } else { random.below(20) };
         Buffer::of(&random.numbers(length + more))
     };
-    let [bench, costs, tables, sent, held, messages, out] =
-        [BENCH, COSTS, TABLES, LIMITS, LIMITS, MESSAGES, ROWS].map(&mut buffer);
-    let mut lent = Lent { bench, costs, tables, sent, held, messages, out };
+    let [bench, costs, sent, held, messages, out] = [BENCH, COSTS, LIMITS, LIMITS, MESSAGES, ROWS].map(&mut buffer);
+    let mut lent = Lent { bench, costs, sent, held, messages, out };
     let b = lent.bench.numbers_mut();
     fill(random, b, ENDS);
     b[..3].copy_from_slice(&[map.bridge_count(), map.link_count(), map.view_count()].map(|x| x as u32));
@@ -94,100 +93,6 @@ pub fn lend(random: &mut Random, map: &Map) -> Lent {
         (0..map.link_count()).for_each(|link| costs[link] = map.cost(view, link));
     }
     lent
-}
-
-// ---- networks that no fresh one leads to
-
-/// How a network is disturbed.
-struct Manner {
-    /// Nearly every frame passes, so that rings occur.
-    loose: bool,
-    /// Agreement numbers near the last, or small ones that meet often.
-    near_last: bool,
-}
-
-impl Manner {
-    fn agreement_number(&self, random: &mut Random) -> u32 {
-        match random.below(8) {
-            0 => 65_535,
-            _ if self.near_last => 65_531 + random.below(5) as u32,
-            _ => random.below(6) as u32,
-        }
-    }
-
-    fn disturb_bench(&self, random: &mut Random, lent: &mut Lent) {
-        let [bridges, links, views, _] = lent.counts();
-        let b = lent.bench.numbers_mut();
-        fill(random, b, VIEW);
-        for y in 0..bridges {
-            b[VIEW + y] = random.below(views) as u32;
-            b[NUMBER + y] = self.agreement_number(random);
-        }
-        for record in b[RECORDS..CUT].chunks_exact_mut(RECORD).take(2 * links) {
-            let seen = if random.one_in(4) { NO_VIEW } else { random.below(views) as u32 };
-            let [highest, discarded] = [0; 2].map(|_: u32| self.agreement_number(random));
-            let holding = if self.loose { 1 } else { random.pick(&[0, 1, 1, 2, NONE]) };
-            record.copy_from_slice(&[highest, seen, discarded, holding]);
-        }
-        for flag in &mut b[CUT..CUT + links] {
-            *flag = if self.loose { 0 } else { random.pick(&[0, 0, 0, 0, 1, 3]) };
-        }
-    }
-
-    fn disturb_messages(&self, random: &mut Random, lent: &mut Lent) {
-        let [_, links, views, _] = lent.counts();
-        let count = if links == 0 { 0 } else { random.below(65) };
-        lent.bench.numbers_mut()[3] = count as u32;
-        for message in lent.messages.numbers_mut().chunks_exact_mut(5).take(count) {
-            let [link, direction, view] = [links, 2, views].map(|n| random.below(n) as u32);
-            message.copy_from_slice(&[link, direction, view, self.agreement_number(random), self.agreement_number(random)]);
-        }
-    }
-
-    fn disturb_limits(&self, random: &mut Random, lent: &mut Lent) {
-        let [bridges, links, ..] = lent.counts();
-        for place in (0..2 * links).flat_map(|end| (0..bridges).map(move |dest| 16 * end + dest)) {
-            disturb_limit(random, &mut lent.sent.numbers_mut()[place], NONE, self.loose);
-            disturb_limit(random, &mut lent.held.numbers_mut()[place], 1, self.loose);
-        }
-    }
-}
-
-/// Other records, limits, views, numbers, cuts and messages in place of those of a fresh network: any that are in range, and past the
-/// counts any that fit. Now and then other distances too, and then the reply is true.
-pub fn disturb(random: &mut Random, lent: &mut Lent) -> bool {
-    let manner = Manner { loose: random.one_in(2), near_last: random.one_in(3) };
-    manner.disturb_bench(random, lent);
-    manner.disturb_messages(random, lent);
-    manner.disturb_limits(random, lent);
-    let other_distances = random.one_in(4);
-    if other_distances {
-        disturb_distances(random, lent);
-    }
-    other_distances
-}
-
-/// Some distances of each view become small, or NONE, or any numbers.
-fn disturb_distances(random: &mut Random, lent: &mut Lent) {
-    let rarely = random.pick(&[2, 8]);
-    for distance in lent.tables.numbers_mut() {
-        if random.one_in(rarely) {
-            let any = random.number();
-            *distance = random.pick(&[0, 1, 2, 3, 4, NONE - 1, NONE, any]);
-        }
-    }
-}
-
-/// Mostly a limit that lets a frame pass, or the limit that was there.
-fn disturb_limit(random: &mut Random, limit: &mut u32, passes: u32, loose: bool) {
-    match random.below(12) {
-        _ if loose && !random.one_in(50) => *limit = passes,
-        0 => *limit = random.number(),
-        1 => *limit = random.below(8) as u32,
-        2 => *limit = NONE,
-        3..=9 => *limit = passes,
-        _ => (),
-    }
 }
 
 /// A place of a bench whose field has a width, each kind of field as often.

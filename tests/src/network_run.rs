@@ -3,17 +3,15 @@
 use crate::count::Met;
 use crate::model::{Call, Model, Reply};
 use crate::network_call::Lent;
+use crate::network_event::{event, Outcome};
+use crate::network_handed::hand_in;
 use crate::network_numbers::{compare, expect, is_question, network_in, put_fresh};
-use crate::network_random::{disturb, lend, pair};
+use crate::network_random::{lend, pair};
 use crate::random::Random;
 use reference::distances::NONE;
 use reference::forwarding::PathEnd;
 use reference::map::{End, Map};
 use reference::network::{Network, MOST_IN_FLIGHT};
-use reference::records::Answer;
-
-/// An error is document 01's number.
-pub type Outcome = Result<Reply, u8>;
 
 /// One list of calls, by the compiled calls and by the reference.
 pub struct Run {
@@ -23,28 +21,6 @@ pub struct Run {
     pub met: Met,
     pub trail: Vec<Call>,
     asked: usize,
-}
-
-pub fn name(call: Call) -> String {
-    format!("{call:?}").split('(').next().unwrap_or_default().to_lowercase()
-}
-
-/// What is counted of a call.
-pub(crate) fn event(call: Call, outcome: &Outcome) -> String {
-    let what = match (call, outcome) {
-        (_, Err(number)) => number.to_string(),
-        (_, Ok(Reply::Done)) => "done".into(),
-        (_, Ok(Reply::Answered(answer, _))) => format!("{answer:?}").to_lowercase(),
-        (_, Ok(Reply::Port(None))) => "closed".into(),
-        (_, Ok(Reply::Port(Some(_)))) => "open".into(),
-        (_, Ok(Reply::Report(rows))) if rows.iter().all(|row| row.1.is_none()) => "without ports".into(),
-        (_, Ok(Reply::Report(_))) => "with ports".into(),
-        (Call::Path(_, dest), Ok(Reply::Path(end))) if end.last == dest && end.hops == 0 => "delivered at once".into(),
-        (Call::Path(_, dest), Ok(Reply::Path(end))) if end.last == dest => "delivered".into(),
-        (_, Ok(Reply::Path(PathEnd { hops: 0, .. }))) => "stops at once".into(),
-        (_, Ok(Reply::Path(_))) => "stops on the way".into(),
-    };
-    format!("{} {what}", name(call))
 }
 
 impl Run {
@@ -57,17 +33,33 @@ impl Run {
             return Err(format!("fresh: reply {reply} in place of 0"));
         }
         compare(&expected, &found).map_err(|difference| format!("fresh: {difference}"))?;
-        Ok(Run { model, expected, found, met: Met::default(), trail: Vec::new(), asked: 0 })
+        Ok(Run::of(model, found))
     }
 
-    /// From numbers that no fresh network leads to.
+    /// From a network that no fresh one leads to; `fresh` has never seen its buffers.
     pub fn handed_in(random: &mut Random, map: &Map) -> Result<Run, String> {
-        let mut run = Run::fresh(random, map)?;
-        let other_distances = disturb(random, &mut run.expected);
-        run.met.note_times("other distances", other_distances.into());
-        run.found = run.expected.clone();
-        run.model = Model::of(network_in(&run.expected));
+        let mut lent = lend(random, map);
+        let limits = hand_in(random, map, &mut lent);
+        let mut run = Run::of(Model::of(network_in(&lent)), lent);
+        run.met.note(format!("{limits:?} limits"));
         Ok(run)
+    }
+
+    /// The network in these buffers.
+    fn of(model: Model, lent: Lent) -> Run {
+        Run { model, expected: lent.clone(), found: lent, met: Met::default(), trail: Vec::new(), asked: 0 }
+    }
+
+    /// The same network, of which nothing has been met.
+    pub fn copy(&self) -> Run {
+        Run::of(self.model.clone(), self.found.clone())
+    }
+
+    /// Puts other numbers in range in the place of what the calls left; the reference reads the network anew.
+    pub fn renumber(&mut self, change: impl FnOnce(&mut Lent)) {
+        change(&mut self.expected);
+        self.found = self.expected.clone();
+        self.model.network = network_in(&self.expected);
     }
 
     pub fn network(&self) -> &Network {
@@ -303,47 +295,5 @@ fn ends_by_itself(next: &[Option<usize>], start: usize, dest: usize, outcome: &O
         Ok(())
     } else {
         Err(format!("path from {start} to {dest}: {outcome:?} in place of {end:?}"))
-    }
-}
-
-// ---- for known answers
-
-/// Each of these panics where the two differ.
-impl Run {
-    /// An accepted call.
-    pub fn make(&mut self, call: Call) -> Reply {
-        match self.ask(call) {
-            Ok(Ok(reply)) => reply,
-            other => panic!("{call:?}: {other:?}"),
-        }
-    }
-
-    pub fn refused(&mut self, call: Call, number: u8) {
-        assert_eq!(self.ask(call), Ok(Err(number)), "{call:?}");
-    }
-
-    /// The last message in flight is delivered.
-    fn deliver_last(&mut self) -> (Answer, u16, usize) {
-        match self.make(Call::Deliver(self.network().flight.len() - 1)) {
-            Reply::Answered(answer, message) => (answer, message.number, message.view),
-            other => panic!("{other:?}"),
-        }
-    }
-
-    /// Sends over a link and delivers: the answer, and the number and view of the message.
-    pub fn tell(&mut self, bridge: usize, link: usize) -> (Answer, u16, usize) {
-        self.make(Call::Send(bridge, link));
-        self.deliver_last()
-    }
-
-    pub fn distance_and_port(&mut self, bridge: usize, dest: usize) -> (u32, Option<usize>) {
-        match self.make(Call::Report(dest)) {
-            Reply::Report(rows) => rows[bridge],
-            other => panic!("{other:?}"),
-        }
-    }
-
-    pub fn ports(&mut self, dest: usize) -> Vec<Option<usize>> {
-        (0..self.map().bridge_count()).map(|b| self.distance_and_port(b, dest).1).collect()
     }
 }

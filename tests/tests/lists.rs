@@ -11,6 +11,7 @@ use bench_tests::list_call::{List, WAY};
 use bench_tests::list_expected::{compare_lists, is_list_turned_down, list_needs, run_both, Stop};
 use bench_tests::list_random::{random_list, random_ways};
 use bench_tests::model::{Call, Model};
+use bench_tests::network_event::EVENTS;
 use bench_tests::network_random::{damage, random_map, widened, OUT_OF_RANGE};
 use bench_tests::network_run::Run;
 use bench_tests::plan_bytes::{field, first_event};
@@ -20,42 +21,7 @@ use reference::map::Map;
 
 // ---- random lists
 
-const LISTS: u64 = 1_200;
-
-/// What is met of the events.
-const EVENTS: [&str; 31] = [
-    "update done",
-    "update 10",
-    "update 16",
-    "cut done",
-    "cut 10",
-    "cut 12",
-    "restore done",
-    "restore 10",
-    "restore 12",
-    "send done",
-    "send 10",
-    "send 11",
-    "send 13",
-    "send 14",
-    "deliver stale",
-    "deliver agreed",
-    "deliver noted",
-    "deliver 13",
-    "deliver 15",
-    "repeat stale",
-    "repeat agreed",
-    "repeat noted",
-    "repeat 13",
-    "repeat 15",
-    "lose done",
-    "lose 15",
-    "path delivered",
-    "path delivered at once",
-    "path stops at once",
-    "path stops on the way",
-    "path 10",
-];
+const LISTS: u64 = 1_500;
 
 const STOPS: [Stop; 5] = [Stop::End, Stop::Room, Stop::Report, Stop::Refused, Stop::NoEvent];
 
@@ -92,8 +58,10 @@ fn random_lists() {
     }
     let [many, few, none] =
         ["after many calls", "after few calls", "at once"].map(|when| STOPS.map(|stop| format!("{stop:?} {when}")));
-    met.only("lists", &[&EVENTS.map(String::from)[..], &many, &few, &none].concat(), 10);
-    met.at_least("lists", &EVENTS, 40);
+    // a list has no ports, and ends before a report
+    let events = EVENTS.into_iter().filter(|event| !event.contains("port")).map(String::from).collect::<Vec<_>>();
+    met.only("lists", &[&events[..], &many, &few, &none].concat(), 10);
+    met.at_least("lists", &events, 40);
     met.at_least("lists", &[few, none].concat(), 100);
 }
 

@@ -1,8 +1,9 @@
 //! Lists of calls on layer 3 as compiled, against document 01 and against reference/.
 
 use bench_tests::count::Met;
-use bench_tests::flaw::Flaw;
+use bench_tests::flaw::FLAWS;
 use bench_tests::model::Call;
+use bench_tests::network_event::EVENTS;
 use bench_tests::network_random::{pair, random_call, random_map};
 use bench_tests::network_run::{pairs_of, Run};
 use bench_tests::random::Random;
@@ -11,6 +12,9 @@ use reference::network::Network;
 
 const LISTS: u64 = 600;
 const CALLS: usize = 250;
+
+/// What no list leads to that is so short and starts fresh.
+const LAST_NUMBER: &str = "update 16";
 
 fn fail(label: &str, run: &Run, difference: &str) -> ! {
     let last = run.trail.len().saturating_sub(6);
@@ -60,55 +64,8 @@ fn stopped_by_its_length(network: &Network) -> bool {
     pairs_of(network.map.bridge_count()).any(|(start, dest)| network.port(network.path(start, dest).last, dest).is_some())
 }
 
-const EVENTS: [&str; 46] = [
-    "update done",
-    "update 10",
-    "cut done",
-    "cut 10",
-    "cut 12",
-    "restore done",
-    "restore 10",
-    "restore 12",
-    "send done",
-    "send 10",
-    "send 11",
-    "send 13",
-    "send 14",
-    "deliver stale",
-    "deliver agreed",
-    "deliver noted",
-    "deliver 13",
-    "deliver 15",
-    "repeat stale",
-    "repeat agreed",
-    "repeat noted",
-    "repeat 13",
-    "repeat 15",
-    "lose done",
-    "lose 15",
-    "port open",
-    "port closed",
-    "port 10",
-    "report with ports",
-    "report without ports",
-    "report 10",
-    "path delivered",
-    "path delivered at once",
-    "path stops at once",
-    "path stops on the way",
-    "path 10",
-    "clearing",
-    "settled",
-    // of plans and networks
-    "2 bridges",
-    "16 bridges",
-    "no link",
-    "32 links",
-    "parallel links",
-    "32 views",
-    "one view",
-    "64 in flight",
-];
+/// Of the plans.
+const FEATURES: [&str; 7] = ["2 bridges", "16 bridges", "no link", "32 links", "parallel links", "32 views", "one view"];
 
 fn map_events(map: &Map) -> Vec<&'static str> {
     let links = map.link_count();
@@ -140,9 +97,9 @@ fn fresh_lists(part: u64) {
         met.note_times("64 in flight", (run.met.times("send 14") > 0).into());
     }
     let label = format!("fresh lists, part {part}");
-    met.only(&label, &EVENTS, 4);
-    let rare = ["2 bridges", "16 bridges", "no link", "32 links", "32 views", "one view", "64 in flight"];
-    let frequent: Vec<&str> = EVENTS.into_iter().filter(|event| !rare.contains(event)).collect();
+    let mut frequent: Vec<&str> = EVENTS.into_iter().filter(|&event| event != LAST_NUMBER).collect();
+    frequent.extend(["clearing", "settled", "parallel links"]);
+    met.only(&label, &[&frequent[..], &FEATURES, &["64 in flight"]].concat(), 4);
     met.at_least(&label, &frequent, 100);
 }
 
@@ -181,33 +138,11 @@ fn lists_from_networks_handed_in() {
         met.add(&run.met);
         met.note_times("path stopped by its length", stopped.into());
     }
-    let calls = EVENTS.iter().filter(|event| !event.contains("link") && !event.contains("bridges") && !event.contains("view"));
-    let others = ["settled", "64 in flight"];
-    let mut events: Vec<&str> = calls.copied().filter(|event| !others.contains(event)).collect();
-    events.extend(["update 16", "path stopped by its length", "other distances"]);
-    met.only("handed in", &events, 50);
+    let others = ["clearing", "path stopped by its length", "Any limits", "Loose limits", "Near limits"];
+    met.only("handed in", &[&EVENTS[..], &others].concat(), 50);
 }
 
 // ---- the tests themselves
-
-const FLAWS: [Flaw; 16] = [
-    Flaw::ClearsOnSending,
-    Flaw::SentOnChosenOnly,
-    Flaw::EqualIsStale,
-    Flaw::CutForgets,
-    Flaw::UpdateForgetsOldViews,
-    Flaw::UpdateNeverAdopts,
-    Flaw::HoldsOwnOffers,
-    Flaw::ClearsUnasked,
-    Flaw::NeverClears,
-    Flaw::NotedIsHeld,
-    Flaw::NotedDiscards,
-    Flaw::AgreedKeepsDiscarded,
-    Flaw::LatestKeepsPlace,
-    Flaw::SentOfCutLinks,
-    Flaw::HeldMustBeBelow,
-    Flaw::HighestLink,
-];
 
 type Start = fn(&mut Random, &Map) -> Result<Run, String>;
 type List = fn(&mut Random, &mut Run, usize) -> Result<(), String>;

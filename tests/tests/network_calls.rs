@@ -4,9 +4,11 @@ use bench_tests::count::Met;
 use bench_tests::model::{Call, Model, Reply};
 use bench_tests::network_call::{Lent, BENCH, ENDS, NUMBER};
 use bench_tests::network_entry::{field_at, is_turned_down, needed};
-use bench_tests::network_numbers::{compare, expect, network_in, put_fresh};
-use bench_tests::network_random::{damage, lend, map_of, random_call, random_map, widen, widened, OUT_OF_RANGE};
-use bench_tests::network_run::{name, Run};
+use bench_tests::network_event::name;
+use bench_tests::network_known::{known_run, triangle};
+use bench_tests::network_numbers::{compare, expect, put_fresh};
+use bench_tests::network_random::{damage, lend, random_call, random_map, widen, widened, OUT_OF_RANGE};
+use bench_tests::network_run::Run;
 use bench_tests::random::Random;
 use bench_tests::view::NONE;
 use reference::forwarding::PathEnd;
@@ -61,16 +63,6 @@ fn expect_taken(label: &str, lent: &Lent, call: Call, mut model: Model) {
     let mut expected = lent.clone();
     let reply = expect(&mut model, call, &mut expected).err().unwrap_or(0);
     expect_outcome(label, lent, Some(call), reply, &expected);
-}
-
-/// The triangle of document 01 with two views, fresh.
-fn known_run(costs: [Vec<u32>; 2]) -> Run {
-    let map = map_of(3, &[[0, 1], [1, 2], [0, 2]], &costs);
-    Run::fresh(&mut Random::new(7), &map).expect("a fresh network")
-}
-
-fn triangle() -> Run {
-    known_run([vec![1, 1, 3], vec![0, 1, 3]])
 }
 
 #[test]
@@ -315,10 +307,7 @@ fn the_first_refusal_counts() {
 #[test]
 fn numbers_end_at_65535() {
     let mut run = triangle();
-    for lent in [&mut run.expected, &mut run.found] {
-        lent.bench.numbers_mut()[NUMBER + 1] = 65_534;
-    }
-    run.model.network = network_in(&run.expected);
+    run.renumber(|lent| lent.bench.numbers_mut()[NUMBER + 1] = 65_534);
     run.make(Call::Update(1, 1));
     assert_eq!(run.found.bench.numbers()[NUMBER + 1], 65_535);
     run.make(Call::Update(1, 1));
@@ -339,7 +328,7 @@ fn numbers_end_at_65535() {
 #[test]
 fn the_comparison_notices_damage() {
     let run = triangle();
-    for which in 0..7 {
+    for which in 0..6 {
         for place in 0..run.found.buffers()[which].1.numbers().len() {
             let mut damaged = run.found.clone();
             damaged.buffer_mut(which).numbers_mut()[place] ^= 1;

@@ -5,9 +5,10 @@ use bench_tests::count::Met;
 use bench_tests::model::Call;
 use bench_tests::network_call::{Lent, MESSAGES};
 use bench_tests::network_entry::{is_turned_down, needed};
+use bench_tests::network_event::name;
 use bench_tests::network_numbers::{compare, is_question};
 use bench_tests::network_random::{damage, map_of, random_call, random_map, widened};
-use bench_tests::network_run::{name, Run};
+use bench_tests::network_run::Run;
 use bench_tests::random::Random;
 use bench_tests::view::NONE;
 use reference::map::Map;
@@ -16,7 +17,7 @@ const LISTS: u64 = 400;
 const CALLS: usize = 250;
 
 /// The place of the messages in `Lent::buffers`.
-const MESSAGES_AT: usize = 5;
+const MESSAGES_AT: usize = 4;
 
 /// One network twice, for the calls over numbers and for those over structs.
 struct Both {

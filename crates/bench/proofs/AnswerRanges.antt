@@ -62,7 +62,7 @@ module _ (s : State) where
       let way : Way = onward (hopIn s d) d (bridges - 1) 0 y in
       let none : k ≡ 0 = sym (reply-is (λ o. o .number) k refusedBy (says way) (λ j. refl) (λ z. refl)) ∙ ap (λ (o : Said Way). o .number) e in
       let pass = refusal-none (stateInRange s) (network s) (calls.path y d) none in
-      let ready : Ready (s .bench) (s .costs) (s .tables) = network-told _ _ _ _ _ (pass .0) in
+      let ready : Ready (s .bench) (s .costs) = network-told _ _ _ _ (pass .0) in
       let start : y < bridges = bridge-listed (network s) y _ (pass .1) in
       subst (PathTold bridges) (said-same way w (rw none at e))
       (record {
@@ -77,5 +77,5 @@ module _ (s : State) where
       let ok : Bool = stateInRange s && leb 32 (length rows) in
       let k : ℕ = refusalOf ok (network s) (calls.report d) in
       let none : k ≡ 0 = sym (reply-is (λ o. o .reply) k (λ j. report j rows) (report 0 (reported s d (s .bench .bridges) rows)) (λ j. refl) (λ z. refl)) ∙ e in
-      let ready = network-told _ (s .costs) (s .tables) _ _ (both-true (stateInRange s) _ (refusal-none ok (network s) (calls.report d) none .0) .0) in
+      let ready = network-told _ (s .costs) _ _ (both-true (stateInRange s) _ (refusal-none ok (network s) (calls.report d) none .0) .0) in
       ready .fewBridges

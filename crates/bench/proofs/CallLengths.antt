@@ -1,4 +1,4 @@
--- What no call changes, for every state: the counts of bridges, links and views, and the lengths of what is lent. Assumes nothing.
+-- What no call changes, for every state: the graph, the count of views, and the lengths of what is lent. Assumes nothing.
 use Prim.Native.Nat.{ℕ, zero, suc, _*_}
 use mathlib.Core.Path.{_≡_, refl, _∙_}
 use mathlib.Core.Bool.{Bool, true, false, cond, _&&_}
@@ -26,6 +26,7 @@ use Rattle.bench.proofs.TieFlights.{taken-length}
 pub record Kept (s after : State) : Type 0 where
   pub bridges : after .bench .bridges ≡ s .bench .bridges
   pub links : after .bench .links ≡ s .bench .links
+  pub ends : after .bench .ends ≡ s .bench .ends
   pub views : after .bench .views ≡ s .bench .views
   pub sent : length (after .sent) ≡ length (s .sent)
   pub held : length (after .held) ≡ length (s .held)
@@ -77,7 +78,7 @@ ends-long v views y t (suc e) x =
 
 module _ (s : State) where
   same : Kept s s
-  same = record { bridges = refl; links = refl; views = refl; sent = refl; held = refl; messages = refl }
+  same = record { bridges = refl; links = refl; ends = refl; views = refl; sent = refl; held = refl; messages = refl }
 
   -- refused or not
   either : {A : Type 0} (after : A → State) (k : ℕ) (refused : ℕ → A) (done : A) → Kept s (after (refused k)) → Kept s (after done) → Kept s (after (orRefused k refused done))
@@ -94,12 +95,12 @@ module _ (s : State) where
   flown-kept : (k count : ℕ) (m : List ℕ) → length m ≡ length (s .messages) → Kept s (withFlown s (orRefused k (λ j. flown j (s .bench) (s .messages)) (flown 0 (withCount (s .bench) count) m)))
   flown-kept k count m long =
       either (withFlown s) k (λ j. flown j (s .bench) (s .messages)) (flown 0 (withCount (s .bench) count) m) same
-      (record { bridges = refl; links = refl; views = refl; sent = refl; held = refl; messages = long })
+      (record { bridges = refl; links = refl; ends = refl; views = refl; sent = refl; held = refl; messages = long })
 
   cut-kept : (k l : ℕ) (so : Bool) → Kept s (withChanged s (orRefused k (λ j. changed j (s .bench)) (changed 0 (benchWithCut (s .bench) l so))))
   cut-kept k l so =
       either (withChanged s) k (λ j. changed j (s .bench)) (changed 0 (benchWithCut (s .bench) l so)) same
-      (record { bridges = refl; links = refl; views = refl; sent = refl; held = refl; messages = refl })
+      (record { bridges = refl; links = refl; ends = refl; views = refl; sent = refl; held = refl; messages = refl })
 
   update-kept : (y t : ℕ) → Kept s (stepBy s (change (update y t)))
   unfolding stepBy updateOf
@@ -113,11 +114,11 @@ module _ (s : State) where
           (withRewritten s
           (cond b (rewritten 0 (s .bench) (s .sent) (s .held))
           (movedBench (s .bench) y t
-          (movedEnds (lentView (s .bench) (s .costs) (s .tables) t) (s .bench .views) y t (2 * s .bench .links) (ends (s .bench .records) (s .sent) (s .held))))))
+          (movedEnds (lentView (s .bench) (s .costs) t) (s .bench .views) y t (2 * s .bench .links) (ends (s .bench .records) (s .sent) (s .held))))))
       go true = same
       go false =
-          let long = ends-long (lentView (s .bench) (s .costs) (s .tables) t) (s .bench .views) y t (2 * s .bench .links) (ends (s .bench .records) (s .sent) (s .held)) in
-          record { bridges = refl; links = refl; views = refl; sent = long .0; held = long .1; messages = refl }
+          let long = ends-long (lentView (s .bench) (s .costs) t) (s .bench .views) y t (2 * s .bench .links) (ends (s .bench .records) (s .sent) (s .held)) in
+          record { bridges = refl; links = refl; ends = refl; views = refl; sent = long .0; held = long .1; messages = refl }
 
   received-long : (p : ℕ) → let o = received s p in SameLong (o .sent) (o .held) (s .sent) (s .held)
   unfolding receivedAt
@@ -128,14 +129,14 @@ module _ (s : State) where
   repeat-kept p =
       let long = received-long p in
       either (withDelivered s) (refusalOf (deliveryReady s) (network s) (repeat p)) (deliveryRefused s) (received s p) same
-      (record { bridges = refl; links = refl; views = refl; sent = long .0; held = long .1; messages = refl })
+      (record { bridges = refl; links = refl; ends = refl; views = refl; sent = long .0; held = long .1; messages = refl })
 
   deliver-kept : (p : ℕ) → Kept s (stepBy s (deliver p))
   unfolding stepBy deliverOf receivedAt
   deliver-kept p =
       let long = received-long p in
       either (withDelivered s) (refusalOf (deliveryReady s) (network s) (deliver p)) (deliveryRefused s) _ same
-      (record { bridges = refl; links = refl; views = refl; sent = long .0; held = long .1; messages = taken-length (s .bench .messages) p (s .messages) })
+      (record { bridges = refl; links = refl; ends = refl; views = refl; sent = long .0; held = long .1; messages = taken-length (s .bench .messages) p (s .messages) })
 
   pub step-kept : (c : Call) → Kept s (stepBy s c)
   unfolding stepBy cutOf restoreOf sendOf loseOf

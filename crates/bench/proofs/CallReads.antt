@@ -10,7 +10,7 @@ use Rattle.bench.specs.Answers.{portIn, reportedRow, reported, reportOf,
 module _ (s : State) (m : List ℕ) where
   -- with other messages
   abbrev other : State
-  other = state (s .bench) (s .costs) (s .tables) (s .sent) (s .held) m
+  other = state (s .bench) (s .costs) (s .sent) (s .held) m
 
   pub update-reads : (y t : ℕ) → updateOf other y t ≡ updateOf s y t
   unfolding updateOf refusalOf checks changeChecks noSuchBridge noSuchView noNumberLeft

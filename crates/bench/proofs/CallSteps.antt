@@ -12,19 +12,19 @@ use Rattle.bench.specs.declared.Bench.{Bench}
 
 -- the state with what a call on the bench alone has made of it
 abbrev pub withChanged : State → Changed → State
-withChanged s o = state (o .bench) (s .costs) (s .tables) (s .sent) (s .held) (s .messages)
+withChanged s o = state (o .bench) (s .costs) (s .sent) (s .held) (s .messages)
 
 -- with what an update has made of it
 abbrev pub withRewritten : State → Rewritten → State
-withRewritten s o = state (o .bench) (s .costs) (s .tables) (o .sent) (o .held) (s .messages)
+withRewritten s o = state (o .bench) (s .costs) (o .sent) (o .held) (s .messages)
 
 -- with what a call on the messages alone has made of it
 abbrev pub withFlown : State → Flown → State
-withFlown s o = state (o .bench) (s .costs) (s .tables) (s .sent) (s .held) (o .messages)
+withFlown s o = state (o .bench) (s .costs) (s .sent) (s .held) (o .messages)
 
 -- and with what a delivery has made of it
 abbrev pub withDelivered : State → Delivered → State
-withDelivered s o = state (o .bench) (s .costs) (s .tables) (o .sent) (o .held) (o .messages)
+withDelivered s o = state (o .bench) (s .costs) (o .sent) (o .held) (o .messages)
 
 module _ (s : State) where
   pub update-step : (y t : ℕ) → stepBy s (change (update y t)) ≡ withRewritten s (updateOf s y t)
@@ -63,19 +63,19 @@ module _ (s : State) where
   unfolding stepBy
   path-step y d = refl
 
-  -- no call changes the costs or the views' distances
-  pub step-lasting : (c : Call) → (stepBy s c .costs ≡ s .costs) × (stepBy s c .tables ≡ s .tables)
+  -- no call changes the costs
+  pub step-lasting : (c : Call) → stepBy s c .costs ≡ s .costs
   unfolding stepBy
-  step-lasting (change (update y t)) = (refl, refl)
-  step-lasting (change (cut l)) = (refl, refl)
-  step-lasting (change (restore l)) = (refl, refl)
-  step-lasting (send y l) = (refl, refl)
-  step-lasting (deliver p) = (refl, refl)
-  step-lasting (repeat p) = (refl, refl)
-  step-lasting (lose p) = (refl, refl)
-  step-lasting (port y d) = (refl, refl)
-  step-lasting (report d) = (refl, refl)
-  step-lasting (path y d) = (refl, refl)
+  step-lasting (change (update y t)) = refl
+  step-lasting (change (cut l)) = refl
+  step-lasting (change (restore l)) = refl
+  step-lasting (send y l) = refl
+  step-lasting (deliver p) = refl
+  step-lasting (repeat p) = refl
+  step-lasting (lose p) = refl
+  step-lasting (port y d) = refl
+  step-lasting (report d) = refl
+  step-lasting (path y d) = refl
 
   pub run-none : runBy s [] ≡ s
   unfolding runBy
@@ -86,8 +86,8 @@ module _ (s : State) where
   run-next c cs = refl
 
 pub fresh-leaves :
-    (b : Bench) (costs tables sent held messages : List ℕ) →
-    let o = freshOf b costs tables sent held in
-    freshBy b costs tables sent held messages ≡ state (o .bench) costs (o .tables) (o .sent) (o .held) messages
+    (b : Bench) (costs sent held messages : List ℕ) →
+    let o = freshOf b costs sent held in
+    freshBy b costs sent held messages ≡ state (o .bench) costs (o .sent) (o .held) messages
 unfolding freshBy
-fresh-leaves b costs tables sent held messages = refl
+fresh-leaves b costs sent held messages = refl

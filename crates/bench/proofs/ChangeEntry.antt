@@ -4,32 +4,27 @@ use native.Mathlib.Omega.{arith}
 use mathlib.Core.Path.{_≡_, refl, sym, _∙_}
 use mathlib.Core.Bool.{true, _&&_, false≢true}
 use mathlib.Core.List.{List, []}
-use borrow.Author.Tests.{leb-true, eq-eqb, ne-eqb}
-use lib.ListN.{length}
-use lib.Dec.{leb}
+use borrow.Author.Tests.{eq-eqb, ne-eqb}
 use Rattle.distances.proofs.Booleans.{both-true}
 use Rattle.bench.specs.Net.{Network}
 use Rattle.bench.specs.Calls.{change, update, noSuchBridge, noSuchView, noNumberLeft, changeChecks, checks, refuse, accepted}
 use Rattle.bench.specs.State.{State, network, networkOf}
-use Rattle.bench.specs.Ranges.{graphInRange, benchInRange, costsInRange, tablesLong, networkInRange}
+use Rattle.bench.specs.Ranges.{graphInRange, benchInRange, costsInRange, limitsLong, networkInRange}
 use Rattle.bench.specs.declared.Bench.{Bench}
 use Rattle.bench.proofs.Accepted.{UpdateListed, update-listed}
 use Rattle.bench.proofs.TieRanges.{LastingOf, lasting-told}
 
-module _ (b : Bench) (costs tables : List ℕ) (sent held : ℕ) where
+module _ (b : Bench) (costs : List ℕ) (sent held : ℕ) where
   -- what no call changes, told by the parts of an entry check
-  rows-lasting : graphInRange b ≡ true → (costsInRange b costs && tablesLong (length tables) sent held) ≡ true → LastingOf b costs tables
-  unfolding tablesLong
-  rows-lasting graph ok =
-      let rows = both-true (costsInRange b costs) _ ok in
-      lasting-told b costs tables graph (rows .0) (leb-true _ _ (both-true (leb 8192 (length tables)) _ (rows .1) .0))
+  rows-lasting : graphInRange b ≡ true → (costsInRange b costs && limitsLong sent held) ≡ true → LastingOf b costs
+  rows-lasting graph ok = lasting-told b costs graph (both-true (costsInRange b costs) _ ok .0)
 
   -- what `fresh` checks
-  pub plan-lasting : (graphInRange b && (costsInRange b costs && tablesLong (length tables) sent held)) ≡ true → LastingOf b costs tables
+  pub plan-lasting : (graphInRange b && (costsInRange b costs && limitsLong sent held)) ≡ true → LastingOf b costs
   plan-lasting ok = let g = both-true (graphInRange b) _ ok in rows-lasting (g .0) (g .1)
 
   -- what most calls check
-  pub network-lasting : networkInRange b costs (length tables) sent held ≡ true → LastingOf b costs tables
+  pub network-lasting : networkInRange b costs sent held ≡ true → LastingOf b costs
   unfolding networkInRange benchInRange
   network-lasting ok = let n = both-true (benchInRange b) _ ok in rows-lasting (both-true (graphInRange b) _ (n .0) .0) (n .1)
 

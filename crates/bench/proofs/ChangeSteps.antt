@@ -8,7 +8,7 @@ use Rattle.agreement.specs.Call.{Lent, outcome, freshOutcome}
 use Rattle.agreement.specs.Record.{freshRecord}
 use Rattle.agreement.specs.declared.EndRecord.{EndRecord}
 use Rattle.agreement.proofs.Basics.{getD-default}
-use Rattle.bench.specs.Changes.{Ends, ends, ended, movedEnd, movedEnds, Limits, limits, startedEnds, filledView, filledTables}
+use Rattle.bench.specs.Changes.{Ends, ends, ended, movedEnd, movedEnds, Limits, limits, startedEnds}
 
 -- a record is read with the array's own default
 pub moved-more :
@@ -28,14 +28,6 @@ pub started-more :
     limits sent' held' ≡ startedEnds v (e + 1) start
 unfolding startedEnds
 started-more v e start i m = rw (add-one, ← i, ← m)
-
-pub filled-more :
-    (bridges links : ℕ) (places costs : List ℕ) (t : ℕ) (start : List ℕ) {tables next : List ℕ} →
-    tables ≡ filledTables bridges links places costs t start →
-    next ≡ filledView bridges links places costs t tables →
-    next ≡ filledTables bridges links places costs (t + 1) start
-unfolding filledTables
-filled-more bridges links places costs t start i m = m ∙ rw (add-one, i)
 
 -- an array of structs in a struct is as long as its type says
 pub length-mapped : (X Y : Type 0) (f : X → Y) (l : List X) (n : ℕ) → length (map f l) ≡ n → length l ≡ n

@@ -29,49 +29,48 @@ use Rattle.agreement.proofs.InRange.{records-pass, port-passes}
 use Rattle.agreement.proofs.Outcomes.{next-accepted, choice-accepted, port-accepted}
 use Rattle.agreement.proofs.ChoiceLaws.{choice-none, choice-here, choice-away, choice-distance, choice-link, choice-is-port}
 use Rattle.bench.specs.State.{State, network, lentView, part}
-use Rattle.bench.specs.Ranges.{graphInRange, benchInRange, costsInRange, tablesLong, networkInRange}
+use Rattle.bench.specs.Ranges.{graphInRange, benchInRange, costsInRange, limitsLong, networkInRange}
 use Rattle.bench.specs.Changes.{stateInRange}
 use Rattle.bench.specs.Answers.{found, portIn, linkNumber, reportedRow}
-use Rattle.bench.specs.Steps.{PortsReady, choiceIn, AreChoices}
+use Rattle.bench.specs.Steps.{PortsReady, IsFilled, choiceIn, AreChoices}
 use Rattle.bench.specs.declared.Bench.{Bench}
 use Rattle.bench.proofs.TieRanges.{LastingOf, lasting-told, lent-in-range, plan-in-range, part-at, getD-stored}
-use Rattle.bench.proofs.FlightRanges.{bench-told, network-bench, network-costs, network-tables, network-told}
+use Rattle.bench.proofs.FlightRanges.{bench-told, network-bench, network-costs, network-told}
 use Rattle.bench.proofs.FlightCalls.{said-same}
 use Rattle.bench.proofs.WalkSteps.{own-cell}
 
 -- ---- what the entry check tells
 
-module _ (b : Bench) (costs tables : List ℕ) (sent held : ℕ) (ok : networkInRange b costs (length tables) sent held ≡ true) where
-  lasting : LastingOf b costs tables
+module _ (b : Bench) (costs : List ℕ) (sent held : ℕ) (ok : networkInRange b costs sent held ≡ true) where
+  lasting : LastingOf b costs
   unfolding benchInRange
   lasting =
-      lasting-told b costs tables (both-true (graphInRange b) _ (network-bench b costs (length tables) sent held ok) .0)
-      (network-costs b costs (length tables) sent held ok) (network-tables b costs (length tables) sent held ok)
+      lasting-told b costs (both-true (graphInRange b) _ (network-bench b costs sent held ok) .0)
+      (network-costs b costs sent held ok)
 
   limits : (1024 ≤ sent) × (1024 ≤ held)
-  unfolding networkInRange tablesLong
+  unfolding networkInRange limitsLong
   limits =
-      let tables-ok = both-true (costsInRange b costs) _ (both-true (benchInRange b) _ ok .1) .1 in
-      let h = both-true (leb 1024 sent) _ (both-true (leb 8192 (length tables)) _ tables-ok .1) in
+      let h = both-true (leb 1024 sent) _ (both-true (costsInRange b costs) _ (both-true (benchInRange b) _ ok .1) .1) in
       (leb-true 1024 sent (h .0), leb-true 1024 held (h .1))
 
 pub ports-told :
-    (b : Bench) (costs tables sent held : List ℕ) →
-    networkInRange b costs (length tables) (length sent) (length held) ≡ true →
-    PortsReady b costs tables sent held
-ports-told b costs tables sent held ok =
-    let lasts = lasting b costs tables (length sent) (length held) ok in
-    let long = limits b costs tables (length sent) (length held) ok in
+    (b : Bench) (costs sent held : List ℕ) →
+    networkInRange b costs (length sent) (length held) ≡ true →
+    PortsReady b costs sent held
+ports-told b costs sent held ok =
+    let lasts = lasting b costs (length sent) (length held) ok in
+    let long = limits b costs (length sent) (length held) ok in
     record {
       inRange = ok;
-      ready = network-told b costs tables (length sent) (length held) ok;
+      ready = network-told b costs (length sent) (length held) ok;
       sentLong = long .0;
       heldLong = long .1;
-      costsMost = λ t l ht hl. plan-in-range b costs tables lasts .costs t ht .most l hl;
+      costsMost = λ t l ht hl. plan-in-range b costs lasts .costs t ht .most l hl;
     }
 
 -- the view of a bridge, and the bridge at the other end o of a link
-module _ {b : Bench} {costs tables sent held : List ℕ} (told : PortsReady b costs tables sent held) where
+module _ {b : Bench} {costs sent held : List ℕ} (told : PortsReady b costs sent held) where
   pub view-low : (y : ℕ) → y < b .bridges → getD (b .view) y 0 < 32
   view-low y h = omega (arith, told .ready .fewViews, told .ready .areViews y h)
 
@@ -109,17 +108,17 @@ port-said c (Forwarding.Found p) low e = said-same p (portBy c) (e ∙ choice-ac
 
 module _ (s : State) (ok : stateInRange s ≡ true) (y d : ℕ) (hy : y < s .bench .bridges) (hd : d < s .bench .bridges) where
   abbrev pub lentTo : Lent
-  lentTo = lentView (s .bench) (s .costs) (s .tables) (getD (s .bench .view) y 0)
+  lentTo = lentView (s .bench) (s .costs) (getD (s .bench .view) y 0)
 
   pub port-in : portIn s y d ≡ port (lentGraph lentTo) (costsOf (lentTo .costs)) (cell (lentTo .table)) (network s .records) y d
   unfolding portIn found
   port-in =
       let b : Bench = s .bench in
-      let told = bench-told b (network-bench b (s .costs) (length (s .tables)) (length (s .sent)) (length (s .held)) ok) in
-      let long = limits b (s .costs) (s .tables) (length (s .sent)) (length (s .held)) ok in
-      let lasts = lasting b (s .costs) (s .tables) (length (s .sent)) (length (s .held)) ok in
+      let told = bench-told b (network-bench b (s .costs) (length (s .sent)) (length (s .held)) ok) in
+      let long = limits b (s .costs) (length (s .sent)) (length (s .held)) ok in
+      let lasts = lasting b (s .costs) (length (s .sent)) (length (s .held)) ok in
       let passes =
-      port-passes _ _ _ _ _ _ _ (lent-in-range b (s .costs) (s .tables) lasts _ (told .view y hy)) (long .0) (long .1) (b .views) (b .records) y d
+      port-passes _ _ _ _ _ _ _ (lent-in-range b (s .costs) lasts _ (told .view y hy)) (long .0) (long .1) (b .views) (b .records) y d
       (told .least) (told .counted .views) (records-pass _ (b .links) (b .records) (told .counted .links) (told .records)) hy hd in
       rw (port-accepted lentTo (b .views) (b .cut) (b .records) (s .sent) (s .held) y d passes)
 
@@ -130,13 +129,20 @@ module _ (s : State) (d y : ℕ) where
   ownView = getD (s .bench .view) y 0
 
   -- no end yet; `own` is the bridge's distance
-  pub choice-first : (own : ℕ) → y < 16 → d < 16 → own ≡ getD (s .tables) (256 * ownView + 16 * y + d) 0 → firstChoice own (eqb y d) ≡ choiceIn s d y 0
+  pub choice-first :
+      (tables : List ℕ) (own : ℕ) →
+      IsFilled (s .bench) (s .costs) tables ownView →
+      y < 16 →
+      d < 16 →
+      own ≡ getD tables (256 * ownView + 16 * y + d) 0 →
+      firstChoice own (eqb y d) ≡ choiceIn s d y 0
   unfolding choiceIn
-  choice-first own hy hd is = choice-none _ _ _ _ _ _ (is ∙ own-cell ownView y d (s .tables) hy hd)
+  choice-first tables own filled hy hd is = choice-none _ _ _ _ _ _ (is ∙ rw filled at (own-cell ownView y d tables hy hd))
 
   -- an end at the bridge, by the numbers that stand in the buffers; o is the other end of its link
   pub choice-more :
-      (e o : ℕ) (none : EndRecord) {old next : Choice} →
+      (tables : List ℕ) (e o : ℕ) (none : EndRecord) {old next : Choice} →
+      IsFilled (s .bench) (s .costs) tables ownView →
       e < 64 →
       e < length (s .bench .records) →
       d < 16 →
@@ -146,16 +152,16 @@ module _ (s : State) (d y : ℕ) where
       old ≡ choiceIn s d y e →
       next
       ≡ nextChoice old (e / 2) (getD (s .costs) (32 * ownView + e / 2) 0)
-      (getD (s .tables) (256 * ownView + 16 * getD (s .bench .ends) o 0 + d) 0) (getD (s .bench .cut) (e / 2) false)
+      (getD tables (256 * ownView + 16 * getD (s .bench .ends) o 0 + d) 0) (getD (s .bench .cut) (e / 2) false)
       (getD (s .bench .records) e none .holding) (getD (s .sent) (16 * e + d) 0) (getD (s .held) (16 * e + d) 0) →
       next ≡ choiceIn s d y (e + 1)
   unfolding choiceIn
-  choice-more e o none few listed hd far at other so is =
+  choice-more tables e o none filled few listed hd far at other so is =
       choice-here _ _ _ _ _ _ e so at
       (record {
         isLink = refl;
         isCost = sym (part-at 32 ownView (s .costs) (e / 2) (omega arith));
-        isFar = own-cell ownView (getD (s .bench .ends) o 0) d (s .tables) far hd ∙ rw other;
+        isFar = rw filled at (own-cell ownView (getD (s .bench .ends) o 0) d tables far hd) ∙ rw other;
         isCut = refl;
         isHolding = ap (λ (x : EndRecord). x .holding) (getD-default (s .bench .records) e none freshRecord listed);
         isSent = sym (cell-is (s .sent) e d);
@@ -169,7 +175,7 @@ module _ (s : State) (d y : ℕ) where
   choice-other e apart = choice-away _ _ _ _ _ _ e apart
 
   -- the choice so far has the bridge's distance and one of the links
-  pub choice-own : (e : ℕ) → choiceIn s d y e .distance ≡ cell (part 256 ownView (s .tables)) y d
+  pub choice-own : (e : ℕ) → choiceIn s d y e .distance ≡ cell (lentView (s .bench) (s .costs) ownView .table) y d
   unfolding choiceIn
   choice-own e = choice-distance _ _ _ _ _ _ e
 

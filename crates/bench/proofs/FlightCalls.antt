@@ -111,7 +111,7 @@ said-same {A} x y e = ap (λ (r : Said A). getD (r .value) 0 x) e
 
 -- what an accepted delivery is handed
 pub record DeliveryTold (s : State) (p : ℕ) : Type 0 where
-  pub ready : Ready (s .bench) (s .costs) (s .tables)
+  pub ready : Ready (s .bench) (s .costs)
   pub listed : p < s .bench .messages
   pub count : s .bench .messages ≤ 64
   pub long : 320 ≤ length (s .messages)
@@ -146,9 +146,9 @@ module _ (s : State) (p k : ℕ) (same : k ≡ refusalOf (deliveryReady s) (netw
         let messages = messages-told (s .bench) (s .messages) (ok .1) in
         let low : p < s .bench .messages = rw messages-length at (place-listed n p _ (h .1)) in
         record {
-          ready = network-told (s .bench) (s .costs) (s .tables) _ _ (ok .0);
+          ready = network-told (s .bench) (s .costs) _ _ (ok .0);
           listed = low;
-          count = bench-told (s .bench) (network-bench _ _ _ _ _ (ok .0)) .messages;
+          count = bench-told (s .bench) (network-bench _ _ _ _ (ok .0)) .messages;
           long = messages .long;
           message = messages .each p low;
         }

@@ -12,7 +12,7 @@ use Rattle.distances.proofs.Ranges.{allBelow-true}
 use Rattle.agreement.specs.Record.{freshRecord}
 use Rattle.agreement.specs.Ranges.{isView, recordInRange}
 use Rattle.agreement.proofs.InRange.{view-passes, records-told}
-use Rattle.bench.specs.Ranges.{graphInRange, benchInRange, costsInRange, tablesLong, messageInRange, messagesInRange, networkInRange}
+use Rattle.bench.specs.Ranges.{graphInRange, benchInRange, costsInRange, messageInRange, messagesInRange, networkInRange}
 use Rattle.bench.specs.Steps.{Ready}
 use Rattle.bench.specs.declared.Bench.{Bench}
 use Rattle.bench.proofs.EntryChecks.{Counted, bench-counted}
@@ -57,7 +57,7 @@ messages-told b m ok =
     record { long = leb-true _ _ (h .0); each = allBelow-true _ _ (h .1) }
 
 -- what most calls are handed, in range
-module _ (b : Bench) (costs : List ℕ) (tables sent held : ℕ) (ok : networkInRange b costs tables sent held ≡ true) where
+module _ (b : Bench) (costs : List ℕ) (sent held : ℕ) (ok : networkInRange b costs sent held ≡ true) where
   pub network-bench : benchInRange b ≡ true
   unfolding networkInRange
   network-bench = both-true (benchInRange b) _ ok .0
@@ -66,28 +66,22 @@ module _ (b : Bench) (costs : List ℕ) (tables sent held : ℕ) (ok : networkIn
   unfolding networkInRange
   network-costs = both-true (costsInRange b costs) _ (both-true (benchInRange b) _ ok .1) .0
 
-  pub network-tables : 8192 ≤ tables
-  unfolding networkInRange tablesLong
-  network-tables =
-      leb-true _ _ (both-true (leb 8192 tables) _ (both-true (costsInRange b costs) _ (both-true (benchInRange b) _ ok .1) .1) .0)
-
 -- it is ready for the private functions
 pub network-told :
-    (b : Bench) (costs tables : List ℕ) (sent held : ℕ) → networkInRange b costs (length tables) sent held ≡ true → Ready b costs tables
+    (b : Bench) (costs : List ℕ) (sent held : ℕ) → networkInRange b costs sent held ≡ true → Ready b costs
 unfolding benchInRange
-network-told b costs tables sent held ok =
-    let bench = network-bench b costs (length tables) sent held ok in
+network-told b costs sent held ok =
+    let bench = network-bench b costs sent held ok in
     let told = bench-told b bench in
-    let lasting : LastingOf b costs tables =
-    lasting-told b costs tables (both-true (graphInRange b) _ bench .0) (network-costs b costs (length tables) sent held ok) (network-tables b costs (length tables) sent held ok) in
+    let lasting : LastingOf b costs =
+    lasting-told b costs (both-true (graphInRange b) _ bench .0) (network-costs b costs sent held ok) in
     record {
       fewBridges = told .counted .bridges;
       fewLinks = told .counted .links;
       fewViews = told .counted .views;
-      areBridges = are-bridges b costs tables lasting;
+      areBridges = are-bridges b costs lasting;
       areViews = told .view;
       costsLong = lasting .costsLong;
-      tablesLong = lasting .tablesLong;
     }
 
 -- a bench and its messages, in range

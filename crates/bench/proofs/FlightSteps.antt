@@ -20,7 +20,7 @@ use Rattle.agreement.specs.declared.Answer.{Answer}
 use Rattle.agreement.specs.declared.EndRecord.{EndRecord}
 use Rattle.bench.specs.State.{state}
 use Rattle.bench.specs.Deliveries.{Delivered, delivered, withRecords, receivedAt}
-use Rattle.bench.specs.Steps.{Ready}
+use Rattle.bench.specs.Steps.{Ready, IsFilled}
 use Rattle.bench.specs.declared.Bench.{Bench}
 
 -- ---- a message's five numbers
@@ -74,7 +74,7 @@ pub record Placed (b : Bench) (e : ℕ) : Type 0 where
   pub bridge : getD (b .ends) e 0 < 16
   pub view : getD (b .view) (getD (b .ends) e 0) 0 < 32
 
-pub placed : {b : Bench} {costs tables : List ℕ} → Ready b costs tables → (e : ℕ) → e < 2 * b .links → Placed b e
+pub placed : {b : Bench} {costs : List ℕ} → Ready b costs → (e : ℕ) → e < 2 * b .links → Placed b e
 placed {b} ready e h =
     let low = ready .areBridges e h in
     record {
@@ -85,6 +85,7 @@ placed {b} ready e h =
 -- what layer 2 makes of the end, with the view's parts as they are lent
 pub received-end :
     (b : Bench) (costs tables sent held : List ℕ) (e t : ℕ) (m : Agreement) (old : EndRecord) →
+    IsFilled b costs tables (getD (b .view) (getD (b .ends) e 0) 0) →
     t ≡ getD (b .view) (getD (b .ends) e 0) 0 →
     old ≡ getD (b .records) e freshRecord →
     {reply said : Said Answer} {end : EndRecord} {sent′ held′ : List ℕ} →
@@ -100,19 +101,19 @@ pub received-end :
     m
     sent
     held →
-    delivered reply (withRecords b (set (b .records) e end)) sent′ held′ [] ≡ receivedAt (state b costs tables sent held []) e m
+    delivered reply (withRecords b (set (b .records) e end)) sent′ held′ [] ≡ receivedAt (state b costs sent held []) e m
 unfolding receivedAt
-received-end b costs tables sent held e t m old view same replied taken =
+received-end b costs tables sent held e t m old filled view same replied taken =
     let row : 32 * t + 32 - 32 * t ≡ 32 = omega arith in
     let block : 256 * t + 256 - 256 * t ≡ 256 = omega arith in
     rw replied
     (ap (λ (o : Outcome (Said Answer)). delivered (o .reply) (withRecords b (set (b .records) e (o .end))) (o .sent) (o .held) [])
-    (rw (row, block, view, same) at taken))
+    (rw (row, block, view, same, filled) at taken))
 
 -- the messages stand beside what layer 2 makes of the end
 pub received-beside :
-    (m : List ℕ) (b : Bench) (costs tables sent held : List ℕ) (e : ℕ) (a : Agreement) {reply : Said Answer} {b′ : Bench} {sent′ held′ : List ℕ} →
-    delivered reply b′ sent′ held′ [] ≡ receivedAt (state b costs tables sent held []) e a →
-    delivered reply b′ sent′ held′ m ≡ receivedAt (state b costs tables sent held m) e a
+    (m : List ℕ) (b : Bench) (costs sent held : List ℕ) (e : ℕ) (a : Agreement) {reply : Said Answer} {b′ : Bench} {sent′ held′ : List ℕ} →
+    delivered reply b′ sent′ held′ [] ≡ receivedAt (state b costs sent held []) e a →
+    delivered reply b′ sent′ held′ m ≡ receivedAt (state b costs sent held m) e a
 unfolding receivedAt
-received-beside m b costs tables sent held e a taken = ap (λ (d : Delivered). delivered (d .reply) (d .bench) (d .sent) (d .held) m) taken
+received-beside m b costs sent held e a taken = ap (λ (d : Delivered). delivered (d .reply) (d .bench) (d .sent) (d .held) m) taken

@@ -36,7 +36,8 @@ pub mod TieCuts
 pub mod TieMovedEnds
 pub mod TieMoved
 pub mod TieSteps
-pub mod TieFilled
+pub mod TieStarted
+pub mod TableSteps
 pub mod TieFresh
 pub mod TieWhole
 pub mod CallSteps

@@ -114,16 +114,16 @@ pub next-changes :
     IsChange e
 next-changes left bridges links views is at = subst Changes (sym is ∙ at) (read-changes (readReply left _))
 
-module _ (b : Bench) (costs tables sent held flight left : List ℕ) {next : Next} (is : next ≡ nextAt left (b .bridges) (b .links) (b .views)) where
+module _ (b : Bench) (costs sent held flight left : List ℕ) {next : Next} (is : next ≡ nextAt left (b .bridges) (b .links) (b .views)) where
   abbrev Full : State
-  Full = state b costs tables sent held flight
+  Full = state b costs sent held flight
 
   next-first : (n : Next) → next ≡ n → (way : List ℕ) → nextMade Full n way ≡ firstMade Full left way
   unfolding firstMade
   next-first n at way = ap (λ (x : Next). nextMade Full x way) (sym at ∙ is) ∙ read-made Full (readReply left (progressOf b)) way
 
   module _ (calls : ℕ) (ways : List ℕ) (ready : deliveryReady Full ≡ true) {after : Bench} {sent' held' flight' ways' : List ℕ} {t : ℕ} where
-    pub nothing-turn : next ≡ Next.Nothing → sent' ≡ sent → held' ≡ held → flight' ≡ flight → ways' ≡ ways → after ≡ b → t ≡ 0 → FirstCall Full left calls ways t (state after costs tables sent' held' flight') ways'
+    pub nothing-turn : next ≡ Next.Nothing → sent' ≡ sent → held' ≡ held → flight' ≡ flight → ways' ≡ ways → after ≡ b → t ≡ 0 → FirstCall Full left calls ways t (state after costs sent' held' flight') ways'
     nothing-turn at sents helds flights lent bench bytes =
         rw (sents, helds, flights, lent, bench, bytes)
         (record {
@@ -140,7 +140,7 @@ module _ (b : Bench) (costs tables sent held flight left : List ℕ) {next : Nex
         {y d size bytes : ℕ} {way : List ℕ} (answer : Way) (width : ℕ) →
         width ≡ 3 →
         next ≡ Next.Asks y d size →
-        waySays answer ≡ pathOf (state b costs tables sent held []) y d →
+        waySays answer ≡ pathOf (state b costs sent held []) y d →
         (bytes ≡ cond (eqb (waySays answer .number) 0) size 0) × (way ≡ sets (take width (drop (3 * calls) ways)) 0 (wayNumbers (waySays answer .value))) →
         sent' ≡ sent →
         held' ≡ held →
@@ -148,13 +148,13 @@ module _ (b : Bench) (costs tables sent held flight left : List ℕ) {next : Nex
         ways' ≡ take (3 * calls) ways ++ (way ++ drop width (drop (3 * calls) ways)) →
         after ≡ b →
         t ≡ bytes →
-        FirstCall Full left calls ways t (state after costs tables sent' held' flight') ways'
+        FirstCall Full left calls ways t (state after costs sent' held' flight') ways'
     asks-turn {y} {d} {size} {bytes} {way} answer width three at says numbers sents helds flights lent bench used =
         let set = rw three at (numbers .1) in
         rw (sents, helds, flights, lent, bench, used, three)
         (record {
           way = way;
-          first = path-made b costs tables sent held flight size (slot calls ways) y d (rw (← says) (numbers .0)) refl (rw (← says) set) ∙ next-first (Next.Asks y d size) at (slot calls ways);
+          first = path-made b costs sent held flight size (slot calls ways) y d (rw (← says) (numbers .0)) refl (rw (← says) set) ∙ next-first (Next.Asks y d size) at (slot calls ways);
           set = refl;
           ready = ready;
           sentLong = refl;
@@ -165,7 +165,7 @@ module _ (b : Bench) (costs tables sent held flight left : List ℕ) {next : Nex
     pub change-turn :
         {e : Event} {size bytes : ℕ} (k : ℕ) {b' : Bench} {sent'' held'' flight'' : List ℕ} →
         next ≡ Next.Changes e size →
-        Makes Full e k (state b' costs tables sent'' held'' flight'') →
+        Makes Full e k (state b' costs sent'' held'' flight'') →
         length sent'' ≡ length sent →
         length held'' ≡ length held →
         length flight'' ≡ length flight →
@@ -176,7 +176,7 @@ module _ (b : Bench) (costs tables sent held flight left : List ℕ) {next : Nex
         ways' ≡ ways →
         after ≡ b' →
         t ≡ bytes →
-        FirstCall Full left calls ways t (state after costs tables sent' held' flight') ways'
+        FirstCall Full left calls ways t (state after costs sent' held' flight') ways'
     change-turn {e} {size} k at makes sentLong heldLong flightLong taken sents helds flights lent bench used =
         rw (sents, helds, flights, lent, bench, used, taken)
         (record {

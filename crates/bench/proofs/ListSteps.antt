@@ -22,12 +22,14 @@ use Rattle.bench.specs.Changes.{Changed, Rewritten, refusalOf, stateInRa
 use Rattle.bench.specs.Flights.{Flown, sendOf, loseOf}
 use Rattle.bench.specs.Deliveries.{Delivered, refusedBy, deliverOf, repeatOf}
 use Rattle.bench.specs.Answers.{pathOf}
+use Rattle.bench.specs.Steps.{Makes}
 use Rattle.bench.specs.Whole.{stepBy}
 use Rattle.bench.specs.Lists.{callOf, isMade, wayNumbers, wayAfter, Made, made, eventMade, readMade, progressOf, firstMade}
 use Rattle.bench.specs.declared.Bench.{Bench}
 use Rattle.bench.proofs.CallKept.{update-kept, cut-kept, restore-kept, send-kept, lose-kept, deliver-kept, repeat-kept}
 use Rattle.bench.proofs.CallReads.{update-reads, path-reads}
 use Rattle.bench.proofs.CallSteps.{update-step, cut-step, restore-step, send-step, lose-step, deliver-step, repeat-step, path-step}
+use Rattle.bench.proofs.CallLengths.{step-kept}
 use Rattle.bench.proofs.EntrySettled.{reply-some}
 
 -- ---- an event, by the number k that its call answers with
@@ -51,13 +53,13 @@ module _ (s : State) (e : Event) (used : ℕ) (way : List ℕ) where
       go true is = rw (leaves, sets (eqb-true k 0 is))
       go false is = let h = kept (eqb-false k 0 is) in rw (h .1, sym leaves ∙ h .0)
 
-module _ (b : Bench) (costs tables sent held m : List ℕ) (used : ℕ) (way : List ℕ) where
+module _ (b : Bench) (costs sent held m : List ℕ) (used : ℕ) (way : List ℕ) where
   -- all that is lent, and what a call is lent that reads no messages
   abbrev Full : State
-  Full = state b costs tables sent held m
+  Full = state b costs sent held m
 
   abbrev Short : State
-  Short = state b costs tables sent held []
+  Short = state b costs sent held []
 
   -- a path that is refused has no value
   path-refused : (y d : ℕ) → (pathOf Full y d .number ≡ 0 → ⊥) → sets way 0 (wayNumbers (pathOf Full y d .value)) ≡ way
@@ -72,7 +74,7 @@ module _ (b : Bench) (costs tables sent held m : List ℕ) (used : ℕ) (way : L
         o ≡ updateOf Short y t →
         taken ≡ bytesOf (o .reply) used →
         after ≡ o .bench →
-        made taken (state after costs tables (o .sent) (o .held) m) way ≡ eventMade Full (Update y t) used way
+        made taken (state after costs (o .sent) (o .held) m) way ≡ eventMade Full (Update y t) used way
     unfolding isMade wayAfter
     update-made y t e bytes is =
         rw (bytes, is, e, update-reads Full [] y t)
@@ -83,7 +85,7 @@ module _ (b : Bench) (costs tables sent held m : List ℕ) (used : ℕ) (way : L
         o ≡ cutOf b l →
         taken ≡ bytesOf (o .reply) used →
         after ≡ o .bench →
-        made taken (state after costs tables sent held m) way ≡ eventMade Full (Cut l) used way
+        made taken (state after costs sent held m) way ≡ eventMade Full (Cut l) used way
     unfolding isMade wayAfter
     cut-made l e bytes is =
         rw (bytes, is, e)
@@ -94,7 +96,7 @@ module _ (b : Bench) (costs tables sent held m : List ℕ) (used : ℕ) (way : L
         o ≡ restoreOf b l →
         taken ≡ bytesOf (o .reply) used →
         after ≡ o .bench →
-        made taken (state after costs tables sent held m) way ≡ eventMade Full (Restore l) used way
+        made taken (state after costs sent held m) way ≡ eventMade Full (Restore l) used way
     unfolding isMade wayAfter
     restore-made l e bytes is =
         rw (bytes, is, e)
@@ -105,7 +107,7 @@ module _ (b : Bench) (costs tables sent held m : List ℕ) (used : ℕ) (way : L
         o ≡ sendOf b m y l →
         taken ≡ bytesOf (o .reply) used →
         after ≡ o .bench →
-        made taken (state after costs tables sent held (o .messages)) way ≡ eventMade Full (Send y l) used way
+        made taken (state after costs sent held (o .messages)) way ≡ eventMade Full (Send y l) used way
     unfolding isMade wayAfter
     send-made y l e bytes is =
         rw (bytes, is, e)
@@ -116,7 +118,7 @@ module _ (b : Bench) (costs tables sent held m : List ℕ) (used : ℕ) (way : L
         o ≡ loseOf b m p →
         taken ≡ bytesOf (o .reply) used →
         after ≡ o .bench →
-        made taken (state after costs tables sent held (o .messages)) way ≡ eventMade Full (Lose p) used way
+        made taken (state after costs sent held (o .messages)) way ≡ eventMade Full (Lose p) used way
     unfolding isMade wayAfter
     lose-made p e bytes is =
         rw (bytes, is, e)
@@ -127,7 +129,7 @@ module _ (b : Bench) (costs tables sent held m : List ℕ) (used : ℕ) (way : L
         o ≡ deliverOf Full p →
         taken ≡ bytesOf (o .reply .number) used →
         after ≡ o .bench →
-        made taken (state after costs tables (o .sent) (o .held) (o .messages)) way ≡ eventMade Full (Deliver p) used way
+        made taken (state after costs (o .sent) (o .held) (o .messages)) way ≡ eventMade Full (Deliver p) used way
     unfolding isMade wayAfter
     deliver-made p e bytes is =
         rw (bytes, is, e)
@@ -138,7 +140,7 @@ module _ (b : Bench) (costs tables sent held m : List ℕ) (used : ℕ) (way : L
         o ≡ repeatOf Full p →
         taken ≡ bytesOf (o .reply .number) used →
         after ≡ o .bench →
-        made taken (state after costs tables (o .sent) (o .held) (o .messages)) way ≡ eventMade Full (Repeat p) used way
+        made taken (state after costs (o .sent) (o .held) (o .messages)) way ≡ eventMade Full (Repeat p) used way
     unfolding isMade wayAfter
     repeat-made p e bytes is =
         rw (bytes, is, e)
@@ -149,7 +151,7 @@ module _ (b : Bench) (costs tables sent held m : List ℕ) (used : ℕ) (way : L
         taken ≡ bytesOf (pathOf Short y d .number) used →
         after ≡ b →
         set ≡ sets way 0 (wayNumbers (pathOf Short y d .value)) →
-        made taken (state after costs tables sent held m) set ≡ eventMade Full (Path y d) used way
+        made taken (state after costs sent held m) set ≡ eventMade Full (Path y d) used way
     unfolding isMade wayAfter
     path-made y d bytes is numbers =
         rw (bytes, is, numbers, path-reads Full [] y d)
@@ -201,3 +203,18 @@ module _ (s : State) (rest way : List ℕ) where
       go (Read.Field (Field.Link x y) used) is = none-told
       go (Read.Field Field.View used) is = none-told
       go (Read.Stop number) is = none-told
+
+-- a call that is made or not leaves the graph as it was
+pub made-graph :
+    (s : State) (e : Event) (k : ℕ) (after : State) →
+    Makes s e k after →
+    (s .bench .bridges ≡ after .bench .bridges) × (s .bench .links ≡ after .bench .links) × (s .bench .ends ≡ after .bench .ends)
+unfolding eventMade
+made-graph s e k after makes = rw (ap (λ (m : Made). m .state) (makes .0 0 [])) (go (isMade s e))
+  where
+    go :
+        (b : Bool) →
+        let z = cond b (made 0 (stepBy s (callOf e)) (wayAfter s e [])) (made 0 s []) .state in
+        (s .bench .bridges ≡ z .bench .bridges) × (s .bench .links ≡ z .bench .links) × (s .bench .ends ≡ z .bench .ends)
+    go true = let kept = step-kept s (callOf e) in (sym (kept .bridges), sym (kept .links), sym (kept .ends))
+    go false = (refl, refl, refl)

@@ -51,7 +51,7 @@ added-told links views count m x room each inside i low = go (ltb i count) refl
 
 -- the state with other messages in flight
 abbrev pub withFlight : State → ℕ → List ℕ → State
-withFlight s k m = state (withCount (s .bench) k) (s .costs) (s .tables) (s .sent) (s .held) m
+withFlight s k m = state (withCount (s .bench) k) (s .costs) (s .sent) (s .held) m
 
 module _ (s : State) (r : StateReady s) where
   flight-kept :
@@ -97,7 +97,7 @@ module _ (s : State) (r : StateReady s) where
 
   module _ (y t : ℕ) where
     abbrev pub lentOf : Lent
-    lentOf = lentView (s .bench) (s .costs) (s .tables) t
+    lentOf = lentView (s .bench) (s .costs) t
 
     abbrev pub endsOf : Ends
     endsOf = ends (s .bench .records) (s .sent) (s .held)
@@ -106,15 +106,15 @@ module _ (s : State) (r : StateReady s) where
     endsAfter = movedEnds lentOf (s .bench .views) y t (2 * s .bench .links) endsOf
 
     abbrev pub movedState : State
-    movedState = let o = movedBench (s .bench) y t endsAfter in state (o .bench) (s .costs) (s .tables) (o .sent) (o .held) (s .messages)
+    movedState = let o = movedBench (s .bench) y t endsAfter in state (o .bench) (s .costs) (o .sent) (o .held) (s .messages)
 
     module _ (room : length (s .bench .records) ≡ 64) (view : t < s .bench .views) where
       ends-ready : EndsReady lentOf (s .bench .views) y t endsOf
       ends-ready =
-          let counts = few (s .bench) _ _ (r .lasting) in
+          let counts = few (s .bench) _ (r .lasting) in
           record {
             few = counts .0;
-            view = lent-in-range (s .bench) _ _ (r .lasting) t view;
+            view = lent-in-range (s .bench) _ (r .lasting) t view;
             isView = view-passes _ t (r .lasting .viewsLeast) (r .lasting .viewsMost) view;
             records = r .records;
             links = counts .1;

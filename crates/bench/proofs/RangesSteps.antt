@@ -174,7 +174,7 @@ send-stays s y l ok = go (eqb (refusalOf (flightInRange (s .bench) (s .messages)
 
 -- what a send or a lose asks
 pub flight-of : (s : State) → deliveryReady s ≡ true → flightInRange (s .bench) (s .messages) ≡ true
-flight-of s ok = let h = both-true (stateInRange s) _ ok in true-both (network-bench _ _ _ _ _ (h .0)) (h .1)
+flight-of s ok = let h = both-true (stateInRange s) _ ok in true-both (network-bench _ _ _ _ (h .0)) (h .1)
 
 -- an event that changes, made or not
 pub event-stays :

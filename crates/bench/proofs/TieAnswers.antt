@@ -25,7 +25,7 @@ use Rattle.bench.specs.Whole.{Represents}
 use Rattle.distances.proofs.Refusals.{passed}
 use Rattle.bench.proofs.Links.{across-below}
 use Rattle.bench.proofs.Hops.{port-forwards, hop-crosses}
-use Rattle.bench.proofs.TieRanges.{StateReady, told, network-ready, few, plan-in-range, part-at}
+use Rattle.bench.proofs.TieRanges.{StateReady, told, network-ready, few, plan-in-range, part-at, lent-distances}
 use Rattle.bench.proofs.TieRefusals.{settled-same}
 use Rattle.bench.proofs.ChoiceSteps.{port-in}
 use Rattle.bench.proofs.TieChecks.{refusal-same}
@@ -55,10 +55,10 @@ module _ (s : State) (n : Network) (r : Represents s n) where
   inside = told s (r .inRange)
 
   small : (s .bench .bridges ≤ 16) × (s .bench .links ≤ 32) × (2 * s .bench .links ≤ length (s .bench .ends))
-  small = few (s .bench) (s .costs) (s .tables) (inside .lasting)
+  small = few (s .bench) (s .costs) (inside .lasting)
 
   graph-inside : InRange (network s .plan .graph)
-  graph-inside = plan-in-range (s .bench) (s .costs) (s .tables) (inside .lasting) .graph
+  graph-inside = plan-in-range (s .bench) (s .costs) (inside .lasting) .graph
 
   -- ---- port
 
@@ -76,7 +76,7 @@ module _ (s : State) (n : Network) (r : Represents s n) where
         ∙ rw (r .plan, r .view y hy)
         (port-cong (network s .plan .graph) _ _ _ _ _ _ graph-inside y d hy
         (record {
-          distances = λ i hi. rw (r .plan) at (r .distances viewOf i d is-view hi hd);
+          distances = λ i hi. lent-distances (s .bench) (s .costs) (inside .lasting) viewOf is-view i d hi hd;
           costs = λ l hl. part-at 32 viewOf (s .costs) l (omega (arith, small));
           cut = λ l hl. sym (r .cut l hl);
           ends = λ e he. sym (r .ends e he);

@@ -20,7 +20,7 @@ use Rattle.bench.proofs.EntrySettled.{reply-is}
 use Rattle.bench.proofs.TieChecks.{refusal-same}
 
 module _ (s : State) (n : Network) (r : Represents s n) where
-  kept-cut : (l : ℕ) (so : Bool) → l < s .bench .links → Represents (state (benchWithCut (s .bench) l so) (s .costs) (s .tables) (s .sent) (s .held) (s .messages)) (withCut n l so)
+  kept-cut : (l : ℕ) (so : Bool) → l < s .bench .links → Represents (state (benchWithCut (s .bench) l so) (s .costs) (s .sent) (s .held) (s .messages)) (withCut n l so)
   unfolding withCut networkInRange benchInRange graphInRange costsInRange messagesInRange
   kept-cut l so low =
       record {
@@ -36,10 +36,9 @@ module _ (s : State) (n : Network) (r : Represents s n) where
               discarded = r .typed .discarded;
             };
         plan = r .plan;
-        distances = r .distances;
         view = r .view;
         number = r .number;
-        cut = λ k h. rw (r .cut k h) (sym (getD-stored (s .bench .cut) l so k false (omega (arith, few (s .bench) _ _ (told s (r .inRange) .lasting), r .typed .cuts))));
+        cut = λ k h. rw (r .cut k h) (sym (getD-stored (s .bench .cut) l so k false (omega (arith, few (s .bench) _ (told s (r .inRange) .lasting), r .typed .cuts))));
         ends = r .ends;
         sent = r .sent;
         held = r .held;
@@ -61,7 +60,7 @@ module _ (s : State) (n : Network) (r : Represents s n) where
 
   -- the state with the bench that a cut or a restore leaves
   abbrev withBench : Changed → State
-  withBench o = state (o .bench) (s .costs) (s .tables) (s .sent) (s .held) (s .messages)
+  withBench o = state (o .bench) (s .costs) (s .sent) (s .held) (s .messages)
 
   pub cut-represents : (l : ℕ) → Represents (stepBy s (change (cut l))) (step n (change (cut l)))
   unfolding stepBy cutOf act changed checks changeChecks

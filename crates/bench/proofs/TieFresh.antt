@@ -7,114 +7,85 @@ use mathlib.Core.List.{List}
 use borrow.Author.Tests.{leb-true, le-leb}
 use lib.ListN.{length, getD, replicate, getD-replicate}
 use lib.Dec.{leb}
-use Rattle.distances.specs.View.{graphOf}
-use Rattle.distances.specs.Table.{cell}
 use Rattle.distances.proofs.Booleans.{both-true, true-both}
-use Rattle.distances.proofs.Laws.{dist-cong}
 use Rattle.agreement.specs.Record.{freshRecord}
 use Rattle.agreement.specs.Ranges.{recordInRange}
 use Rattle.agreement.specs.declared.EndRecord.{EndRecord}
 use Rattle.agreement.specs.Call.{lentOffer}
 use Rattle.agreement.proofs.InRange.{fresh-record-passes}
 use Rattle.bench.specs.Net.{fresh, distanceIn, offerIn}
-use Rattle.bench.specs.State.{State, state, part, lentView, messagesFrom}
-use Rattle.bench.specs.Ranges.{graphInRange, costsInRange, tablesLong}
-use Rattle.bench.specs.Changes.{filledTables, Limits, limits, startedEnds, freshBench, started, freshOf}
+use Rattle.bench.specs.State.{State, state, lentView, messagesFrom}
+use Rattle.bench.specs.Ranges.{graphInRange, costsInRange, limitsLong}
+use Rattle.bench.specs.Changes.{Limits, limits, startedEnds, freshBench, rewritten, freshOf}
 use Rattle.bench.specs.Whole.{Represents, Typed, freshBy, planIn}
 use Rattle.bench.specs.declared.Bench.{Bench}
 use Rattle.bench.proofs.TieRanges.{LastingOf, StateReady, lasting-told, graph-kept, costs-kept, few, cost-at, view-in-range, lent-in-range, lent-offer-in, ready}
-use Rattle.bench.proofs.TieFilled.{Filled, filled-all, Begun, begun-all}
+use Rattle.bench.proofs.TieStarted.{Begun, begun-all}
 
-module _ (b : Bench) (costs tables sent held : List ℕ) where
+module _ (b : Bench) (costs sent held : List ℕ) where
   abbrev freshReady : Bool
-  freshReady = graphInRange b && (costsInRange b costs && tablesLong (length tables) (length sent) (length held))
+  freshReady = graphInRange b && (costsInRange b costs && limitsLong (length sent) (length held))
 
-  -- the distances and the limits that it leaves
-  abbrev full : List ℕ
-  full = filledTables (b .bridges) (b .links) (b .ends) costs (b .views) tables
-
+  -- the limits that it leaves
   abbrev begun : Limits
-  begun = startedEnds (lentView b costs full 0) (2 * b .links) (limits sent held)
+  begun = startedEnds (lentView b costs 0) (2 * b .links) (limits sent held)
 
-  fresh-passes : freshOf b costs tables sent held .reply ≡ 0 → freshReady ≡ true
+  fresh-passes : freshOf b costs sent held .reply ≡ 0 → freshReady ≡ true
   unfolding freshOf
   fresh-passes = go freshReady refl
     where
-      go : (c : Bool) → freshReady ≡ c → cond c (started 0 (freshBench b) full (begun .sent) (begun .held)) (started 17 b tables sent held) .reply ≡ 0 → freshReady ≡ true
+      go : (c : Bool) → freshReady ≡ c → cond c (rewritten 0 (freshBench b) (begun .sent) (begun .held)) (rewritten 17 b sent held) .reply ≡ 0 → freshReady ≡ true
       go true q e = q
       go false q e = absurd (omega arith)
 
   -- what the entry check tells
   record FreshTold : Type 0 where
-    lasting : LastingOf b costs tables
+    lasting : LastingOf b costs
     sentLong : 1024 ≤ length sent
     heldLong : 1024 ≤ length held
 
   fresh-told : freshReady ≡ true → FreshTold
-  unfolding tablesLong
+  unfolding limitsLong
   fresh-told ok =
       let graph = both-true (graphInRange b) _ ok in
       let rows = both-true (costsInRange b costs) _ (graph .1) in
-      let tall = both-true (leb 8192 (length tables)) _ (rows .1) in
-      let limit = both-true (leb 1024 (length sent)) _ (tall .1) in
+      let limit = both-true (leb 1024 (length sent)) _ (rows .1) in
       record {
-        lasting = lasting-told b costs tables (graph .0) (rows .0) (leb-true _ _ (tall .0));
+        lasting = lasting-told b costs (graph .0) (rows .0);
         sentLong = leb-true _ _ (limit .0);
         heldLong = leb-true _ _ (limit .1);
       }
 
   -- where that is so, it is accepted
-  pub fresh-accepts : LastingOf b costs tables → 1024 ≤ length sent → 1024 ≤ length held → freshOf b costs tables sent held .reply ≡ 0
-  unfolding freshOf tablesLong
+  pub fresh-accepts : LastingOf b costs → 1024 ≤ length sent → 1024 ≤ length held → freshOf b costs sent held .reply ≡ 0
+  unfolding freshOf limitsLong
   fresh-accepts lasting first second =
-      rw (true-both (graph-kept b costs tables lasting)
-      (true-both (costs-kept b costs tables lasting)
-      (true-both (le-leb _ _ (lasting .tablesLong)) (true-both (le-leb _ _ first) (le-leb _ _ second)))))
+      rw (true-both (graph-kept b costs lasting)
+      (true-both (costs-kept b costs lasting)
+      (true-both (le-leb _ _ first) (le-leb _ _ second))))
 
-  pub fresh-lasting : freshOf b costs tables sent held .reply ≡ 0 → LastingOf b costs tables
+  pub fresh-lasting : freshOf b costs sent held .reply ≡ 0 → LastingOf b costs
   fresh-lasting e = fresh-told (fresh-passes e) .lasting
 
   module _ (told : FreshTold) where
     counts : (b .bridges ≤ 16) × (b .links ≤ 32) × (2 * b .links ≤ length (b .ends))
-    counts = few b costs tables (told .lasting)
+    counts = few b costs (told .lasting)
 
-    filled : Filled (b .bridges) (b .links) (b .ends) costs tables (b .views) full
-    filled =
-        filled-all (b .bridges) (b .links) (b .ends) costs tables (counts .0) (b .views) (view-in-range b costs tables (told .lasting))
-        (omega (arith, told .lasting .tablesLong, told .lasting .viewsMost))
-
-    lasting-after : LastingOf b costs full
-    lasting-after =
-        record {
-          viewsLeast = told .lasting .viewsLeast;
-          viewsMost = told .lasting .viewsMost;
-          graph = told .lasting .graph;
-          costsLong = told .lasting .costsLong;
-          eachView = told .lasting .eachView;
-          tablesLong = rw (filled .long) (told .lasting .tablesLong);
-        }
-
-    distances-after : (t i j : ℕ) → t < b .views → i < b .bridges → j < b .bridges → cell (part 256 t full) i j ≡ distanceIn (planIn b costs) t i j
-    distances-after t i j ht hi hj =
-        filled .block t i j ht hi hj
-        ∙ dist-cong (graphOf (b .bridges) (b .links) (b .ends)) _ _ (cost-at b costs tables (told .lasting) t) i j
-
-    limits-after : Begun (lentView b costs full 0) (limits sent held) (2 * b .links) begun
+    limits-after : Begun (lentView b costs 0) (limits sent held) (2 * b .links) begun
     limits-after =
-        begun-all (lentView b costs full 0) (limits sent held) (counts .0) (counts .1)
-        (lent-in-range b costs full lasting-after 0 (told .lasting .viewsLeast))
+        begun-all (lentView b costs 0) (limits sent held) (counts .0) (counts .1)
+        (lent-in-range b costs (told .lasting) 0 (told .lasting .viewsLeast))
         (told .sentLong)
         (told .heldLong)
         (2 * b .links)
         (omega arith)
 
-    offer-after : (e d : ℕ) → e < 2 * b .links → d < b .bridges → lentOffer (lentView b costs full 0) e d ≡ offerIn (planIn b costs) 0 e d
-    offer-after =
-        lent-offer-in b costs full lasting-after 0 (told .lasting .viewsLeast) (λ i j. distances-after 0 i j (told .lasting .viewsLeast))
+    offer-after : (e d : ℕ) → e < 2 * b .links → d < b .bridges → lentOffer (lentView b costs 0) e d ≡ offerIn (planIn b costs) 0 e d
+    offer-after = lent-offer-in b costs (told .lasting) 0 (told .lasting .viewsLeast)
 
     module _ (messages : List ℕ) (room : 320 ≤ length messages) where
       abbrev freshState : State
-      freshState = state (freshBench b) costs full (begun .sent) (begun .held) messages
+      freshState = state (freshBench b) costs (begun .sent) (begun .held) messages
 
       bridge-fresh : (x y : ℕ) → y < b .bridges → getD (replicate 16 x) y 0 ≡ x
       bridge-fresh x y h = getD-replicate 16 y x 0 (omega (arith, counts .0))
@@ -125,7 +96,7 @@ module _ (b : Bench) (costs tables sent held : List ℕ) where
       ready-after : StateReady freshState
       ready-after =
           record {
-            lasting = lasting-after;
+            lasting = told .lasting;
             sentLong = rw (limits-after .sentLong) (told .sentLong);
             heldLong = rw (limits-after .heldLong) (told .heldLong);
             count = omega arith;
@@ -154,7 +125,6 @@ module _ (b : Bench) (costs tables sent held : List ℕ) where
             inRange = ready freshState ready-after;
             typed = typed-after;
             plan = refl;
-            distances = distances-after;
             view = λ y h. sym (bridge-fresh 0 y h);
             number = λ y h. sym (bridge-fresh 1 y h);
             cut = λ l h. sym (getD-replicate 32 l false false (omega (arith, counts .1)));
@@ -166,8 +136,8 @@ module _ (b : Bench) (costs tables sent held : List ℕ) where
 
   pub fresh-represents :
       (messages : List ℕ) →
-      freshOf b costs tables sent held .reply ≡ 0 →
+      freshOf b costs sent held .reply ≡ 0 →
       320 ≤ length messages →
-      Represents (freshBy b costs tables sent held messages) (fresh (planIn b costs))
+      Represents (freshBy b costs sent held messages) (fresh (planIn b costs))
   unfolding freshBy freshOf
   fresh-represents messages e room = rw (fresh-passes e) (stands (fresh-told (fresh-passes e)) messages room)

@@ -32,7 +32,7 @@ module _ (s : State) (n : Network) (r : Represents s n) (y t : ℕ) (low : y < s
   isReady = told s (r .inRange)
 
   counts : (s .bench .bridges ≤ 16) × (s .bench .links ≤ 32) × (2 * s .bench .links ≤ length (s .bench .ends))
-  counts = few (s .bench) _ _ (isReady .lasting)
+  counts = few (s .bench) _ (isReady .lasting)
 
   abbrev lentThere : Lent
   lentThere = lentOf s isReady y t
@@ -120,7 +120,6 @@ module _ (s : State) (n : Network) (r : Represents s n) (y t : ℕ) (low : y < s
           inRange = ready stateAfter (moved-kept s isReady y t (r .typed .records) view);
           typed = typed-after;
           plan = r .plan;
-          distances = r .distances;
           view = λ z h. rw (r .view z h) (sym (getD-stored (s .bench .view) y t z 0 (omega (arith, counts .0, r .typed .views))));
           number = λ z h. rw (r .number z h) (sym (number-after z));
           cut = r .cut;
@@ -133,13 +132,13 @@ module _ (s : State) (n : Network) (r : Represents s n) (y t : ℕ) (low : y < s
 module _ (s : State) (n : Network) (r : Represents s n) (y t : ℕ) where
   -- the state with what an update leaves
   abbrev withRewritten : Rewritten → State
-  withRewritten o = state (o .bench) (s .costs) (s .tables) (o .sent) (o .held) (s .messages)
+  withRewritten o = state (o .bench) (s .costs) (o .sent) (o .held) (s .messages)
 
   abbrev updateDone : Bool → Rewritten
   updateDone same =
       cond same (rewritten 0 (s .bench) (s .sent) (s .held))
       (movedBench (s .bench) y t
-      (movedEnds (lentView (s .bench) (s .costs) (s .tables) t) (s .bench .views) y t (2 * s .bench .links) (ends (s .bench .records) (s .sent) (s .held))))
+      (movedEnds (lentView (s .bench) (s .costs) t) (s .bench .views) y t (2 * s .bench .links) (ends (s .bench .records) (s .sent) (s .held))))
 
   -- an accepted one
   kept-update : UpdateListed n y t → Represents (withRewritten (updateDone (eqb (getD (s .bench .view) y 0) t))) (updatedTo n y t)

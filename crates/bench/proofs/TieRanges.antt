@@ -6,16 +6,18 @@ use mathlib.Core.Path.{_≡_, refl, sym, _∙_}
 use mathlib.Core.Bool.{Bool, true, false, cond}
 use mathlib.Core.List.{List}
 use borrow.Author.Tests.{leb-true, le-leb, ltb-true, lt-ltb, eqb-true, eqb-false}
-use lib.ListN.{length, getD, set, length-take, length-drop}
+use lib.ListN.{length, getD, set, replicate, length-take, length-drop}
 use lib.Seq.{getD-take, getD-drop, getD-set-same, getD-set-other}
 use lib.Dec.{eqb, leb, ltb}
 use Rattle.distances.specs.View.{graphOf, costsOf}
 use Rattle.distances.specs.Distance.{dist}
-use Rattle.distances.specs.Table.{cell}
+use Rattle.distances.specs.Table.{cell, withPairs}
 use Rattle.distances.specs.Call.{inRange, graphPasses, costsPass, allBelow}
 use Rattle.distances.proofs.Booleans.{both-true, true-both}
 use Rattle.distances.proofs.Ranges.{allBelow-true, true-allBelow, counts, at-bridge, graph-in-range, costs-told, in-range-made}
 use Rattle.distances.proofs.Laws.{dist-cong}
+use Rattle.distances.proofs.Outcomes.{distances-accepted}
+use Rattle.distances.proofs.Tables.{withPairs-length, cell-withPairs}
 use Rattle.agreement.specs.Record.{freshRecord}
 use Rattle.agreement.specs.Ranges.{recordInRange}
 use Rattle.agreement.specs.Call.{lentInRange, lentOffer}
@@ -23,8 +25,8 @@ use Rattle.agreement.proofs.Ends.{offer-same}
 use Rattle.agreement.proofs.Offers.{offer-is}
 use Rattle.agreement.proofs.InRange.{records-pass, records-told}
 use Rattle.bench.specs.Net.{Network, PlanInRange, distanceIn, offerIn}
-use Rattle.bench.specs.State.{State, part, lentView}
-use Rattle.bench.specs.Ranges.{graphInRange, benchInRange, costsInRange, tablesLong, messageInRange, messagesInRange, networkInRange}
+use Rattle.bench.specs.State.{State, part, lentView, distanceTable}
+use Rattle.bench.specs.Ranges.{graphInRange, benchInRange, costsInRange, limitsLong, messageInRange, messagesInRange, networkInRange}
 use Rattle.bench.specs.Changes.{stateInRange}
 use Rattle.bench.specs.Deliveries.{deliveryReady}
 use Rattle.bench.specs.Whole.{Represents, planIn}
@@ -45,23 +47,22 @@ part-at width k l i h = rw (getD-take, getD-drop)
 pub part-length : (width k : ℕ) (l : List ℕ) → width * k + width ≤ length l → length (part width k l) ≡ width
 part-length width k l h = simp (length-take, length-drop) (omega arith)
 
--- ---- what no call changes: the counts, the ends, the costs, and the room for the distances
+-- ---- what no call changes: the counts, the ends and the costs
 
-pub record Lasting (bridges links views : ℕ) (ends costs tables : List ℕ) : Type 0 where
+pub record Lasting (bridges links views : ℕ) (ends costs : List ℕ) : Type 0 where
   pub viewsLeast : 1 ≤ views
   pub viewsMost : views ≤ 32
   pub graph : graphPasses bridges links ends ≡ true
   pub costsLong : 1024 ≤ length costs
   pub eachView : (t : ℕ) → t < views → costsPass links (part 32 t costs) ≡ true
-  pub tablesLong : 8192 ≤ length tables
 
-abbrev pub LastingOf : Bench → List ℕ → List ℕ → Type 0
-LastingOf b costs tables = Lasting (b .bridges) (b .links) (b .views) (b .ends) costs tables
+abbrev pub LastingOf : Bench → List ℕ → Type 0
+LastingOf b costs = Lasting (b .bridges) (b .links) (b .views) (b .ends) costs
 
-module _ (b : Bench) (costs tables : List ℕ) where
-  pub lasting-told : graphInRange b ≡ true → costsInRange b costs ≡ true → 8192 ≤ length tables → LastingOf b costs tables
+module _ (b : Bench) (costs : List ℕ) where
+  pub lasting-told : graphInRange b ≡ true → costsInRange b costs ≡ true → LastingOf b costs
   unfolding graphInRange costsInRange
-  lasting-told graph long tablesLong =
+  lasting-told graph long =
       let g = both-true (leb 1 (b .views)) _ graph in
       let h = both-true (leb (b .views) 32) _ (g .1) in
       let c = both-true (leb 1024 (length costs)) _ long in
@@ -71,10 +72,9 @@ module _ (b : Bench) (costs tables : List ℕ) where
         graph = h .1;
         costsLong = leb-true 1024 (length costs) (c .0);
         eachView = allBelow-true (b .views) _ (c .1);
-        tablesLong = tablesLong;
       }
 
-  module _ (l : LastingOf b costs tables) where
+  module _ (l : LastingOf b costs) where
     pub graph-kept : graphInRange b ≡ true
     unfolding graphInRange
     graph-kept = true-both (le-leb _ _ (l .viewsLeast)) (true-both (le-leb _ _ (l .viewsMost)) (l .graph))
@@ -107,29 +107,41 @@ module _ (b : Bench) (costs tables : List ℕ) where
       pub view-in-range : inRange (b .bridges) (b .links) (b .ends) (part 32 t costs) 256 ≡ true
       view-in-range = in-range-made _ _ _ _ _ (l .graph) (l .eachView t low) (omega arith)
 
-      pub lent-in-range : lentInRange (lentView b costs tables t) ≡ true
-      lent-in-range = let most : b .views ≤ 32 = l .viewsMost in rw (part-length 256 t tables (omega arith)) view-in-range
+      same :
+          (i j : ℕ) →
+          dist (graphOf (b .bridges) (b .links) (b .ends)) (costsOf (part 32 t costs)) i j ≡ distanceIn (planIn b costs) t i j
+      same i j = dist-cong (graphOf (b .bridges) (b .links) (b .ends)) _ _ (cost-at t) i j
 
-      -- where the block of view t holds its distances
+      -- what layer 1 leaves in the view's table
+      distances-are :
+          lentView b costs t .table
+          ≡ withPairs (b .bridges) (dist (graphOf (b .bridges) (b .links) (b .ends)) (costsOf (part 32 t costs))) (replicate 256 0)
+      unfolding distanceTable
+      distances-are = rw (distances-accepted (b .bridges) (b .links) (b .ends) (part 32 t costs) (replicate 256 0) view-in-range)
+
+      distances-long : length (lentView b costs t .table) ≡ 256
+      distances-long = rw distances-are (withPairs-length (b .bridges) (replicate 256 0) _)
+
+      pub lent-in-range : lentInRange (lentView b costs t) ≡ true
+      lent-in-range = rw distances-long view-in-range
+
+      -- its distances are the plan's
+      pub lent-distances : (i j : ℕ) → i < b .bridges → j < b .bridges → cell (lentView b costs t .table) i j ≡ distanceIn (planIn b costs) t i j
+      lent-distances i j hi hj = rw distances-are (cell-withPairs (b .bridges) (replicate 256 0) _ i j (few .0) (omega arith) hi hj) ∙ same i j
+
       pub lent-offer-in :
-          ((i j : ℕ) → i < b .bridges → j < b .bridges → cell (part 256 t tables) i j ≡ distanceIn (planIn b costs) t i j) →
           (e d : ℕ) →
           e < 2 * b .links →
           d < b .bridges →
-          lentOffer (lentView b costs tables t) e d ≡ offerIn (planIn b costs) t e d
-      lent-offer-in holds e d he hd =
-          offer-is (lentView b costs tables t) lent-in-range (λ i j hi hj. holds i j hi hj ∙ sym (same i j)) e d he hd
+          lentOffer (lentView b costs t) e d ≡ offerIn (planIn b costs) t e d
+      lent-offer-in e d he hd =
+          offer-is (lentView b costs t) lent-in-range (λ i j hi hj. lent-distances i j hi hj ∙ sym (same i j)) e d he hd
           ∙ offer-same (graphOf (b .bridges) (b .links) (b .ends)) _ _ _ _ e d (cost-at t (e / 2) (omega arith)) (same _ d) (same _ d)
-        where
-          same :
-              (i j : ℕ) →
-              dist (graphOf (b .bridges) (b .links) (b .ends)) (costsOf (part 32 t costs)) i j ≡ distanceIn (planIn b costs) t i j
-          same i j = dist-cong (graphOf (b .bridges) (b .links) (b .ends)) _ _ (cost-at t) i j
 
 -- ---- the whole check
 
 pub record StateReady (s : State) : Type 0 where
-  pub lasting : LastingOf (s .bench) (s .costs) (s .tables)
+  pub lasting : LastingOf (s .bench) (s .costs)
   pub sentLong : 1024 ≤ length (s .sent)
   pub heldLong : 1024 ≤ length (s .held)
   pub count : s .bench .messages ≤ 64
@@ -142,17 +154,17 @@ module _ (s : State) where
   pub bench-ready : StateReady s → benchInRange (s .bench) ≡ true
   unfolding benchInRange
   bench-ready r =
-      true-both (graph-kept _ _ _ (r .lasting))
+      true-both (graph-kept _ _ (r .lasting))
       (true-both (le-leb _ _ (r .count))
       (true-both (true-allBelow _ _ (λ y h. lt-ltb _ _ (r .view y h)))
-      (records-pass _ _ _ (few (s .bench) (s .costs) (s .tables) (r .lasting) .1) (r .records))))
+      (records-pass _ _ _ (few (s .bench) (s .costs) (r .lasting) .1) (r .records))))
 
   pub network-ready : StateReady s → stateInRange s ≡ true
-  unfolding networkInRange tablesLong
+  unfolding networkInRange limitsLong
   network-ready r =
       true-both (bench-ready r)
-      (true-both (costs-kept _ _ _ (r .lasting))
-      (true-both (le-leb _ _ (r .lasting .tablesLong)) (true-both (le-leb _ _ (r .sentLong)) (le-leb _ _ (r .heldLong)))))
+      (true-both (costs-kept _ _ (r .lasting))
+      (true-both (le-leb _ _ (r .sentLong)) (le-leb _ _ (r .heldLong))))
 
   pub messages-ready : StateReady s → messagesInRange (s .bench) (s .messages) ≡ true
   unfolding messagesInRange
@@ -162,7 +174,7 @@ module _ (s : State) where
   ready r = true-both (network-ready r) (messages-ready r)
 
   pub told : deliveryReady s ≡ true → StateReady s
-  unfolding networkInRange benchInRange tablesLong messagesInRange
+  unfolding networkInRange benchInRange limitsLong messagesInRange
   told ok =
       let b = s .bench in
       let all = both-true (stateInRange s) _ ok in
@@ -171,11 +183,10 @@ module _ (s : State) where
       let count = both-true (leb (b .messages) 64) _ (graph .1) in
       let views = both-true (allBelow (b .bridges) (λ y. ltb (getD (b .view) y 0) (b .views))) _ (count .1) in
       let costs = both-true (costsInRange b (s .costs)) _ (bench .1) in
-      let tables = both-true (leb 8192 (length (s .tables))) _ (costs .1) in
-      let limits = both-true (leb 1024 (length (s .sent))) _ (tables .1) in
+      let limits = both-true (leb 1024 (length (s .sent))) _ (costs .1) in
       let messages = both-true (leb 320 (length (s .messages))) _ (all .1) in
       record {
-        lasting = lasting-told b (s .costs) (s .tables) (graph .0) (costs .0) (leb-true _ _ (tables .0));
+        lasting = lasting-told b (s .costs) (graph .0) (costs .0);
         sentLong = leb-true _ _ (limits .0);
         heldLong = leb-true _ _ (limits .1);
         count = leb-true _ _ (count .0);
@@ -194,7 +205,7 @@ pub offer-stands :
     (e d : ℕ) →
     e < 2 * s .bench .links →
     d < s .bench .bridges →
-    offerIn (n .plan) t e d ≡ lentOffer (lentView (s .bench) (s .costs) (s .tables) t) e d
+    offerIn (n .plan) t e d ≡ lentOffer (lentView (s .bench) (s .costs) t) e d
 offer-stands s n r t low e d he hd =
     rw (r .plan)
-    (sym (lent-offer-in (s .bench) (s .costs) (s .tables) (told s (r .inRange) .lasting) t low (λ i j hi hj. rw (r .plan) at (r .distances t i j low hi hj)) e d he hd))
+    (sym (lent-offer-in (s .bench) (s .costs) (told s (r .inRange) .lasting) t low e d he hd))

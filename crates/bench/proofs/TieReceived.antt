@@ -55,21 +55,21 @@ module _
   new = recorded old (answer view old (x .agreement))
 
   abbrev lentThere : Lent
-  lentThere = lentView (s .bench) (s .costs) (s .tables) view
+  lentThere = lentView (s .bench) (s .costs) view
 
   is-bridge : bridge < s .bench .bridges
-  is-bridge = are-bridges (s .bench) (s .costs) (s .tables) (before .lasting) e he
+  is-bridge = are-bridges (s .bench) (s .costs) (before .lasting) e he
 
   is-view : view < s .bench .views
   is-view = before .view bridge is-bridge
 
   small : (s .bench .bridges ≤ 16) × (s .bench .links ≤ 32) × (2 * s .bench .links ≤ length (s .bench .ends))
-  small = few (s .bench) (s .costs) (s .tables) (before .lasting)
+  small = few (s .bench) (s .costs) (before .lasting)
 
   taken : (lentEndInRange lentThere (s .sent) (s .held) e && deliveryInRange (s .bench .views) view old (x .agreement .view)) ≡ true
   taken =
       true-both
-      (end-passes _ _ _ _ _ _ _ (lent-in-range (s .bench) (s .costs) (s .tables) (before .lasting) view is-view) (before .sentLong) (before .heldLong) e he)
+      (end-passes _ _ _ _ _ _ _ (lent-in-range (s .bench) (s .costs) (before .lasting) view is-view) (before .sentLong) (before .heldLong) e he)
       (delivery-passes _ view old (x .agreement .view) (view-passes _ view (before .lasting .viewsLeast) (before .lasting .viewsMost) is-view) (before .records e he) (inside .view))
 
   abbrev sentNow : List ℕ
@@ -90,7 +90,7 @@ module _
   received-taken = rw outcome-is
 
   abbrev after : State
-  after = state (withRecords (s .bench) (set (s .bench .records) e new)) (s .costs) (s .tables) sentNow heldNow (s .messages)
+  after = state (withRecords (s .bench) (set (s .bench .records) e new)) (s .costs) sentNow heldNow (s .messages)
 
   each-record :
       (P : EndRecord → Type 0) (k : ℕ) →
@@ -157,9 +157,7 @@ module _
     same-offer k d hk hd =
         rw (r .plan)
         (sym
-        (lent-offer-in (s .bench) (s .costs) (s .tables) (before .lasting) view is-view
-        (λ i j hi hj. rw (r .plan) at (r .distances view i j is-view hi hj))
-        k d hk hd))
+        (lent-offer-in (s .bench) (s .costs) (before .lasting) view is-view k d hk hd))
 
     -- the answer
     pub received-answer : receivedAt s e (x .agreement) .reply ≡ says (calls.answerTo n e x)
@@ -177,7 +175,6 @@ module _
           inRange = ready after after-ready;
           typed = after-typed;
           plan = r .plan;
-          distances = r .distances;
           view = r .view;
           number = r .number;
           cut = r .cut;

@@ -13,11 +13,11 @@ use Rattle.distances.proofs.Booleans.{true-both}
 use Rattle.bench.specs.Net.{Network}
 use Rattle.bench.specs.Calls.{refuse, checks, report}
 use Rattle.bench.specs.Ports.{ownDistance}
-use Rattle.bench.specs.State.{State, network, part}
+use Rattle.bench.specs.State.{State, network, lentView}
 use Rattle.bench.specs.Changes.{refusalOf, stateInRange}
 use Rattle.bench.specs.Answers.{Reported, report as leaving, linkNumber, reportedRow, reported, reportOf}
 use Rattle.bench.specs.Whole.{Represents, Reports, Answers}
-use Rattle.bench.proofs.TieRanges.{told, network-ready, few}
+use Rattle.bench.proofs.TieRanges.{told, network-ready, few, lent-distances}
 use Rattle.bench.proofs.EntrySettled.{reply-is}
 use Rattle.bench.proofs.TieChecks.{refusal-same}
 use Rattle.bench.proofs.TieAnswers.{listed, port-same, port-answered, path-answered}
@@ -31,9 +31,11 @@ module _ (s : State) (n : Network) (r : Represents s n) where
       (y d : ℕ) →
       y < s .bench .bridges →
       d < s .bench .bridges →
-      cell (part 256 (getD (s .bench .view) y 0) (s .tables)) y d ≡ ownDistance n y d
+      cell (lentView (s .bench) (s .costs) (getD (s .bench .view) y 0) .table) y d ≡ ownDistance n y d
   unfolding ownDistance
-  own-distance y d hy hd = rw (r .view y hy) (r .distances (getD (s .bench .view) y 0) y d (told s (r .inRange) .view y hy) hy hd)
+  own-distance y d hy hd =
+      let inside = told s (r .inRange) in
+      rw (r .view y hy, r .plan) (lent-distances (s .bench) (s .costs) (inside .lasting) (getD (s .bench .view) y 0) (inside .view y hy) y d hy hd)
 
   -- the row of bridge y as it is written, and a row that another bridge's leaves
   row-own :
@@ -113,7 +115,7 @@ module _ (s : State) (n : Network) (r : Represents s n) where
       Reports n d y (reportOf s d rows .rows)
   unfolding reportOf refuse checks
   report-answered d rows long e y hy =
-      let most : s .bench .bridges ≤ 16 = few (s .bench) (s .costs) (s .tables) (told s (r .inRange) .lasting) .0 in
+      let most : s .bench .bridges ≤ 16 = few (s .bench) (s .costs) (told s (r .inRange) .lasting) .0 in
       rw (report-asked d rows long, e)
       (reported-rows d rows (listed s n r d _ e .0) (s .bench .bridges) (omega arith) (omega arith) y (rw (r .plan) at hy))
 

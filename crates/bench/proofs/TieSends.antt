@@ -40,7 +40,6 @@ module _ (s : State) (n : Network) (r : Represents s n) where
               discarded = ty .discarded;
             };
         plan = r .plan;
-        distances = r .distances;
         view = r .view;
         number = r .number;
         cut = r .cut;
@@ -118,7 +117,7 @@ module _ (s : State) (n : Network) (r : Represents s n) where
 
   -- the state after a send or a lose
   flownTo : Flown → State
-  flownTo o = state (o .bench) (s .costs) (s .tables) (s .sent) (s .held) (o .messages)
+  flownTo o = state (o .bench) (s .costs) (s .sent) (s .held) (o .messages)
 
   flightRefused : ℕ → Flown
   flightRefused k = flown k (s .bench) (s .messages)

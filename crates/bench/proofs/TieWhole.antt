@@ -29,14 +29,14 @@ run-represents [] s n r = r
 run-represents (c ∷ cs) s n r = run-represents cs (stepBy s c) (step n c) (step-represents s n c r)
 
 pub whole-lists : WholeLists
-whole-lists b costs tables sent held messages done room cs =
+whole-lists b costs sent held messages done room cs =
     record {
-      holds = demand3 (planIn b costs) (plan-in-range b costs tables (fresh-lasting b costs tables sent held done)) cs;
+      holds = demand3 (planIn b costs) (plan-in-range b costs (fresh-lasting b costs sent held done)) cs;
       stands = stood;
       answers = answers _ _ stood;
     }
   where
-    stood : Represents (runBy (freshBy b costs tables sent held messages) cs) (run (fresh (planIn b costs)) cs)
+    stood : Represents (runBy (freshBy b costs sent held messages) cs) (run (fresh (planIn b costs)) cs)
     stood =
-        run-represents cs (freshBy b costs tables sent held messages) (fresh (planIn b costs))
-        (fresh-represents b costs tables sent held messages done room)
+        run-represents cs (freshBy b costs sent held messages) (fresh (planIn b costs))
+        (fresh-represents b costs sent held messages done room)

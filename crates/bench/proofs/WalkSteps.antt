@@ -51,7 +51,7 @@ pub open-link : (s : State) (y d l : ℕ) → portIn s y d ≡ Open l → l < s 
 unfolding portIn
 open-link s y d l =
     let b : Bench = s .bench in
-    outcome-link (lentView b (s .costs) (s .tables) (getD (b .view) y 0)) (b .views) (b .cut) (b .records) (s .sent) (s .held) y d l
+    outcome-link (lentView b (s .costs) (getD (b .view) y 0)) (b .views) (b .cut) (b .records) (s .sent) (s .held) y d l
 
 -- ---- a hop leads to a bridge
 
@@ -66,7 +66,7 @@ across-below g are l y h = go (eqb (g .bridgeAt (2 * l)) y)
 
 pub hop-leads :
     (s : State) →
-    Ready (s .bench) (s .costs) (s .tables) →
+    Ready (s .bench) (s .costs) →
     (d y l z : ℕ) →
     hopIn s d y ≡ crosses l z →
     z < s .bench .bridges

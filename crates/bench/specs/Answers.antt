@@ -14,7 +14,7 @@ use Rattle.bench.specs.Calls.{Call}
 use Rattle.bench.specs.Ports.{Hop, hopBy}
 use Rattle.bench.specs.Paths.{onward}
 use Rattle.bench.specs.Paths as paths
-use Rattle.bench.specs.State.{State, network, lentView, part}
+use Rattle.bench.specs.State.{State, network, lentView}
 use Rattle.bench.specs.Changes.{refusalOf, orRefused, stateInRange}
 use Rattle.bench.specs.Deliveries.{refusedBy}
 use Rattle.bench.specs.declared.Bench.{Bench}
@@ -46,7 +46,7 @@ unfoldable pub portIn : State → ℕ → ℕ → Port
 portIn s y d =
     let b : Bench = s .bench in
     found
-    (portOutcome (lentView b (s .costs) (s .tables) (getD (b .view) y 0)) (b .views) (b .cut) (b .records) (s .sent) (s .held) y d
+    (portOutcome (lentView b (s .costs) (getD (b .view) y 0)) (b .views) (b .cut) (b .records) (s .sent) (s .held) y d
     .value)
 
 -- The forwarding port of bridge y for destination d
@@ -62,7 +62,7 @@ linkNumber (Open l) = l
 unfoldable pub reportedRow : State → ℕ → ℕ → List ℕ → List ℕ
 reportedRow s d y rows =
     set
-    (set rows (2 * y) (cell (part 256 (getD (s .bench .view) y 0) (s .tables)) y d))
+    (set rows (2 * y) (cell (lentView (s .bench) (s .costs) (getD (s .bench .view) y 0) .table) y d))
     (2 * y + 1)
     (linkNumber (portIn s y d))
 

@@ -4,14 +4,13 @@ use mathlib.Core.Bool.{Bool, true, false, cond, _&&_, not}
 use mathlib.Core.List.{List, [], _∷_, _++_}
 use lib.ListN.{length, getD, set, take, drop, replicate}
 use lib.Dec.{eqb, leb}
-use Rattle.distances.specs.Call.{distancesOf}
 use Rattle.agreement.specs.Record.{freshRecord}
 use Rattle.agreement.specs.Call.{Lent, updateOutcome, freshOutcome}
 use Rattle.agreement.specs.declared.EndRecord.{EndRecord}
 use Rattle.bench.specs.Net.{Network}
 use Rattle.bench.specs.Calls.{Call, change, update, cut, restore, Check, refusal, checks}
 use Rattle.bench.specs.State.{State, network, networkOf, lentView, part}
-use Rattle.bench.specs.Ranges.{graphInRange, benchInRange, costsInRange, tablesLong, networkInRange}
+use Rattle.bench.specs.Ranges.{graphInRange, benchInRange, costsInRange, limitsLong, networkInRange}
 use Rattle.bench.specs.declared.Bench.{Bench}
 use Rattle.bench.specs.declared.Reply.{Reply}
 
@@ -128,7 +127,7 @@ movedBench b y t x =
 
 -- what most calls are handed, in range
 abbrev pub stateInRange : State → Bool
-stateInRange s = networkInRange (s .bench) (s .costs) (length (s .tables)) (length (s .sent)) (length (s .held))
+stateInRange s = networkInRange (s .bench) (s .costs) (length (s .sent)) (length (s .held))
 
 unfoldable pub updateOf : State → ℕ → ℕ → Rewritten
 updateOf s y t =
@@ -136,19 +135,7 @@ updateOf s y t =
     orRefused (refusalOf (stateInRange s) (network s) (change (update y t))) (λ k. rewritten k b (s .sent) (s .held))
     (cond (eqb (getD (b .view) y 0) t) (rewritten 0 b (s .sent) (s .held))
     (movedBench b y t
-    (movedEnds (lentView b (s .costs) (s .tables) t) (b .views) y t (2 * b .links) (ends (b .records) (s .sent) (s .held)))))
-
--- A fresh network: the distances of view t in its block
-unfoldable pub filledView : ℕ → ℕ → List ℕ → List ℕ → ℕ → List ℕ → List ℕ
-filledView bridges links places costs t tables =
-    take (256 * t) tables
-    ++ (distancesOf bridges links places (part 32 t costs) (part 256 t tables) .table ++ drop 256 (drop (256 * t) tables))
-
--- those of each view below k
-unfoldable pub filledTables : ℕ → ℕ → List ℕ → List ℕ → ℕ → List ℕ → List ℕ
-filledTables bridges links places costs zero tables = tables
-filledTables bridges links places costs (suc t) tables =
-    filledView bridges links places costs t (filledTables bridges links places costs t tables)
+    (movedEnds (lentView b (s .costs) t) (b .views) y t (2 * b .links) (ends (b .records) (s .sent) (s .held)))))
 
 -- the two limit tables
 pub record Limits : Type 0 where
@@ -180,22 +167,10 @@ freshBench b =
       cut = replicate 32 false;
     }
 
--- a bench, the distances and the limit tables after `fresh`
-pub record Started : Type 0 where
-  pub reply : ℕ
-  pub bench : Bench
-  pub tables : List ℕ
-  pub sent : List ℕ
-  pub held : List ℕ
-
-abbrev pub started : ℕ → Bench → List ℕ → List ℕ → List ℕ → Started
-started reply bench tables sent held = record { reply = reply; bench = bench; tables = tables; sent = sent; held = held }
-
--- of the bench handed in only the counts and the ends are read
-unfoldable pub freshOf : Bench → List ℕ → List ℕ → List ℕ → List ℕ → Started
-freshOf b costs tables sent held =
-    let full : List ℕ = filledTables (b .bridges) (b .links) (b .ends) costs (b .views) tables in
-    let x : Limits = startedEnds (lentView b costs full 0) (2 * b .links) (limits sent held) in
-    cond (graphInRange b && (costsInRange b costs && tablesLong (length tables) (length sent) (length held)))
-    (started 0 (freshBench b) full (x .sent) (x .held))
-    (started 17 b tables sent held)
+-- A fresh network: of the bench handed in only the counts and the ends are read
+unfoldable pub freshOf : Bench → List ℕ → List ℕ → List ℕ → Rewritten
+freshOf b costs sent held =
+    let x : Limits = startedEnds (lentView b costs 0) (2 * b .links) (limits sent held) in
+    cond (graphInRange b && (costsInRange b costs && limitsLong (length sent) (length held)))
+    (rewritten 0 (freshBench b) (x .sent) (x .held))
+    (rewritten 17 b sent held)

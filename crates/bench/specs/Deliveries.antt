@@ -60,7 +60,7 @@ receivedAt s e m =
     let y : ℕ = getD (b .ends) e 0 in
     let t : ℕ = getD (b .view) y 0 in
     let o =
-    deliverOutcome (lentView b (s .costs) (s .tables) t) (b .views) t (getD (b .number) y 0) e
+    deliverOutcome (lentView b (s .costs) t) (b .views) t (getD (b .number) y 0) e
     (getD (b .records) e freshRecord) m (s .sent) (s .held) in
     delivered (o .reply) (withRecords b (set (b .records) e (o .end))) (o .sent) (o .held) (s .messages)
 

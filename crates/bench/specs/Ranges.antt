@@ -24,9 +24,9 @@ benchInRange b =
 unfoldable pub costsInRange : Bench → List ℕ → Bool
 costsInRange b costs = leb 1024 (length costs) && allBelow (b .views) (λ t. costsPass (b .links) (part 32 t costs))
 
--- 32 blocks of 256 distances, two tables of 64 rows of 16 limits, by their lengths
-unfoldable pub tablesLong : ℕ → ℕ → ℕ → Bool
-tablesLong tables sent held = leb 8192 tables && (leb 1024 sent && leb 1024 held)
+-- two tables of 64 rows of 16 limits, by their lengths
+unfoldable pub limitsLong : ℕ → ℕ → Bool
+limitsLong sent held = leb 1024 sent && leb 1024 held
 
 -- a message's link, direction and view, and two numbers of 16 bits
 unfoldable pub messagePasses : ℕ → ℕ → ℕ → ℕ → ℕ → ℕ → ℕ → Bool
@@ -42,6 +42,6 @@ messageInRange b m p =
 unfoldable pub messagesInRange : Bench → List ℕ → Bool
 messagesInRange b m = leb 320 (length m) && allBelow (b .messages) (messageInRange b m)
 
--- what most calls are handed: the bench, the views' costs, the tables
-unfoldable pub networkInRange : Bench → List ℕ → ℕ → ℕ → ℕ → Bool
-networkInRange b costs tables sent held = benchInRange b && (costsInRange b costs && tablesLong tables sent held)
+-- what most calls are handed: the bench, the views' costs, the limit tables
+unfoldable pub networkInRange : Bench → List ℕ → ℕ → ℕ → Bool
+networkInRange b costs sent held = benchInRange b && (costsInRange b costs && limitsLong sent held)

@@ -2,34 +2,38 @@
 use Prim.Native.Nat.{ℕ, zero, suc, _+_, _*_}
 use mathlib.Core.Bool.{Bool, false}
 use mathlib.Core.List.{List, [], _∷_}
-use lib.ListN.{getD, take, drop}
+use lib.ListN.{getD, take, drop, replicate}
 use Rattle.distances.specs.View.{graphOf}
-use Rattle.distances.specs.Table.{cell}
+use Rattle.distances.specs.Call.{distancesOf}
 use Rattle.agreement.specs.Call.{Lent, lent, lentRecords}
 use Rattle.bench.specs.Net.{Network, Message}
 use Rattle.bench.specs.declared.Bench.{Bench}
 
--- the lent buffers, beside the bench itself: a row of 32 costs for each view, a block of 256 distances for each view, the two limit
--- tables, and 5 numbers for each message in flight
+-- the lent buffers, beside the bench itself: a row of 32 costs for each view, the two limit tables, and 5 numbers for each message in
+-- flight
 pub record State : Type 0 where
   pub bench : Bench
   pub costs : List ℕ
-  pub tables : List ℕ
   pub sent : List ℕ
   pub held : List ℕ
   pub messages : List ℕ
 
-abbrev pub state : Bench → List ℕ → List ℕ → List ℕ → List ℕ → List ℕ → State
-state bench costs tables sent held messages =
-    record { bench = bench; costs = costs; tables = tables; sent = sent; held = held; messages = messages }
+abbrev pub state : Bench → List ℕ → List ℕ → List ℕ → List ℕ → State
+state bench costs sent held messages =
+    record { bench = bench; costs = costs; sent = sent; held = held; messages = messages }
 
 -- part k of a list that is cut into parts of a width
 abbrev pub part : ℕ → ℕ → List ℕ → List ℕ
 part width k l = take width (drop (width * k) l)
 
+-- the distances of view t, as layer 1 leaves them in a table that held nothing
+unfoldable pub distanceTable : ℕ → ℕ → List ℕ → List ℕ → ℕ → List ℕ
+distanceTable bridges links ends costs t = distancesOf bridges links ends (part 32 t costs) (replicate 256 0) .table
+
 -- view t as layer 2 is lent it
-abbrev pub lentView : Bench → List ℕ → List ℕ → ℕ → Lent
-lentView b costs tables t = lent (b .bridges) (b .links) (b .ends) (part 32 t costs) (part 256 t tables)
+abbrev pub lentView : Bench → List ℕ → ℕ → Lent
+lentView b costs t =
+    lent (b .bridges) (b .links) (b .ends) (part 32 t costs) (distanceTable (b .bridges) (b .links) (b .ends) costs t)
 
 -- the message at place p, in five numbers: link, direction, view, number, discarded number
 abbrev pub messageFrom : List ℕ → ℕ → Message
@@ -63,4 +67,4 @@ network s =
 
 -- the network that stands in a bench and the messages, where a call is lent nothing else
 abbrev pub networkOf : Bench → List ℕ → Network
-networkOf b messages = network (state b [] [] [] [] messages)
+networkOf b messages = network (state b [] [] [] messages)

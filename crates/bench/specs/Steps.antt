@@ -1,12 +1,13 @@
 -- What the private functions assume, and answers of theirs. No public contract cites this file. Assumes nothing.
 use Prim.Native.Nat.{ℕ, _+_, _*_, _<_, _≤_}
 use mathlib.Core.Path.{_≡_}
-use mathlib.Core.Bool.{true, cond}
-use mathlib.Core.List.{List}
-use lib.ListN.{length, getD}
+use mathlib.Core.Bool.{Bool, true, false, cond}
+use mathlib.Core.List.{List, _++_}
+use lib.ListN.{length, getD, take, drop, replicate}
 use lib.Dec.{eqb}
 use Rattle.distances.specs.View.{maxCost, costsOf}
 use Rattle.distances.specs.Table.{cell}
+use Rattle.distances.specs.Call.{distancesOf}
 use Rattle.agreement.specs.Call.{Lent, lentGraph}
 use Rattle.agreement.specs.Choice.{choiceBelow}
 use Rattle.agreement.specs.declared.Choice.{Choice}
@@ -15,7 +16,7 @@ use Rattle.plan.specs.declared.Event.{Event}
 use Rattle.plan.specs.declared.Event.the-variants.{Update, Send, Deliver, Repeat, Lose, Cut, Restore, Report, Path}
 use Rattle.plan.specs.declared.Field.{Field}
 use Rattle.plan.specs.declared.Read.{Read}
-use Rattle.bench.specs.State.{State, network, lentView}
+use Rattle.bench.specs.State.{State, network, lentView, part, distanceTable}
 use Rattle.bench.specs.Ranges.{networkInRange}
 use Rattle.bench.specs.Deliveries.{deliveryReady}
 use Rattle.bench.specs.Lists.{made, eventMade}
@@ -25,27 +26,46 @@ use Rattle.bench.specs.declared.Hop as code
 use Rattle.bench.specs.declared.lists.Next.{Next}
 
 -- what the entry check has told of a bench and of what is lent beside it
-pub record Ready (b : Bench) (costs tables : List ℕ) : Type 0 where
+pub record Ready (b : Bench) (costs : List ℕ) : Type 0 where
   pub fewBridges : b .bridges ≤ 16
   pub fewLinks : b .links ≤ 32
   pub fewViews : b .views ≤ 32
   pub areBridges : (e : ℕ) → e < 2 * b .links → getD (b .ends) e 0 < b .bridges
   pub areViews : (y : ℕ) → y < b .bridges → getD (b .view) y 0 < b .views
   pub costsLong : 1024 ≤ length costs
-  pub tablesLong : 8192 ≤ length tables
 
 -- and a call that asks for ports
-pub record PortsReady (b : Bench) (costs tables sent held : List ℕ) : Type 0 where
-  pub inRange : networkInRange b costs (length tables) (length sent) (length held) ≡ true
-  pub ready : Ready b costs tables
+pub record PortsReady (b : Bench) (costs sent held : List ℕ) : Type 0 where
+  pub inRange : networkInRange b costs (length sent) (length held) ≡ true
+  pub ready : Ready b costs
   pub sentLong : 1024 ≤ length sent
   pub heldLong : 1024 ≤ length held
   pub costsMost : (t l : ℕ) → t < b .views → l < b .links → getD costs (32 * t + l) 0 ≤ maxCost
 
+-- the table of a view's distances, a block of 256 for each view: layer 1's work in block t
+unfoldable pub filledView : ℕ → ℕ → List ℕ → List ℕ → ℕ → List ℕ → List ℕ
+filledView bridges links places costs t tables =
+    take (256 * t) tables
+    ++ (distancesOf bridges links places (part 32 t costs) (part 256 t tables) .table ++ drop 256 (drop (256 * t) tables))
+
+-- block t holds the view's distances
+abbrev pub IsFilled : Bench → List ℕ → List ℕ → ℕ → Type 0
+IsFilled b costs tables t = part 256 t tables ≡ distanceTable (b .bridges) (b .links) (b .ends) costs t
+
+-- and so do those of the views that the bridges are on
+abbrev pub AllFilled : Bench → List ℕ → List ℕ → Type 0
+AllFilled b costs tables = (y : ℕ) → y < b .bridges → IsFilled b costs tables (getD (b .view) y 0)
+
+-- the tables of a call or of a list of calls: the blocks of the views that are known are filled, the others hold nothing yet
+pub record Tables (b : Bench) (costs tables : List ℕ) (known : List Bool) : Type 0 where
+  pub long : length tables ≡ 8192
+  pub flags : length known ≡ 32
+  pub block : (t : ℕ) → t < 32 → part 256 t tables ≡ cond (getD known t false) (distanceTable (b .bridges) (b .links) (b .ends) costs t) (replicate 256 0)
+
 -- the forwarding choice of bridge y for destination d by its ends below e, in y's view
 unfoldable pub choiceIn : State → ℕ → ℕ → ℕ → Choice
 choiceIn s d y e =
-    let v : Lent = lentView (s .bench) (s .costs) (s .tables) (getD (s .bench .view) y 0) in
+    let v : Lent = lentView (s .bench) (s .costs) (getD (s .bench .view) y 0) in
     choiceBelow (lentGraph v) (costsOf (v .costs)) (cell (v .table)) (network s .records) y d e
 
 -- the choices of the bridges below n

@@ -8,12 +8,12 @@ use lib.ListN.{length, getD}
 use Rattle.distances.specs.Table.{cell}
 use Rattle.agreement.specs.Record.{freshRecord}
 use Rattle.agreement.specs.Call.{says}
-use Rattle.bench.specs.Net.{Network, Plan, fresh, distanceIn}
+use Rattle.bench.specs.Net.{Network, Plan, fresh}
 use Rattle.bench.specs.Calls.{Call, change, update, cut, restore, send, deliver, repeat, lose, port, report, path, refuse, answerAt, run}
 use Rattle.bench.specs.Ports.{ownDistance}
 use Rattle.bench.specs.Ports as ports
 use Rattle.bench.specs.Paths as paths
-use Rattle.bench.specs.State.{State, state, network, part}
+use Rattle.bench.specs.State.{State, state, network}
 use Rattle.bench.specs.Changes.{orRefused, cutOf, restoreOf, updateOf, freshOf}
 use Rattle.bench.specs.Flights.{sendOf, loseOf}
 use Rattle.bench.specs.Deliveries.{refusedBy, deliveryReady, deliverOf, repeatOf}
@@ -24,17 +24,17 @@ use Rattle.bench.specs.declared.Bench.{Bench}
 -- the state that a call leaves, by the outcome that its contract names
 unfoldable pub stepBy : State → Call → State
 stepBy s (change (update y t)) =
-    let o = updateOf s y t in state (o .bench) (s .costs) (s .tables) (o .sent) (o .held) (s .messages)
-stepBy s (change (cut l)) = state (cutOf (s .bench) l .bench) (s .costs) (s .tables) (s .sent) (s .held) (s .messages)
-stepBy s (change (restore l)) = state (restoreOf (s .bench) l .bench) (s .costs) (s .tables) (s .sent) (s .held) (s .messages)
+    let o = updateOf s y t in state (o .bench) (s .costs) (o .sent) (o .held) (s .messages)
+stepBy s (change (cut l)) = state (cutOf (s .bench) l .bench) (s .costs) (s .sent) (s .held) (s .messages)
+stepBy s (change (restore l)) = state (restoreOf (s .bench) l .bench) (s .costs) (s .sent) (s .held) (s .messages)
 stepBy s (send y l) =
-    let o = sendOf (s .bench) (s .messages) y l in state (o .bench) (s .costs) (s .tables) (s .sent) (s .held) (o .messages)
+    let o = sendOf (s .bench) (s .messages) y l in state (o .bench) (s .costs) (s .sent) (s .held) (o .messages)
 stepBy s (deliver p) =
-    let o = deliverOf s p in state (o .bench) (s .costs) (s .tables) (o .sent) (o .held) (o .messages)
+    let o = deliverOf s p in state (o .bench) (s .costs) (o .sent) (o .held) (o .messages)
 stepBy s (repeat p) =
-    let o = repeatOf s p in state (o .bench) (s .costs) (s .tables) (o .sent) (o .held) (o .messages)
+    let o = repeatOf s p in state (o .bench) (s .costs) (o .sent) (o .held) (o .messages)
 stepBy s (lose p) =
-    let o = loseOf (s .bench) (s .messages) p in state (o .bench) (s .costs) (s .tables) (s .sent) (s .held) (o .messages)
+    let o = loseOf (s .bench) (s .messages) p in state (o .bench) (s .costs) (s .sent) (s .held) (o .messages)
 stepBy s (port y d) = s
 stepBy s (report d) = s
 stepBy s (path y d) = s
@@ -44,9 +44,9 @@ runBy s [] = s
 runBy s (c ∷ cs) = runBy (stepBy s c) cs
 
 -- the state that an accepted `fresh` leaves
-unfoldable pub freshBy : Bench → List ℕ → List ℕ → List ℕ → List ℕ → List ℕ → State
-freshBy b costs tables sent held messages =
-    let o = freshOf b costs tables sent held in state (o .bench) costs (o .tables) (o .sent) (o .held) messages
+unfoldable pub freshBy : Bench → List ℕ → List ℕ → List ℕ → List ℕ → State
+freshBy b costs sent held messages =
+    let o = freshOf b costs sent held in state (o .bench) costs (o .sent) (o .held) messages
 
 -- what the code's types tell of a bench, and its lists do not: the lengths of its arrays, and numbers of 16 bits
 pub record Typed (b : Bench) : Type 0 where
@@ -58,13 +58,11 @@ pub record Typed (b : Bench) : Type 0 where
   pub received : (e : ℕ) → e < 2 * b .links → getD (b .records) e freshRecord .received < 65536
   pub discarded : (e : ℕ) → e < 2 * b .links → getD (b .records) e freshRecord .discarded < 65536
 
--- the network n stands in the state s: what is there of the bridges, links, ends and destinations that there are; the lent tables hold
--- the distances of each view
+-- the network n stands in the state s: what is there of the bridges, links, ends and destinations that there are
 pub record Represents (s : State) (n : Network) : Type 0 where
   pub inRange : deliveryReady s ≡ true
   pub typed : Typed (s .bench)
   pub plan : n .plan ≡ network s .plan
-  pub distances : (t i j : ℕ) → t < s .bench .views → i < s .bench .bridges → j < s .bench .bridges → cell (part 256 t (s .tables)) i j ≡ distanceIn (n .plan) t i j
   pub view : (y : ℕ) → y < s .bench .bridges → n .view y ≡ getD (s .bench .view) y 0
   pub number : (y : ℕ) → y < s .bench .bridges → n .number y ≡ getD (s .bench .number) y 0
   pub cut : (l : ℕ) → l < s .bench .links → n .records .cut l ≡ network s .records .cut l
@@ -95,18 +93,18 @@ pub record Answers (s : State) (n : Network) : Type 0 where
 
 -- the plan that a caller hands to `fresh`
 abbrev pub planIn : Bench → List ℕ → Plan
-planIn b costs = network (state b costs [] [] [] []) .plan
+planIn b costs = network (state b costs [] [] []) .plan
 
 -- whoever calls `fresh`, and it is accepted, and then makes any calls one after the other, has demand 3: the network of Demand3 after
 -- the same calls is the one that stands in the state, and the one that the answers are about
-pub record Meets (b : Bench) (costs tables sent held messages : List ℕ) (cs : List Call) : Type 0 where
+pub record Meets (b : Bench) (costs sent held messages : List ℕ) (cs : List Call) : Type 0 where
   pub holds : Holds (planIn b costs) cs
-  pub stands : Represents (runBy (freshBy b costs tables sent held messages) cs) (run (fresh (planIn b costs)) cs)
-  pub answers : Answers (runBy (freshBy b costs tables sent held messages) cs) (run (fresh (planIn b costs)) cs)
+  pub stands : Represents (runBy (freshBy b costs sent held messages) cs) (run (fresh (planIn b costs)) cs)
+  pub answers : Answers (runBy (freshBy b costs sent held messages) cs) (run (fresh (planIn b costs)) cs)
 
 abbrev pub WholeLists : Type 0
 WholeLists =
-    (b : Bench) (costs tables sent held messages : List ℕ) →
-    freshOf b costs tables sent held .reply ≡ 0 →
+    (b : Bench) (costs sent held messages : List ℕ) →
+    freshOf b costs sent held .reply ≡ 0 →
     320 ≤ length messages →
-    (cs : List Call) → Meets b costs tables sent held messages cs
+    (cs : List Call) → Meets b costs sent held messages cs

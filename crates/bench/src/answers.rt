@@ -14,43 +14,53 @@ ghost use Rattle.bench.specs.Ranges.{networkInRange};
 ghost use Rattle.bench.specs.State.{state};
 ghost use Rattle.bench.specs.Changes.{number, NoZero};
 ghost use Rattle.bench.specs.Answers.{forwardingSays, waySays, portOf, report, reportOf, pathOf};
+ghost use Rattle.bench.specs.Steps.{Tables};
 
 // The forwarding port of a bridge for a destination.
 pub fn port(
     bench: Bench,
     costs: &[u32],
-    tables: &[u32],
     sent: &[u32],
     held: &[u32],
     bridge: usize,
     dest: usize,
 ) -> Forwarding
-    ensures { λ r. ⌜ forwardingSays r ≡ portOf (state bench (now (costs .entry)) (now (tables .entry)) (now (sent .entry)) (now (held .entry)) []) bridge dest ⌝ }
+    ensures { λ r. ⌜ forwardingSays r ≡ portOf (state bench (now (costs .entry)) (now (sent .entry)) (now (held .entry)) []) bridge dest ⌝ }
 {
-    if !ready::network_in_range(bench, costs, tables.len(), sent.len(), held.len()) {
+    if !ready::network_in_range(bench, costs, sent.len(), held.len()) {
         return Forwarding::Refused(17);
     }
     let refusal = refusals::port_refusal(bench, bridge, dest);
     if refusal != 0 {
         return Forwarding::Refused(refusal);
     }
-    Forwarding::Found(walks::port_at(bench, costs, tables, sent, held, bridge, dest))
+    let mut tables = [0u32; 8192];
+    let mut known = [false; 32];
+    Forwarding::Found(walks::port_of(
+        bench,
+        costs,
+        &mut tables,
+        &mut known,
+        sent,
+        held,
+        bridge,
+        dest,
+    ))
 }
 
 // The report of a destination: row b has bridge b's distance in its own view and its link, NONE for no port.
 pub fn report(
     bench: Bench,
     costs: &[u32],
-    tables: &[u32],
     sent: &[u32],
     held: &[u32],
     dest: usize,
     rows: &mut [u32],
 ) -> Reply
-    ensures { λ r. ⌜ (report (number r) (now (rows .exit)) ≡ reportOf (state bench (now (costs .entry)) (now (tables .entry)) (now (sent .entry)) (now (held .entry)) []) dest (now (rows .entry))) × NoZero r ⌝ }
+    ensures { λ r. ⌜ (report (number r) (now (rows .exit)) ≡ reportOf (state bench (now (costs .entry)) (now (sent .entry)) (now (held .entry)) []) dest (now (rows .entry))) × NoZero r ⌝ }
 {
     let size = rows.len();
-    if !ready::network_in_range(bench, costs, tables.len(), sent.len(), held.len()) {
+    if !ready::network_in_range(bench, costs, sent.len(), held.len()) {
         return Reply::Refused(17);
     }
     if size < 32 {
@@ -60,7 +70,18 @@ pub fn report(
     if refusal != 0 {
         return Reply::Refused(refusal);
     }
-    walks::report_rows(bench, costs, tables, sent, held, dest, rows);
+    let mut tables = [0u32; 8192];
+    let mut known = [false; 32];
+    walks::report_rows(
+        bench,
+        costs,
+        &mut tables,
+        &mut known,
+        sent,
+        held,
+        dest,
+        rows,
+    );
     Reply::Done
 }
 
@@ -68,36 +89,49 @@ pub fn report(
 pub fn path(
     bench: Bench,
     costs: &[u32],
-    tables: &[u32],
     sent: &[u32],
     held: &[u32],
     start: usize,
     dest: usize,
 ) -> Way
-    ensures { λ r. ⌜ waySays r ≡ pathOf (state bench (now (costs .entry)) (now (tables .entry)) (now (sent .entry)) (now (held .entry)) []) start dest ⌝ }
+    ensures { λ r. ⌜ waySays r ≡ pathOf (state bench (now (costs .entry)) (now (sent .entry)) (now (held .entry)) []) start dest ⌝ }
 {
-    if !ready::network_in_range(bench, costs, tables.len(), sent.len(), held.len()) {
+    if !ready::network_in_range(bench, costs, sent.len(), held.len()) {
         return Way::Refused(17);
     }
-    path_ready(bench, costs, tables, sent, held, start, dest)
+    let mut tables = [0u32; 8192];
+    let mut known = [false; 32];
+    path_ready(
+        bench,
+        costs,
+        &mut tables,
+        &mut known,
+        sent,
+        held,
+        start,
+        dest,
+    )
 }
 
 // `path` of what is in range.
 pub(crate) fn path_ready(
     bench: Bench,
     costs: &[u32],
-    tables: &[u32],
+    tables: &mut [u32],
+    known: &mut [bool],
     sent: &[u32],
     held: &[u32],
     start: usize,
     dest: usize,
 ) -> Way
-    requires { ⌜ networkInRange bench (now costs) (length (now tables)) (length (now sent)) (length (now held)) ≡ true ⌝ }
-    ensures { λ r. ⌜ waySays r ≡ pathOf (state bench (now (costs .entry)) (now (tables .entry)) (now (sent .entry)) (now (held .entry)) []) start dest ⌝ }
+    requires { ⌜ networkInRange bench (now costs) (length (now sent)) (length (now held)) ≡ true ⌝ }
+    requires { ⌜ Tables bench (now costs) (now tables) (now known) ⌝ }
+    ensures { λ r. ⌜ waySays r ≡ pathOf (state bench (now (costs .entry)) (now (sent .entry)) (now (held .entry)) []) start dest ⌝ }
+    ensures { λ r. ⌜ Tables bench (now (costs .entry)) (now (tables .exit)) (now (known .exit)) ⌝ }
 {
     let refusal = refusals::port_refusal(bench, start, dest);
     if refusal != 0 {
         return Way::Refused(refusal);
     }
-    walks::walk(bench, costs, tables, sent, held, start, dest)
+    walks::walk(bench, costs, tables, known, sent, held, start, dest)
 }

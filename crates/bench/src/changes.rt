@@ -7,14 +7,16 @@ use crate::ready;
 use crate::refusals;
 use crate::replies::refused;
 use crate::starts;
+use crate::tables::need_view;
 ghost use mathlib.Core.Path.{_≡_};
 ghost use mathlib.Core.Bool.{true};
 ghost use mathlib.Core.List.{[]};
 ghost use Prim.Native.Nat.{_<_};
 ghost use lib.ListN.{length};
-ghost use Rattle.bench.specs.Changes.{number, NoZero, changed, benchWithCut, cutOf, restoreOf, rewritten, updateOf, started, freshOf};
+ghost use Rattle.bench.specs.Changes.{number, NoZero, changed, benchWithCut, cutOf, restoreOf, rewritten, updateOf, freshOf};
 ghost use Rattle.bench.specs.Ranges.{benchInRange, networkInRange};
 ghost use Rattle.bench.specs.State.{state};
+ghost use Rattle.bench.specs.Steps.{Tables};
 
 fn with_cut(bench: Bench, link: usize, so: bool) -> Bench
     requires { ⌜ link < 32 ⌝ }
@@ -79,34 +81,47 @@ pub(crate) fn restore_ready(bench: Bench, link: usize) -> Changed
 pub fn update(
     bench: Bench,
     costs: &[u32],
-    tables: &[u32],
     sent: &mut [u32],
     held: &mut [u32],
     bridge: usize,
     view: usize,
 ) -> Changed
-    ensures { λ r. ⌜ (rewritten (number (r .reply)) (r .bench) (now (sent .exit)) (now (held .exit)) ≡ updateOf (state bench (now (costs .entry)) (now (tables .entry)) (now (sent .entry)) (now (held .entry)) []) bridge view) × NoZero (r .reply) ⌝ }
+    ensures { λ r. ⌜ (rewritten (number (r .reply)) (r .bench) (now (sent .exit)) (now (held .exit)) ≡ updateOf (state bench (now (costs .entry)) (now (sent .entry)) (now (held .entry)) []) bridge view) × NoZero (r .reply) ⌝ }
 {
     let sent_size = sent.len();
     let held_size = held.len();
-    if !ready::network_in_range(bench, costs, tables.len(), sent_size, held_size) {
+    if !ready::network_in_range(bench, costs, sent_size, held_size) {
         return refused(17, bench);
     }
-    update_ready(bench, costs, tables, sent, held, bridge, view)
+    let mut tables = [0u32; 8192];
+    let mut known = [false; 32];
+    update_ready(
+        bench,
+        costs,
+        &mut tables,
+        &mut known,
+        sent,
+        held,
+        bridge,
+        view,
+    )
 }
 
 // `update` of what is in range.
 pub(crate) fn update_ready(
     bench: Bench,
     costs: &[u32],
-    tables: &[u32],
+    tables: &mut [u32],
+    known: &mut [bool],
     sent: &mut [u32],
     held: &mut [u32],
     bridge: usize,
     view: usize,
 ) -> Changed
-    requires { ⌜ networkInRange bench (now costs) (length (now tables)) (length (now sent)) (length (now held)) ≡ true ⌝ }
-    ensures { λ r. ⌜ (rewritten (number (r .reply)) (r .bench) (now (sent .exit)) (now (held .exit)) ≡ updateOf (state bench (now (costs .entry)) (now (tables .entry)) (now (sent .entry)) (now (held .entry)) []) bridge view) × NoZero (r .reply) ⌝ }
+    requires { ⌜ networkInRange bench (now costs) (length (now sent)) (length (now held)) ≡ true ⌝ }
+    requires { ⌜ Tables bench (now costs) (now tables) (now known) ⌝ }
+    ensures { λ r. ⌜ (rewritten (number (r .reply)) (r .bench) (now (sent .exit)) (now (held .exit)) ≡ updateOf (state bench (now (costs .entry)) (now (sent .entry)) (now (held .entry)) []) bridge view) × NoZero (r .reply) ⌝ }
+    ensures { λ r. ⌜ Tables bench (now (costs .entry)) (now (tables .exit)) (now (known .exit)) ⌝ }
 {
     let refusal = refusals::update_refusal(bench, bridge, view);
     if refusal != 0 {
@@ -119,30 +134,26 @@ pub(crate) fn update_ready(
             bench,
         };
     }
+    need_view(bench, costs, view, tables, known);
     Changed {
         reply: Reply::Done,
         bench: moved(bench, costs, tables, bridge, view, sent, held),
     }
 }
 
-// A fresh network over the counts and ends of the bench handed in: every bridge on view 0. Fills the views' distances too.
-pub fn fresh(
-    bench: Bench,
-    costs: &[u32],
-    tables: &mut [u32],
-    sent: &mut [u32],
-    held: &mut [u32],
-) -> Changed
-    ensures { λ r. ⌜ (started (number (r .reply)) (r .bench) (now (tables .exit)) (now (sent .exit)) (now (held .exit)) ≡ freshOf bench (now (costs .entry)) (now (tables .entry)) (now (sent .entry)) (now (held .entry))) × NoZero (r .reply) ⌝ }
+// A fresh network over the counts and ends of the bench handed in: every bridge on view 0.
+pub fn fresh(bench: Bench, costs: &[u32], sent: &mut [u32], held: &mut [u32]) -> Changed
+    ensures { λ r. ⌜ (rewritten (number (r .reply)) (r .bench) (now (sent .exit)) (now (held .exit)) ≡ freshOf bench (now (costs .entry)) (now (sent .entry)) (now (held .entry))) × NoZero (r .reply) ⌝ }
 {
-    let tables_size = tables.len();
     let sent_size = sent.len();
     let held_size = held.len();
-    if !ready::plan_in_range(bench, costs, tables_size, sent_size, held_size) {
+    if !ready::plan_in_range(bench, costs, sent_size, held_size) {
         return refused(17, bench);
     }
-    starts::fill_tables(bench, costs, tables);
-    starts::start_ends(bench, &costs[0..32], &tables[0..256], sent, held);
+    let mut table = [0u32; 256];
+    let ends = bench.ends;
+    distances::distances(bench.bridges, bench.links, &ends, &costs[0..32], &mut table);
+    starts::start_ends(bench, &costs[0..32], &table, sent, held);
     Changed {
         reply: Reply::Done,
         bench: starts::fresh_bench(bench),

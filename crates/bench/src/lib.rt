@@ -1,6 +1,6 @@
 // Layer 3: the network bench, with messages in flight. A caller keeps a `Bench` by value and lends the buffers beside it: costs
-// (view t, link l at 32 t + l), the distances of each view (a block of 256 for each), two limit tables (a row of 16 for each end),
-// and the messages (five numbers for each).
+// (view t, link l at 32 t + l), two limit tables (a row of 16 for each end), and the messages (five numbers for each). The views'
+// distances follow from the costs: a call computes those that it uses.
 use agreement::Answer;
 use agreement::EndRecord;
 use agreement::Port;
@@ -16,6 +16,7 @@ mod receives;
 mod refusals;
 mod replies;
 mod starts;
+mod tables;
 mod walks;
 
 // Link l joins ends[2 l] and ends[2 l + 1]; `messages` is how many are in flight; `view` and `number` are each bridge's view and agreement

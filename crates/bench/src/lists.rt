@@ -27,7 +27,7 @@ ghost use Rattle.bench.specs.Deliveries.{reactionSays, deliveryReady};
 ghost use Rattle.bench.specs.Answers.{WayFits, waySays};
 ghost use Rattle.bench.specs.State.{state};
 ghost use Rattle.bench.specs.Lists.{wayNumbers, ran, runs, listed, listOf};
-ghost use Rattle.bench.specs.Steps.{nextOf, nextAt, IsChange, Makes};
+ghost use Rattle.bench.specs.Steps.{nextOf, nextAt, IsChange, Makes, Tables};
 
 // What stands at the head of the bytes that are left: nothing that a list makes; a path; any other call. With the bytes that it takes.
 enum Next {
@@ -137,31 +137,34 @@ fn path_by(way: &mut [u32], answer: Way, used: usize) -> usize
 fn make(
     bench: Bench,
     costs: &[u32],
-    tables: &[u32],
+    tables: &mut [u32],
+    known: &mut [bool],
     sent: &mut [u32],
     held: &mut [u32],
     flight: &mut [u32],
     event: Event,
 ) -> Changed
-    requires { ⌜ IsChange event × (deliveryReady (state bench (now costs) (now tables) (now sent) (now held) (now flight)) ≡ true) ⌝ }
-    ensures { λ r. ⌜ Makes (state bench (now (costs .entry)) (now (tables .entry)) (now (sent .entry)) (now (held .entry)) (now (flight .entry))) event (number (r .reply)) (state (r .bench) (now (costs .entry)) (now (tables .entry)) (now (sent .exit)) (now (held .exit)) (now (flight .exit))) ⌝ }
+    requires { ⌜ IsChange event × (deliveryReady (state bench (now costs) (now sent) (now held) (now flight)) ≡ true) ⌝ }
+    requires { ⌜ Tables bench (now costs) (now tables) (now known) ⌝ }
+    ensures { λ r. ⌜ Makes (state bench (now (costs .entry)) (now (sent .entry)) (now (held .entry)) (now (flight .entry))) event (number (r .reply)) (state (r .bench) (now (costs .entry)) (now (sent .exit)) (now (held .exit)) (now (flight .exit))) ⌝ }
+    ensures { λ r. ⌜ Tables bench (now (costs .entry)) (now (tables .exit)) (now (known .exit)) ⌝ }
 {
     match event {
         Event::Update(bridge, view) => {
             let y = bridge as usize;
             let t = view as usize;
-            changes::update_ready(bench, costs, tables, sent, held, y, t)
+            changes::update_ready(bench, costs, tables, known, sent, held, y, t)
         }
         Event::Send(bridge, link) => {
             messages::send_ready(bench, flight, bridge as usize, link as usize)
         }
         Event::Deliver(place) => {
             let p = place as usize;
-            by_reaction(messages::deliver_ready(bench, costs, tables, sent, held, flight, p))
+            by_reaction(messages::deliver_ready(bench, costs, tables, known, sent, held, flight, p))
         }
         Event::Repeat(place) => {
             let p = place as usize;
-            by_reaction(messages::repeat_ready(bench, costs, tables, sent, held, flight, p))
+            by_reaction(messages::repeat_ready(bench, costs, tables, known, sent, held, flight, p))
         }
         Event::Lose(place) => messages::lose_ready(bench, flight, place as usize),
         Event::Cut(link) => changes::cut_ready(bench, link as usize),
@@ -189,17 +192,18 @@ fn counted(calls: usize, used: usize) -> usize
 fn run_in_range(
     bench: Bench,
     costs: &[u32],
-    tables: &[u32],
     sent: &mut [u32],
     held: &mut [u32],
     flight: &mut [u32],
     rest: &[u8],
     ways: &mut [u32],
 ) -> Listed
-    requires { ⌜ deliveryReady (state bench (now costs) (now tables) (now sent) (now held) (now flight)) ≡ true ⌝ }
-    ensures { λ r. ⌜ (r .reply ≡ Reply.Done) × (ran (r .calls) (r .used) (state (r .bench) (now (costs .entry)) (now (tables .entry)) (now (sent .exit)) (now (held .exit)) (now (flight .exit))) (now (ways .exit)) ≡ runs (length (now (ways .entry)) / 3) (state bench (now (costs .entry)) (now (tables .entry)) (now (sent .entry)) (now (held .entry)) (now (flight .entry))) (now (rest .entry)) (now (ways .entry))) ⌝ }
+    requires { ⌜ deliveryReady (state bench (now costs) (now sent) (now held) (now flight)) ≡ true ⌝ }
+    ensures { λ r. ⌜ (r .reply ≡ Reply.Done) × (ran (r .calls) (r .used) (state (r .bench) (now (costs .entry)) (now (sent .exit)) (now (held .exit)) (now (flight .exit))) (now (ways .exit)) ≡ runs (length (now (ways .entry)) / 3) (state bench (now (costs .entry)) (now (sent .entry)) (now (held .entry)) (now (flight .entry))) (now (rest .entry)) (now (ways .entry))) ⌝ }
 {
     let most = ways.len() / 3;
+    let mut tables = [0u32; 8192];
+    let mut known = [false; 32];
     let mut current = bench;
     let mut calls = 0;
     let mut used = 0;
@@ -216,11 +220,29 @@ fn run_in_range(
                 let first = 3 * calls;
                 let past = first + 3;
                 let way = &mut ways[first..past];
-                let answer = answers::path_ready(current, costs, tables, sent, held, from, to);
+                let answer = answers::path_ready(
+                    current,
+                    costs,
+                    &mut tables,
+                    &mut known,
+                    sent,
+                    held,
+                    from,
+                    to,
+                );
                 taken = path_by(way, answer, size);
             }
             Next::Changes(event, size) => {
-                let done = make(current, costs, tables, sent, held, flight, event);
+                let done = make(
+                    current,
+                    costs,
+                    &mut tables,
+                    &mut known,
+                    sent,
+                    held,
+                    flight,
+                    event,
+                );
                 let after = done.bench;
                 let reply = done.reply;
                 current = after;
@@ -244,23 +266,15 @@ fn run_in_range(
 pub fn run(
     bench: Bench,
     costs: &[u32],
-    tables: &[u32],
     sent: &mut [u32],
     held: &mut [u32],
     messages: &mut [u32],
     rest: &[u8],
     ways: &mut [u32],
 ) -> Listed
-    ensures { λ r. ⌜ (listed (number (r .reply)) (ran (r .calls) (r .used) (state (r .bench) (now (costs .entry)) (now (tables .entry)) (now (sent .exit)) (now (held .exit)) (now (messages .exit))) (now (ways .exit))) ≡ listOf (state bench (now (costs .entry)) (now (tables .entry)) (now (sent .entry)) (now (held .entry)) (now (messages .entry))) (now (rest .entry)) (now (ways .entry))) × NoZero (r .reply) ⌝ }
+    ensures { λ r. ⌜ (listed (number (r .reply)) (ran (r .calls) (r .used) (state (r .bench) (now (costs .entry)) (now (sent .exit)) (now (held .exit)) (now (messages .exit))) (now (ways .exit))) ≡ listOf (state bench (now (costs .entry)) (now (sent .entry)) (now (held .entry)) (now (messages .entry))) (now (rest .entry)) (now (ways .entry))) × NoZero (r .reply) ⌝ }
 {
-    let in_range = ready::delivery_in_range(
-        bench,
-        costs,
-        tables.len(),
-        sent.len(),
-        held.len(),
-        messages,
-    );
+    let in_range = ready::delivery_in_range(bench, costs, sent.len(), held.len(), messages);
     if !in_range {
         return Listed {
             reply: Reply::Refused(17),
@@ -269,5 +283,5 @@ pub fn run(
             used: 0,
         };
     }
-    run_in_range(bench, costs, tables, sent, held, messages, rest, ways)
+    run_in_range(bench, costs, sent, held, messages, rest, ways)
 }

@@ -17,6 +17,7 @@ ghost use Rattle.bench.specs.State.{state};
 ghost use Rattle.bench.specs.Ranges.{benchInRange, messagesInRange};
 ghost use Rattle.bench.specs.Flights.{flown, sendOf, loseOf};
 ghost use Rattle.bench.specs.Deliveries.{reactionSays, delivered, deliveryReady, deliverOf, repeatOf};
+ghost use Rattle.bench.specs.Steps.{Tables};
 
 fn flight_in_range(bench: Bench, messages: &[u32]) -> bool
     ensures { λ r. ⌜ r ≡ (benchInRange bench && messagesInRange bench (now (messages .entry))) ⌝ }
@@ -104,46 +105,52 @@ pub(crate) fn lose_ready(bench: Bench, messages: &mut [u32], place: usize) -> Ch
 pub fn deliver(
     bench: Bench,
     costs: &[u32],
-    tables: &[u32],
     sent: &mut [u32],
     held: &mut [u32],
     messages: &mut [u32],
     place: usize,
 ) -> Delivered
-    ensures { λ r. ⌜ delivered (reactionSays (r .reply)) (r .bench) (now (sent .exit)) (now (held .exit)) (now (messages .exit)) ≡ deliverOf (state bench (now (costs .entry)) (now (tables .entry)) (now (sent .entry)) (now (held .entry)) (now (messages .entry))) place ⌝ }
+    ensures { λ r. ⌜ delivered (reactionSays (r .reply)) (r .bench) (now (sent .exit)) (now (held .exit)) (now (messages .exit)) ≡ deliverOf (state bench (now (costs .entry)) (now (sent .entry)) (now (held .entry)) (now (messages .entry))) place ⌝ }
 {
-    let in_range = ready::delivery_in_range(
-        bench,
-        costs,
-        tables.len(),
-        sent.len(),
-        held.len(),
-        messages,
-    );
+    let in_range = ready::delivery_in_range(bench, costs, sent.len(), held.len(), messages);
     if !in_range {
         return refused_delivery(17, bench);
     }
-    deliver_ready(bench, costs, tables, sent, held, messages, place)
+    let mut tables = [0u32; 8192];
+    let mut known = [false; 32];
+    deliver_ready(
+        bench,
+        costs,
+        &mut tables,
+        &mut known,
+        sent,
+        held,
+        messages,
+        place,
+    )
 }
 
 // `deliver` of what is in range.
 pub(crate) fn deliver_ready(
     bench: Bench,
     costs: &[u32],
-    tables: &[u32],
+    tables: &mut [u32],
+    known: &mut [bool],
     sent: &mut [u32],
     held: &mut [u32],
     messages: &mut [u32],
     place: usize,
 ) -> Delivered
-    requires { ⌜ deliveryReady (state bench (now costs) (now tables) (now sent) (now held) (now messages)) ≡ true ⌝ }
-    ensures { λ r. ⌜ delivered (reactionSays (r .reply)) (r .bench) (now (sent .exit)) (now (held .exit)) (now (messages .exit)) ≡ deliverOf (state bench (now (costs .entry)) (now (tables .entry)) (now (sent .entry)) (now (held .entry)) (now (messages .entry))) place ⌝ }
+    requires { ⌜ deliveryReady (state bench (now costs) (now sent) (now held) (now messages)) ≡ true ⌝ }
+    requires { ⌜ Tables bench (now costs) (now tables) (now known) ⌝ }
+    ensures { λ r. ⌜ delivered (reactionSays (r .reply)) (r .bench) (now (sent .exit)) (now (held .exit)) (now (messages .exit)) ≡ deliverOf (state bench (now (costs .entry)) (now (sent .entry)) (now (held .entry)) (now (messages .entry))) place ⌝ }
+    ensures { λ r. ⌜ Tables bench (now (costs .entry)) (now (tables .exit)) (now (known .exit)) ⌝ }
 {
     let refusal = refusals::deliver_refusal(bench, messages, place);
     if refusal != 0 {
         return refused_delivery(refusal, bench);
     }
-    let taken = receive_at(bench, costs, tables, sent, held, messages, place);
+    let taken = receive_at(bench, costs, tables, known, sent, held, messages, place);
     let count = bench.messages;
     flights::take_out(messages, count, place);
     let reply = taken.reply;
@@ -158,44 +165,50 @@ pub(crate) fn deliver_ready(
 pub fn repeat(
     bench: Bench,
     costs: &[u32],
-    tables: &[u32],
     sent: &mut [u32],
     held: &mut [u32],
     messages: &[u32],
     place: usize,
 ) -> Delivered
-    ensures { λ r. ⌜ delivered (reactionSays (r .reply)) (r .bench) (now (sent .exit)) (now (held .exit)) (now (messages .entry)) ≡ repeatOf (state bench (now (costs .entry)) (now (tables .entry)) (now (sent .entry)) (now (held .entry)) (now (messages .entry))) place ⌝ }
+    ensures { λ r. ⌜ delivered (reactionSays (r .reply)) (r .bench) (now (sent .exit)) (now (held .exit)) (now (messages .entry)) ≡ repeatOf (state bench (now (costs .entry)) (now (sent .entry)) (now (held .entry)) (now (messages .entry))) place ⌝ }
 {
-    let in_range = ready::delivery_in_range(
-        bench,
-        costs,
-        tables.len(),
-        sent.len(),
-        held.len(),
-        messages,
-    );
+    let in_range = ready::delivery_in_range(bench, costs, sent.len(), held.len(), messages);
     if !in_range {
         return refused_delivery(17, bench);
     }
-    repeat_ready(bench, costs, tables, sent, held, messages, place)
+    let mut tables = [0u32; 8192];
+    let mut known = [false; 32];
+    repeat_ready(
+        bench,
+        costs,
+        &mut tables,
+        &mut known,
+        sent,
+        held,
+        messages,
+        place,
+    )
 }
 
 // `repeat` of what is in range.
 pub(crate) fn repeat_ready(
     bench: Bench,
     costs: &[u32],
-    tables: &[u32],
+    tables: &mut [u32],
+    known: &mut [bool],
     sent: &mut [u32],
     held: &mut [u32],
     messages: &[u32],
     place: usize,
 ) -> Delivered
-    requires { ⌜ deliveryReady (state bench (now costs) (now tables) (now sent) (now held) (now messages)) ≡ true ⌝ }
-    ensures { λ r. ⌜ delivered (reactionSays (r .reply)) (r .bench) (now (sent .exit)) (now (held .exit)) (now (messages .entry)) ≡ repeatOf (state bench (now (costs .entry)) (now (tables .entry)) (now (sent .entry)) (now (held .entry)) (now (messages .entry))) place ⌝ }
+    requires { ⌜ deliveryReady (state bench (now costs) (now sent) (now held) (now messages)) ≡ true ⌝ }
+    requires { ⌜ Tables bench (now costs) (now tables) (now known) ⌝ }
+    ensures { λ r. ⌜ delivered (reactionSays (r .reply)) (r .bench) (now (sent .exit)) (now (held .exit)) (now (messages .entry)) ≡ repeatOf (state bench (now (costs .entry)) (now (sent .entry)) (now (held .entry)) (now (messages .entry))) place ⌝ }
+    ensures { λ r. ⌜ Tables bench (now (costs .entry)) (now (tables .exit)) (now (known .exit)) ⌝ }
 {
     let refusal = refusals::deliver_refusal(bench, messages, place);
     if refusal != 0 {
         return refused_delivery(refusal, bench);
     }
-    receive_at(bench, costs, tables, sent, held, messages, place)
+    receive_at(bench, costs, tables, known, sent, held, messages, place)
 }

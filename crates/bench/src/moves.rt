@@ -7,6 +7,7 @@ ghost use lib.ListN.{length, getD};
 ghost use Rattle.agreement.specs.Call.{lent};
 ghost use Rattle.bench.specs.Changes.{ended, movedEnd, ends, movedEnds, rewritten, movedBench};
 ghost use Rattle.bench.specs.State.{lentView};
+ghost use Rattle.bench.specs.Steps.{IsFilled};
 
 // An end, if it is the bridge's: its record and its rows as layer 2 updates them.
 fn move_end(
@@ -92,7 +93,8 @@ pub(crate) fn moved(
     held: &mut [u32],
 ) -> Bench
     requires { ⌜ (bench .links ≤ 32) × (bridge < 16) × (view < 32) × (1024 ≤ length (now costs)) × (8192 ≤ length (now tables)) × (getD (bench .number) bridge 0 < 65535) ⌝ }
-    ensures { λ r. ⌜ rewritten 0 r (now (sent .exit)) (now (held .exit)) ≡ movedBench bench bridge view (movedEnds (lentView bench (now (costs .entry)) (now (tables .entry)) view) (bench .views) bridge view (2 * bench .links) (ends (bench .records) (now (sent .entry)) (now (held .entry)))) ⌝ }
+    requires { ⌜ IsFilled bench (now costs) (now tables) view ⌝ }
+    ensures { λ r. ⌜ rewritten 0 r (now (sent .exit)) (now (held .exit)) ≡ movedBench bench bridge view (movedEnds (lentView bench (now (costs .entry)) view) (bench .views) bridge view (2 * bench .links) (ends (bench .records) (now (sent .entry)) (now (held .entry)))) ⌝ }
 {
     let row = 32 * view;
     let row_past = row + 32;

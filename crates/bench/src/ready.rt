@@ -8,7 +8,7 @@ ghost use lib.ListN.{length, getD};
 ghost use lib.Dec.{ltb};
 ghost use Rattle.distances.specs.Call.{costsPass, allBelow};
 ghost use Rattle.bench.specs.State.{part};
-ghost use Rattle.bench.specs.Ranges.{graphInRange, benchInRange, costsInRange, tablesLong, messagePasses, messagesInRange, networkInRange};
+ghost use Rattle.bench.specs.Ranges.{graphInRange, benchInRange, costsInRange, limitsLong, messagePasses, messagesInRange, networkInRange};
 
 pub(crate) fn graph_in_range(bench: Bench) -> bool
     ensures { λ r. ⌜ r ≡ graphInRange bench ⌝ }
@@ -69,45 +69,27 @@ fn costs_in_range(bench: Bench, costs: &[u32]) -> bool
     ok
 }
 
-fn tables_long(tables: usize, sent: usize, held: usize) -> bool
-    ensures { λ r. ⌜ r ≡ tablesLong tables sent held ⌝ }
+fn limits_long(sent: usize, held: usize) -> bool
+    ensures { λ r. ⌜ r ≡ limitsLong sent held ⌝ }
 {
-    both(8192 <= tables, both(1024 <= sent, 1024 <= held))
+    both(1024 <= sent, 1024 <= held)
 }
 
-pub(crate) fn plan_in_range(
-    bench: Bench,
-    costs: &[u32],
-    tables: usize,
-    sent: usize,
-    held: usize,
-) -> bool
-    ensures { λ r. ⌜ r ≡ (graphInRange bench && (costsInRange bench (now (costs .entry)) && tablesLong tables sent held)) ⌝ }
+pub(crate) fn plan_in_range(bench: Bench, costs: &[u32], sent: usize, held: usize) -> bool
+    ensures { λ r. ⌜ r ≡ (graphInRange bench && (costsInRange bench (now (costs .entry)) && limitsLong sent held)) ⌝ }
 {
     if graph_in_range(bench) {
-        both(
-            costs_in_range(bench, costs),
-            tables_long(tables, sent, held),
-        )
+        both(costs_in_range(bench, costs), limits_long(sent, held))
     } else {
         false
     }
 }
 
-pub(crate) fn network_in_range(
-    bench: Bench,
-    costs: &[u32],
-    tables: usize,
-    sent: usize,
-    held: usize,
-) -> bool
-    ensures { λ r. ⌜ r ≡ networkInRange bench (now (costs .entry)) tables sent held ⌝ }
+pub(crate) fn network_in_range(bench: Bench, costs: &[u32], sent: usize, held: usize) -> bool
+    ensures { λ r. ⌜ r ≡ networkInRange bench (now (costs .entry)) sent held ⌝ }
 {
     if bench_in_range(bench) {
-        both(
-            costs_in_range(bench, costs),
-            tables_long(tables, sent, held),
-        )
+        both(costs_in_range(bench, costs), limits_long(sent, held))
     } else {
         false
     }
@@ -167,14 +149,13 @@ pub(crate) fn messages_in_range(bench: Bench, messages: &[u32]) -> bool
 pub(crate) fn delivery_in_range(
     bench: Bench,
     costs: &[u32],
-    tables: usize,
     sent: usize,
     held: usize,
     messages: &[u32],
 ) -> bool
-    ensures { λ r. ⌜ r ≡ (networkInRange bench (now (costs .entry)) tables sent held && messagesInRange bench (now (messages .entry))) ⌝ }
+    ensures { λ r. ⌜ r ≡ (networkInRange bench (now (costs .entry)) sent held && messagesInRange bench (now (messages .entry))) ⌝ }
 {
-    if network_in_range(bench, costs, tables, sent, held) {
+    if network_in_range(bench, costs, sent, held) {
         messages_in_range(bench, messages)
     } else {
         false

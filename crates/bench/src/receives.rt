@@ -2,6 +2,7 @@
 use crate::Bench;
 use crate::Delivered;
 use crate::Reaction;
+use crate::tables::need_view;
 use agreement::Agreement;
 use agreement::calls::deliver_end;
 use agreement::ready::opposite_end;
@@ -9,12 +10,12 @@ ghost use mathlib.Core.Path.{_≡_};
 ghost use mathlib.Core.Bool.{true};
 ghost use mathlib.Core.List.{[]};
 ghost use Prim.Native.Nat.{_*_, _≤_, _<_};
-ghost use lib.ListN.{length};
+ghost use lib.ListN.{length, getD};
 ghost use Rattle.agreement.specs.Call.{reactionSays as agreementSays};
 ghost use Rattle.bench.specs.State.{state};
 ghost use Rattle.bench.specs.Ranges.{messageInRange};
 ghost use Rattle.bench.specs.Deliveries.{reactionSays, delivered, receivedAt, received};
-ghost use Rattle.bench.specs.Steps.{Ready};
+ghost use Rattle.bench.specs.Steps.{Ready, IsFilled, Tables};
 
 // What layer 2's reply is here.
 fn reaction_of(reply: agreement::Reaction) -> Reaction
@@ -36,9 +37,10 @@ fn receive(
     end: usize,
     message: Agreement,
 ) -> Delivered
-    requires { ⌜ Ready bench (now costs) (now tables) ⌝ }
-    requires { ⌜ end < 2 * bench .links ⌝ }
-    ensures { λ r. ⌜ delivered (reactionSays (r .reply)) (r .bench) (now (sent .exit)) (now (held .exit)) [] ≡ receivedAt (state bench (now (costs .entry)) (now (tables .entry)) (now (sent .entry)) (now (held .entry)) []) end message ⌝ }
+    requires { ⌜ Ready bench (now costs) ⌝ }
+    requires { ⌜ (end < 2 * bench .links) × (8192 ≤ length (now tables)) ⌝ }
+    requires { ⌜ IsFilled bench (now costs) (now tables) (getD (bench .view) (getD (bench .ends) end 0) 0) ⌝ }
+    ensures { λ r. ⌜ delivered (reactionSays (r .reply)) (r .bench) (now (sent .exit)) (now (held .exit)) [] ≡ receivedAt (state bench (now (costs .entry)) (now (sent .entry)) (now (held .entry)) []) end message ⌝ }
 {
     let places = bench.ends;
     let bridge = bench.ends[end] as usize;
@@ -76,30 +78,29 @@ fn receive(
 pub(crate) fn receive_at(
     bench: Bench,
     costs: &[u32],
-    tables: &[u32],
+    tables: &mut [u32],
+    known: &mut [bool],
     sent: &mut [u32],
     held: &mut [u32],
     messages: &[u32],
     place: usize,
 ) -> Delivered
-    requires { ⌜ Ready bench (now costs) (now tables) ⌝ }
+    requires { ⌜ Ready bench (now costs) ⌝ }
     requires { ⌜ (place < 64) × (320 ≤ length (now messages)) × (messageInRange bench (now messages) place ≡ true) ⌝ }
-    ensures { λ r. ⌜ delivered (reactionSays (r .reply)) (r .bench) (now (sent .exit)) (now (held .exit)) (now (messages .entry)) ≡ received (state bench (now (costs .entry)) (now (tables .entry)) (now (sent .entry)) (now (held .entry)) (now (messages .entry))) place ⌝ }
+    requires { ⌜ Tables bench (now costs) (now tables) (now known) ⌝ }
+    ensures { λ r. ⌜ delivered (reactionSays (r .reply)) (r .bench) (now (sent .exit)) (now (held .exit)) (now (messages .entry)) ≡ received (state bench (now (costs .entry)) (now (sent .entry)) (now (held .entry)) (now (messages .entry))) place ⌝ }
+    ensures { λ r. ⌜ Tables bench (now (costs .entry)) (now (tables .exit)) (now (known .exit)) ⌝ }
 {
     let at = 5 * place;
     let from = 2 * (messages[at] as usize) + messages[at + 1] as usize;
+    let end = opposite_end(from);
+    let bridge = bench.ends[end] as usize;
+    let view = bench.view[bridge] as usize;
+    need_view(bench, costs, view, tables, known);
     let message = Agreement {
         view: messages[at + 2] as u8,
         number: messages[at + 3] as u16,
         discarded: messages[at + 4] as u16,
     };
-    receive(
-        bench,
-        costs,
-        tables,
-        sent,
-        held,
-        opposite_end(from),
-        message,
-    )
+    receive(bench, costs, tables, sent, held, end, message)
 }

@@ -1,46 +1,9 @@
 // The parts of a fresh network.
 use crate::Bench;
 ghost use mathlib.Core.Path.{_≡_};
-ghost use Prim.Native.Nat.{_*_, _≤_, _<_};
-ghost use lib.ListN.{length};
+ghost use Prim.Native.Nat.{_*_, _≤_};
 ghost use Rattle.agreement.specs.Call.{lent};
-ghost use Rattle.bench.specs.Changes.{filledView, filledTables, limits, startedEnds, freshBench};
-
-fn fill_view(
-    bridges: usize,
-    links: usize,
-    ends: &[u8],
-    costs: &[u32],
-    tables: &mut [u32],
-    view: usize,
-)
-    requires { ⌜ (view < 32) × (1024 ≤ length (now costs)) × (8192 ≤ length (now tables)) ⌝ }
-    ensures { λ r. ⌜ now (tables .exit) ≡ filledView bridges links (now (ends .entry)) (now (costs .entry)) view (now (tables .entry)) ⌝ }
-{
-    let row = 32 * view;
-    let row_past = row + 32;
-    let block = 256 * view;
-    let block_past = block + 256;
-    distances::distances(
-        bridges,
-        links,
-        ends,
-        &costs[row..row_past],
-        &mut tables[block..block_past],
-    );
-}
-
-pub(crate) fn fill_tables(bench: Bench, costs: &[u32], tables: &mut [u32])
-    requires { ⌜ (bench .views ≤ 32) × (1024 ≤ length (now costs)) × (8192 ≤ length (now tables)) ⌝ }
-    ensures { λ r. ⌜ now (tables .exit) ≡ filledTables (bench .bridges) (bench .links) (bench .ends) (now (costs .entry)) (bench .views) (now (tables .entry)) ⌝ }
-{
-    let places = bench.ends;
-    let mut t = 0;
-    while t < bench.views {
-        fill_view(bench.bridges, bench.links, &places, costs, tables, t);
-        t += 1;
-    }
-}
+ghost use Rattle.bench.specs.Changes.{limits, startedEnds, freshBench};
 
 pub(crate) fn start_ends(
     bench: Bench,

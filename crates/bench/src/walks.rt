@@ -2,6 +2,8 @@
 use crate::Bench;
 use crate::Hop;
 use crate::Way;
+use crate::tables::need_view;
+use crate::tables::need_views;
 use agreement::Choice;
 use agreement::Chosen;
 use agreement::Port;
@@ -22,7 +24,7 @@ ghost use Rattle.bench.specs.State.{state};
 ghost use Rattle.bench.specs.Ports.{across};
 ghost use Rattle.bench.specs.Paths.{onward, delivered, stops};
 ghost use Rattle.bench.specs.Answers.{portIn, linkNumber, reported, hopIn, waySays};
-ghost use Rattle.bench.specs.Steps.{PortsReady, AreChoices, hopSays};
+ghost use Rattle.bench.specs.Steps.{PortsReady, IsFilled, AllFilled, Tables, AreChoices, hopSays};
 
 // The choice with one end more.
 fn choice_with(
@@ -56,8 +58,8 @@ fn found_port(choice: Choice) -> Port
     }
 }
 
-// The port of a bridge in its own view. Only plain numbers go to the calls of the loop: the bench is long to copy.
-pub(crate) fn port_at(
+// The port of a bridge in its own view, whose distances are there. Only plain numbers go to the calls of the loop: the bench is long to copy.
+fn port_at(
     bench: Bench,
     costs: &[u32],
     tables: &[u32],
@@ -66,9 +68,10 @@ pub(crate) fn port_at(
     bridge: usize,
     dest: usize,
 ) -> Port
-    requires { ⌜ PortsReady bench (now costs) (now tables) (now sent) (now held) ⌝ }
-    requires { ⌜ (bridge < bench .bridges) × (dest < bench .bridges) ⌝ }
-    ensures { λ r. ⌜ r ≡ portIn (state bench (now (costs .entry)) (now (tables .entry)) (now (sent .entry)) (now (held .entry)) []) bridge dest ⌝ }
+    requires { ⌜ PortsReady bench (now costs) (now sent) (now held) ⌝ }
+    requires { ⌜ (bridge < bench .bridges) × (dest < bench .bridges) × (8192 ≤ length (now tables)) ⌝ }
+    requires { ⌜ IsFilled bench (now costs) (now tables) (getD (bench .view) bridge 0) ⌝ }
+    ensures { λ r. ⌜ r ≡ portIn (state bench (now (costs .entry)) (now (sent .entry)) (now (held .entry)) []) bridge dest ⌝ }
 {
     let view = bench.view[bridge] as usize;
     let mut choice = first_choice(tables[256 * view + 16 * bridge + dest], bridge == dest);
@@ -94,6 +97,27 @@ pub(crate) fn port_at(
     found_port(choice)
 }
 
+// The port of a bridge in its own view.
+pub(crate) fn port_of(
+    bench: Bench,
+    costs: &[u32],
+    tables: &mut [u32],
+    known: &mut [bool],
+    sent: &[u32],
+    held: &[u32],
+    bridge: usize,
+    dest: usize,
+) -> Port
+    requires { ⌜ PortsReady bench (now costs) (now sent) (now held) ⌝ }
+    requires { ⌜ (bridge < bench .bridges) × (dest < bench .bridges) × Tables bench (now costs) (now tables) (now known) ⌝ }
+    ensures { λ r. ⌜ r ≡ portIn (state bench (now (costs .entry)) (now (sent .entry)) (now (held .entry)) []) bridge dest ⌝ }
+    ensures { λ r. ⌜ Tables bench (now (costs .entry)) (now (tables .exit)) (now (known .exit)) ⌝ }
+{
+    let view = bench.view[bridge] as usize;
+    need_view(bench, costs, view, tables, known);
+    port_at(bench, costs, tables, sent, held, bridge, dest)
+}
+
 fn link_number(port: Port) -> u32
     ensures { λ r. ⌜ r ≡ linkNumber port ⌝ }
 {
@@ -106,7 +130,7 @@ fn link_number(port: Port) -> u32
 // The choice of each bridge before any end.
 fn first_choices(bench: Bench, tables: &[u32], dest: usize) -> [Choice; 16]
     requires { ⌜ (bench .bridges ≤ 16) × (8192 ≤ length (now tables)) × (dest < bench .bridges) × ((y : ℕ) → y < bench .bridges → getD (bench .view) y 0 < 32) ⌝ }
-    ensures { λ r. ⌜ ((costs sent held : List ℕ) → AreChoices (state bench costs (now (tables .entry)) sent held []) dest 0 (bench .bridges) r) ⌝ }
+    ensures { λ r. ⌜ ((costs sent held : List ℕ) → AllFilled bench costs (now (tables .entry)) → AreChoices (state bench costs sent held []) dest 0 (bench .bridges) r) ⌝ }
 {
     let none = first_choice(0, true);
     let mut choices = [none; 16];
@@ -128,9 +152,9 @@ fn all_choices(
     held: &[u32],
     dest: usize,
 ) -> [Choice; 16]
-    requires { ⌜ PortsReady bench (now costs) (now tables) (now sent) (now held) ⌝ }
-    requires { ⌜ dest < bench .bridges ⌝ }
-    ensures { λ r. ⌜ AreChoices (state bench (now (costs .entry)) (now (tables .entry)) (now (sent .entry)) (now (held .entry)) []) dest (2 * bench .links) (bench .bridges) r ⌝ }
+    requires { ⌜ PortsReady bench (now costs) (now sent) (now held) ⌝ }
+    requires { ⌜ (dest < bench .bridges) × (8192 ≤ length (now tables)) × AllFilled bench (now costs) (now tables) ⌝ }
+    ensures { λ r. ⌜ AreChoices (state bench (now (costs .entry)) (now (sent .entry)) (now (held .entry)) []) dest (2 * bench .links) (bench .bridges) r ⌝ }
 {
     let mut choices = first_choices(bench, tables, dest);
     let mut e = 0;
@@ -165,16 +189,19 @@ fn report_row(rows: &mut [u32], bridge: usize, choice: Choice)
 pub(crate) fn report_rows(
     bench: Bench,
     costs: &[u32],
-    tables: &[u32],
+    tables: &mut [u32],
+    known: &mut [bool],
     sent: &[u32],
     held: &[u32],
     dest: usize,
     rows: &mut [u32],
 )
-    requires { ⌜ PortsReady bench (now costs) (now tables) (now sent) (now held) ⌝ }
-    requires { ⌜ (dest < bench .bridges) × (32 ≤ length (now rows)) ⌝ }
-    ensures { λ r. ⌜ now (rows .exit) ≡ reported (state bench (now (costs .entry)) (now (tables .entry)) (now (sent .entry)) (now (held .entry)) []) dest (bench .bridges) (now (rows .entry)) ⌝ }
+    requires { ⌜ PortsReady bench (now costs) (now sent) (now held) ⌝ }
+    requires { ⌜ (dest < bench .bridges) × (32 ≤ length (now rows)) × Tables bench (now costs) (now tables) (now known) ⌝ }
+    ensures { λ r. ⌜ now (rows .exit) ≡ reported (state bench (now (costs .entry)) (now (sent .entry)) (now (held .entry)) []) dest (bench .bridges) (now (rows .entry)) ⌝ }
+    ensures { λ r. ⌜ Tables bench (now (costs .entry)) (now (tables .exit)) (now (known .exit)) ⌝ }
 {
+    need_views(bench, costs, tables, known);
     let choices = all_choices(bench, costs, tables, sent, held, dest);
     let mut y = 0;
     while y < bench.bridges {
@@ -197,17 +224,19 @@ fn across_link(bench: Bench, link: usize, bridge: usize) -> usize
 fn hop_at(
     bench: Bench,
     costs: &[u32],
-    tables: &[u32],
+    tables: &mut [u32],
+    known: &mut [bool],
     sent: &[u32],
     held: &[u32],
     dest: usize,
     bridge: usize,
 ) -> Hop
-    requires { ⌜ PortsReady bench (now costs) (now tables) (now sent) (now held) ⌝ }
-    requires { ⌜ (bridge < bench .bridges) × (dest < bench .bridges) ⌝ }
-    ensures { λ r. ⌜ hopSays r ≡ hopIn (state bench (now (costs .entry)) (now (tables .entry)) (now (sent .entry)) (now (held .entry)) []) dest bridge ⌝ }
+    requires { ⌜ PortsReady bench (now costs) (now sent) (now held) ⌝ }
+    requires { ⌜ (bridge < bench .bridges) × (dest < bench .bridges) × Tables bench (now costs) (now tables) (now known) ⌝ }
+    ensures { λ r. ⌜ hopSays r ≡ hopIn (state bench (now (costs .entry)) (now (sent .entry)) (now (held .entry)) []) dest bridge ⌝ }
+    ensures { λ r. ⌜ Tables bench (now (costs .entry)) (now (tables .exit)) (now (known .exit)) ⌝ }
 {
-    let port = port_at(bench, costs, tables, sent, held, bridge, dest);
+    let port = port_of(bench, costs, tables, known, sent, held, bridge, dest);
     match port {
         Port::Closed => Hop::Stays,
         Port::Open(link) => Hop::Crosses(link as usize, across_link(bench, link as usize, bridge)),
@@ -227,15 +256,17 @@ fn end_of_walk(dest: usize, last: usize, hops: usize) -> Way
 pub(crate) fn walk(
     bench: Bench,
     costs: &[u32],
-    tables: &[u32],
+    tables: &mut [u32],
+    known: &mut [bool],
     sent: &[u32],
     held: &[u32],
     start: usize,
     dest: usize,
 ) -> Way
-    requires { ⌜ PortsReady bench (now costs) (now tables) (now sent) (now held) ⌝ }
-    requires { ⌜ (start < bench .bridges) × (dest < bench .bridges) ⌝ }
-    ensures { λ r. ⌜ waySays r ≡ says (onward (hopIn (state bench (now (costs .entry)) (now (tables .entry)) (now (sent .entry)) (now (held .entry)) []) dest) dest (bench .bridges - 1) 0 start) ⌝ }
+    requires { ⌜ PortsReady bench (now costs) (now sent) (now held) ⌝ }
+    requires { ⌜ (start < bench .bridges) × (dest < bench .bridges) × Tables bench (now costs) (now tables) (now known) ⌝ }
+    ensures { λ r. ⌜ waySays r ≡ says (onward (hopIn (state bench (now (costs .entry)) (now (sent .entry)) (now (held .entry)) []) dest) dest (bench .bridges - 1) 0 start) ⌝ }
+    ensures { λ r. ⌜ Tables bench (now (costs .entry)) (now (tables .exit)) (now (known .exit)) ⌝ }
 {
     let mut last = start;
     let mut hops = 0;
@@ -243,7 +274,8 @@ pub(crate) fn walk(
         if last == dest {
             return Way::Delivered(hops);
         }
-        let Hop::Crosses(_, next) = hop_at(bench, costs, tables, sent, held, dest, last) else {
+        let Hop::Crosses(_, next) = hop_at(bench, costs, tables, known, sent, held, dest, last)
+        else {
             return Way::Stops(last, hops);
         };
         last = next;

@@ -22,7 +22,7 @@ listedTold xs out o =
     ∷ o .ran .ways
     ∷ [])
 
-unfoldable pub netRunTold : List ℕ → List ℕ → List ℕ → List ℕ → List ℕ → List ℕ → List ℕ → List ℕ → List ℕ → Told
-netRunTold xs costs tables sent held messages rest ways out =
+unfoldable pub netRunTold : List ℕ → List ℕ → List ℕ → List ℕ → List ℕ → List ℕ → List ℕ → List ℕ → Told
+netRunTold xs costs sent held messages rest ways out =
     ifLong (holdsBench xs && leb 2 (length out)) (xs ∷ out ∷ sent ∷ held ∷ messages ∷ ways ∷ [])
-    (listedTold xs out (listOf (state (benchIn xs) costs tables sent held messages) rest ways))
+    (listedTold xs out (listOf (state (benchIn xs) costs sent held messages) rest ways))

@@ -14,7 +14,7 @@ use Rattle.agreement.specs.declared.Answer.{Answer}
 use Rattle.bench.specs.declared.Bench.{Bench}
 use Rattle.bench.specs.Paths as paths
 use Rattle.bench.specs.State.{State, state}
-use Rattle.bench.specs.Changes.{Changed, Rewritten, Started, freshOf, updateOf, cutOf, restoreOf}
+use Rattle.bench.specs.Changes.{Changed, Rewritten, freshOf, updateOf, cutOf, restoreOf}
 use Rattle.bench.specs.Flights.{Flown, sendOf, loseOf}
 use Rattle.bench.specs.Deliveries.{Delivered, deliverOf, repeatOf}
 use Rattle.bench.specs.Answers.{Reported, portOf, reportOf, pathOf}
@@ -83,9 +83,6 @@ changedTold xs o = told (o .reply) (withBench (o .reply) (o .bench) xs ∷ [])
 abbrev pub rewrittenTold : List ℕ → Rewritten → Told
 rewrittenTold xs o = told (o .reply) (withBench (o .reply) (o .bench) xs ∷ o .sent ∷ o .held ∷ [])
 
-abbrev pub startedTold : List ℕ → Started → Told
-startedTold xs o = told (o .reply) (withBench (o .reply) (o .bench) xs ∷ o .tables ∷ o .sent ∷ o .held ∷ [])
-
 abbrev pub flownTold : List ℕ → Flown → Told
 flownTold xs o = told (o .reply) (withBench (o .reply) (o .bench) xs ∷ o .messages ∷ [])
 
@@ -113,13 +110,13 @@ abbrev pub wayNumbers : paths.Way → List ℕ
 wayNumbers (paths.delivered hops) = 0 ∷ 0 ∷ low hops ∷ []
 wayNumbers (paths.stops last hops) = 1 ∷ low last ∷ low hops ∷ []
 
-unfoldable pub netFreshTold : List ℕ → List ℕ → List ℕ → List ℕ → List ℕ → Told
-netFreshTold xs costs tables sent held =
-    ifLong (holdsBench xs) (xs ∷ tables ∷ sent ∷ held ∷ []) (startedTold xs (freshOf (benchIn xs) costs tables sent held))
+unfoldable pub netFreshTold : List ℕ → List ℕ → List ℕ → List ℕ → Told
+netFreshTold xs costs sent held =
+    ifLong (holdsBench xs) (xs ∷ sent ∷ held ∷ []) (rewrittenTold xs (freshOf (benchIn xs) costs sent held))
 
-unfoldable pub netUpdateTold : List ℕ → List ℕ → List ℕ → List ℕ → List ℕ → ℕ → ℕ → Told
-netUpdateTold xs costs tables sent held y t =
-    ifLong (holdsBench xs) (xs ∷ sent ∷ held ∷ []) (rewrittenTold xs (updateOf (state (benchIn xs) costs tables sent held []) y t))
+unfoldable pub netUpdateTold : List ℕ → List ℕ → List ℕ → List ℕ → ℕ → ℕ → Told
+netUpdateTold xs costs sent held y t =
+    ifLong (holdsBench xs) (xs ∷ sent ∷ held ∷ []) (rewrittenTold xs (updateOf (state (benchIn xs) costs sent held []) y t))
 
 unfoldable pub netCutTold : List ℕ → ℕ → Told
 netCutTold xs l = ifLong (holdsBench xs) (xs ∷ []) (changedTold xs (cutOf (benchIn xs) l))
@@ -138,24 +135,24 @@ abbrev pub netDeliveryTold : (State → ℕ → Delivered) → State → List �
 netDeliveryTold call s xs out p =
     ifLong (holdsBench xs && leb 3 (length out)) (xs ∷ out ∷ s .sent ∷ s .held ∷ s .messages ∷ []) (deliveredTold xs out (call s p))
 
-unfoldable pub netDeliverTold : List ℕ → List ℕ → List ℕ → List ℕ → List ℕ → List ℕ → List ℕ → ℕ → Told
-netDeliverTold xs costs tables sent held messages out p =
-    netDeliveryTold deliverOf (state (benchIn xs) costs tables sent held messages) xs out p
+unfoldable pub netDeliverTold : List ℕ → List ℕ → List ℕ → List ℕ → List ℕ → List ℕ → ℕ → Told
+netDeliverTold xs costs sent held messages out p =
+    netDeliveryTold deliverOf (state (benchIn xs) costs sent held messages) xs out p
 
-unfoldable pub netRepeatTold : List ℕ → List ℕ → List ℕ → List ℕ → List ℕ → List ℕ → List ℕ → ℕ → Told
-netRepeatTold xs costs tables sent held messages out p =
-    netDeliveryTold repeatOf (state (benchIn xs) costs tables sent held messages) xs out p
+unfoldable pub netRepeatTold : List ℕ → List ℕ → List ℕ → List ℕ → List ℕ → List ℕ → ℕ → Told
+netRepeatTold xs costs sent held messages out p =
+    netDeliveryTold repeatOf (state (benchIn xs) costs sent held messages) xs out p
 
-unfoldable pub netPortTold : List ℕ → List ℕ → List ℕ → List ℕ → List ℕ → ℕ → ℕ → List ℕ → Told
-netPortTold xs costs tables sent held y d out =
+unfoldable pub netPortTold : List ℕ → List ℕ → List ℕ → List ℕ → ℕ → ℕ → List ℕ → Told
+netPortTold xs costs sent held y d out =
     ifLong (holdsBench xs && leb 1 (length out)) (out ∷ [])
-    (saidTold portNumbers out (portOf (state (benchIn xs) costs tables sent held []) y d))
+    (saidTold portNumbers out (portOf (state (benchIn xs) costs sent held []) y d))
 
-unfoldable pub netReportTold : List ℕ → List ℕ → List ℕ → List ℕ → List ℕ → ℕ → List ℕ → Told
-netReportTold xs costs tables sent held d rows =
-    ifLong (holdsBench xs) (rows ∷ []) (reportedTold (reportOf (state (benchIn xs) costs tables sent held []) d rows))
+unfoldable pub netReportTold : List ℕ → List ℕ → List ℕ → List ℕ → ℕ → List ℕ → Told
+netReportTold xs costs sent held d rows =
+    ifLong (holdsBench xs) (rows ∷ []) (reportedTold (reportOf (state (benchIn xs) costs sent held []) d rows))
 
-unfoldable pub netPathTold : List ℕ → List ℕ → List ℕ → List ℕ → List ℕ → ℕ → ℕ → List ℕ → Told
-netPathTold xs costs tables sent held y d out =
+unfoldable pub netPathTold : List ℕ → List ℕ → List ℕ → List ℕ → ℕ → ℕ → List ℕ → Told
+netPathTold xs costs sent held y d out =
     ifLong (holdsBench xs && leb 3 (length out)) (out ∷ [])
-    (saidTold wayNumbers out (pathOf (state (benchIn xs) costs tables sent held []) y d))
+    (saidTold wayNumbers out (pathOf (state (benchIn xs) costs sent held []) y d))

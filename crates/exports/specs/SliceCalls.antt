@@ -28,12 +28,12 @@ sliceSendTold xs messages y l = ifLong (isWhole messages) (xs ∷ messages ∷ [
 unfoldable pub sliceLoseTold : List ℕ → List ℕ → ℕ → Told
 sliceLoseTold xs messages p = ifLong (isWhole messages) (xs ∷ messages ∷ []) (overFirst messages (λ m. netLoseTold xs m p))
 
-unfoldable pub sliceDeliverTold : List ℕ → List ℕ → List ℕ → List ℕ → List ℕ → List ℕ → List ℕ → ℕ → Told
-sliceDeliverTold xs costs tables sent held messages out p =
+unfoldable pub sliceDeliverTold : List ℕ → List ℕ → List ℕ → List ℕ → List ℕ → List ℕ → ℕ → Told
+sliceDeliverTold xs costs sent held messages out p =
     ifLong (isWhole messages) (xs ∷ out ∷ sent ∷ held ∷ messages ∷ [])
-    (overFirst messages (λ m. netDeliverTold xs costs tables sent held m out p))
+    (overFirst messages (λ m. netDeliverTold xs costs sent held m out p))
 
-unfoldable pub sliceRepeatTold : List ℕ → List ℕ → List ℕ → List ℕ → List ℕ → List ℕ → List ℕ → ℕ → Told
-sliceRepeatTold xs costs tables sent held messages out p =
+unfoldable pub sliceRepeatTold : List ℕ → List ℕ → List ℕ → List ℕ → List ℕ → List ℕ → ℕ → Told
+sliceRepeatTold xs costs sent held messages out p =
     ifLong (isWhole messages) (xs ∷ out ∷ sent ∷ held ∷ messages ∷ [])
-    (overFirst messages (λ m. netRepeatTold xs costs tables sent held m out p))
+    (overFirst messages (λ m. netRepeatTold xs costs sent held m out p))

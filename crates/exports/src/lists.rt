@@ -33,7 +33,6 @@ fn settle_list(listed: Listed, numbers: &mut [u32], out: &mut [u32]) -> u8
 pub extern "C" fn bench_net_run(
     bench: &mut [u32],
     costs: &[u32],
-    tables: &[u32],
     sent: &mut [u32],
     held: &mut [u32],
     messages: &mut [u32],
@@ -41,7 +40,7 @@ pub extern "C" fn bench_net_run(
     ways: &mut [u32],
     out: &mut [u32],
 ) -> u8
-    ensures { λ r. ⌜ told r (now (bench .exit) ∷ now (out .exit) ∷ now (sent .exit) ∷ now (held .exit) ∷ now (messages .exit) ∷ now (ways .exit) ∷ []) ≡ netRunTold (now (bench .entry)) (now (costs .entry)) (now (tables .entry)) (now (sent .entry)) (now (held .entry)) (now (messages .entry)) (now (rest .entry)) (now (ways .entry)) (now (out .entry)) ⌝ }
+    ensures { λ r. ⌜ told r (now (bench .exit) ∷ now (out .exit) ∷ now (sent .exit) ∷ now (held .exit) ∷ now (messages .exit) ∷ now (ways .exit) ∷ []) ≡ netRunTold (now (bench .entry)) (now (costs .entry)) (now (sent .entry)) (now (held .entry)) (now (messages .entry)) (now (rest .entry)) (now (ways .entry)) (now (out .entry)) ⌝ }
 {
     if !benches::holds(bench) {
         return 17;
@@ -50,6 +49,6 @@ pub extern "C" fn bench_net_run(
         return 17;
     }
     let old = benches::load(bench);
-    let listed = bench::lists::run(old, costs, tables, sent, held, messages, rest, ways);
+    let listed = bench::lists::run(old, costs, sent, held, messages, rest, ways);
     settle_list(listed, bench, out)
 }

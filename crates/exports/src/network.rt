@@ -63,17 +63,16 @@ pub(crate) fn settle_delivery(delivered: Delivered, numbers: &mut [u32], out: &m
 pub extern "C" fn bench_net_fresh(
     bench: &mut [u32],
     costs: &[u32],
-    tables: &mut [u32],
     sent: &mut [u32],
     held: &mut [u32],
 ) -> u8
-    ensures { λ r. ⌜ told r (now (bench .exit) ∷ now (tables .exit) ∷ now (sent .exit) ∷ now (held .exit) ∷ []) ≡ netFreshTold (now (bench .entry)) (now (costs .entry)) (now (tables .entry)) (now (sent .entry)) (now (held .entry)) ⌝ }
+    ensures { λ r. ⌜ told r (now (bench .exit) ∷ now (sent .exit) ∷ now (held .exit) ∷ []) ≡ netFreshTold (now (bench .entry)) (now (costs .entry)) (now (sent .entry)) (now (held .entry)) ⌝ }
 {
     if !benches::holds(bench) {
         return 17;
     }
     let old = benches::load(bench);
-    let changed = changes::fresh(old, costs, tables, sent, held);
+    let changed = changes::fresh(old, costs, sent, held);
     settle(changed, bench)
 }
 
@@ -82,19 +81,18 @@ pub extern "C" fn bench_net_fresh(
 pub extern "C" fn bench_net_update(
     bench: &mut [u32],
     costs: &[u32],
-    tables: &[u32],
     sent: &mut [u32],
     held: &mut [u32],
     bridge: usize,
     view: usize,
 ) -> u8
-    ensures { λ r. ⌜ told r (now (bench .exit) ∷ now (sent .exit) ∷ now (held .exit) ∷ []) ≡ netUpdateTold (now (bench .entry)) (now (costs .entry)) (now (tables .entry)) (now (sent .entry)) (now (held .entry)) bridge view ⌝ }
+    ensures { λ r. ⌜ told r (now (bench .exit) ∷ now (sent .exit) ∷ now (held .exit) ∷ []) ≡ netUpdateTold (now (bench .entry)) (now (costs .entry)) (now (sent .entry)) (now (held .entry)) bridge view ⌝ }
 {
     if !benches::holds(bench) {
         return 17;
     }
     let old = benches::load(bench);
-    let changed = changes::update(old, costs, tables, sent, held, bridge, view);
+    let changed = changes::update(old, costs, sent, held, bridge, view);
     settle(changed, bench)
 }
 
@@ -160,14 +158,13 @@ pub extern "C" fn bench_net_lose(bench: &mut [u32], messages: &mut [u32], place:
 pub extern "C" fn bench_net_deliver(
     bench: &mut [u32],
     costs: &[u32],
-    tables: &[u32],
     sent: &mut [u32],
     held: &mut [u32],
     messages: &mut [u32],
     place: usize,
     out: &mut [u32],
 ) -> u8
-    ensures { λ r. ⌜ told r (now (bench .exit) ∷ now (out .exit) ∷ now (sent .exit) ∷ now (held .exit) ∷ now (messages .exit) ∷ []) ≡ netDeliverTold (now (bench .entry)) (now (costs .entry)) (now (tables .entry)) (now (sent .entry)) (now (held .entry)) (now (messages .entry)) (now (out .entry)) place ⌝ }
+    ensures { λ r. ⌜ told r (now (bench .exit) ∷ now (out .exit) ∷ now (sent .exit) ∷ now (held .exit) ∷ now (messages .exit) ∷ []) ≡ netDeliverTold (now (bench .entry)) (now (costs .entry)) (now (sent .entry)) (now (held .entry)) (now (messages .entry)) (now (out .entry)) place ⌝ }
 {
     if !benches::holds(bench) {
         return 17;
@@ -176,7 +173,7 @@ pub extern "C" fn bench_net_deliver(
         return 17;
     }
     let old = benches::load(bench);
-    let delivered = bench::messages::deliver(old, costs, tables, sent, held, messages, place);
+    let delivered = bench::messages::deliver(old, costs, sent, held, messages, place);
     settle_delivery(delivered, bench, out)
 }
 
@@ -185,14 +182,13 @@ pub extern "C" fn bench_net_deliver(
 pub extern "C" fn bench_net_repeat(
     bench: &mut [u32],
     costs: &[u32],
-    tables: &[u32],
     sent: &mut [u32],
     held: &mut [u32],
     messages: &[u32],
     place: usize,
     out: &mut [u32],
 ) -> u8
-    ensures { λ r. ⌜ told r (now (bench .exit) ∷ now (out .exit) ∷ now (sent .exit) ∷ now (held .exit) ∷ now (messages .entry) ∷ []) ≡ netRepeatTold (now (bench .entry)) (now (costs .entry)) (now (tables .entry)) (now (sent .entry)) (now (held .entry)) (now (messages .entry)) (now (out .entry)) place ⌝ }
+    ensures { λ r. ⌜ told r (now (bench .exit) ∷ now (out .exit) ∷ now (sent .exit) ∷ now (held .exit) ∷ now (messages .entry) ∷ []) ≡ netRepeatTold (now (bench .entry)) (now (costs .entry)) (now (sent .entry)) (now (held .entry)) (now (messages .entry)) (now (out .entry)) place ⌝ }
 {
     if !benches::holds(bench) {
         return 17;
@@ -201,7 +197,7 @@ pub extern "C" fn bench_net_repeat(
         return 17;
     }
     let old = benches::load(bench);
-    let delivered = bench::messages::repeat(old, costs, tables, sent, held, messages, place);
+    let delivered = bench::messages::repeat(old, costs, sent, held, messages, place);
     settle_delivery(delivered, bench, out)
 }
 
@@ -210,14 +206,13 @@ pub extern "C" fn bench_net_repeat(
 pub extern "C" fn bench_net_port(
     bench: &[u32],
     costs: &[u32],
-    tables: &[u32],
     sent: &[u32],
     held: &[u32],
     bridge: usize,
     dest: usize,
     out: &mut [u32],
 ) -> u8
-    ensures { λ r. ⌜ told r (now (out .exit) ∷ []) ≡ netPortTold (now (bench .entry)) (now (costs .entry)) (now (tables .entry)) (now (sent .entry)) (now (held .entry)) bridge dest (now (out .entry)) ⌝ }
+    ensures { λ r. ⌜ told r (now (out .exit) ∷ []) ≡ netPortTold (now (bench .entry)) (now (costs .entry)) (now (sent .entry)) (now (held .entry)) bridge dest (now (out .entry)) ⌝ }
 {
     if !benches::holds(bench) {
         return 17;
@@ -226,7 +221,7 @@ pub extern "C" fn bench_net_port(
         return 17;
     }
     let old = benches::load(bench);
-    let found = answers::port(old, costs, tables, sent, held, bridge, dest);
+    let found = answers::port(old, costs, sent, held, bridge, dest);
     match found {
         Forwarding::Refused(by) => by,
         Forwarding::Found(port) => {
@@ -241,19 +236,18 @@ pub extern "C" fn bench_net_port(
 pub extern "C" fn bench_net_report(
     bench: &[u32],
     costs: &[u32],
-    tables: &[u32],
     sent: &[u32],
     held: &[u32],
     dest: usize,
     rows: &mut [u32],
 ) -> u8
-    ensures { λ r. ⌜ told r (now (rows .exit) ∷ []) ≡ netReportTold (now (bench .entry)) (now (costs .entry)) (now (tables .entry)) (now (sent .entry)) (now (held .entry)) dest (now (rows .entry)) ⌝ }
+    ensures { λ r. ⌜ told r (now (rows .exit) ∷ []) ≡ netReportTold (now (bench .entry)) (now (costs .entry)) (now (sent .entry)) (now (held .entry)) dest (now (rows .entry)) ⌝ }
 {
     if !benches::holds(bench) {
         return 17;
     }
     let old = benches::load(bench);
-    let reply = answers::report(old, costs, tables, sent, held, dest, rows);
+    let reply = answers::report(old, costs, sent, held, dest, rows);
     number_of(reply)
 }
 
@@ -262,14 +256,13 @@ pub extern "C" fn bench_net_report(
 pub extern "C" fn bench_net_path(
     bench: &[u32],
     costs: &[u32],
-    tables: &[u32],
     sent: &[u32],
     held: &[u32],
     start: usize,
     dest: usize,
     out: &mut [u32],
 ) -> u8
-    ensures { λ r. ⌜ told r (now (out .exit) ∷ []) ≡ netPathTold (now (bench .entry)) (now (costs .entry)) (now (tables .entry)) (now (sent .entry)) (now (held .entry)) start dest (now (out .entry)) ⌝ }
+    ensures { λ r. ⌜ told r (now (out .exit) ∷ []) ≡ netPathTold (now (bench .entry)) (now (costs .entry)) (now (sent .entry)) (now (held .entry)) start dest (now (out .entry)) ⌝ }
 {
     if !benches::holds(bench) {
         return 17;
@@ -278,7 +271,7 @@ pub extern "C" fn bench_net_path(
         return 17;
     }
     let old = benches::load(bench);
-    let way = answers::path(old, costs, tables, sent, held, start, dest);
+    let way = answers::path(old, costs, sent, held, start, dest);
     match way {
         Way::Refused(by) => by,
         Way::Delivered(hops) => {

@@ -86,14 +86,13 @@ pub extern "C" fn bench_slice_lose(bench: &mut [u32], messages: &mut [u32], plac
 pub extern "C" fn bench_slice_deliver(
     bench: &mut [u32],
     costs: &[u32],
-    tables: &[u32],
     sent: &mut [u32],
     held: &mut [u32],
     messages: &mut [u32],
     place: usize,
     out: &mut [u32],
 ) -> u8
-    ensures { λ r. ⌜ told r (now (bench .exit) ∷ now (out .exit) ∷ now (sent .exit) ∷ now (held .exit) ∷ now (messages .exit) ∷ []) ≡ sliceDeliverTold (now (bench .entry)) (now (costs .entry)) (now (tables .entry)) (now (sent .entry)) (now (held .entry)) (now (messages .entry)) (now (out .entry)) place ⌝ }
+    ensures { λ r. ⌜ told r (now (bench .exit) ∷ now (out .exit) ∷ now (sent .exit) ∷ now (held .exit) ∷ now (messages .exit) ∷ []) ≡ sliceDeliverTold (now (bench .entry)) (now (costs .entry)) (now (sent .entry)) (now (held .entry)) (now (messages .entry)) (now (out .entry)) place ⌝ }
 {
     if messages.len() < 320 {
         return 17;
@@ -105,7 +104,7 @@ pub extern "C" fn bench_slice_deliver(
         return 17;
     }
     let old = benches::load(bench);
-    let taken = plain::deliver(old, costs, tables, sent, held, array_of(messages), place);
+    let taken = plain::deliver(old, costs, sent, held, array_of(messages), place);
     let numbers = taken.numbers;
     put_array(numbers, messages);
     let delivered = taken.delivered;
@@ -117,14 +116,13 @@ pub extern "C" fn bench_slice_deliver(
 pub extern "C" fn bench_slice_repeat(
     bench: &mut [u32],
     costs: &[u32],
-    tables: &[u32],
     sent: &mut [u32],
     held: &mut [u32],
     messages: &[u32],
     place: usize,
     out: &mut [u32],
 ) -> u8
-    ensures { λ r. ⌜ told r (now (bench .exit) ∷ now (out .exit) ∷ now (sent .exit) ∷ now (held .exit) ∷ now (messages .entry) ∷ []) ≡ sliceRepeatTold (now (bench .entry)) (now (costs .entry)) (now (tables .entry)) (now (sent .entry)) (now (held .entry)) (now (messages .entry)) (now (out .entry)) place ⌝ }
+    ensures { λ r. ⌜ told r (now (bench .exit) ∷ now (out .exit) ∷ now (sent .exit) ∷ now (held .exit) ∷ now (messages .entry) ∷ []) ≡ sliceRepeatTold (now (bench .entry)) (now (costs .entry)) (now (sent .entry)) (now (held .entry)) (now (messages .entry)) (now (out .entry)) place ⌝ }
 {
     if messages.len() < 320 {
         return 17;
@@ -136,6 +134,6 @@ pub extern "C" fn bench_slice_repeat(
         return 17;
     }
     let old = benches::load(bench);
-    let delivered = plain::repeat(old, costs, tables, sent, held, array_of(messages), place);
+    let delivered = plain::repeat(old, costs, sent, held, array_of(messages), place);
     network::settle_delivery(delivered, bench, out)
 }

@@ -53,10 +53,10 @@ module _ (n r : ℕ) (ns : List ℕ) (e : r ≡ min n 64) (b : Bench) (p k : ℕ
       kept : after ≡ took n ns
       kept = ap (λ (f : Flown). f .messages) lost ∙ lose-left b (took n ns) p (subst (λ (f : Flown). b .messages ≤ f .bench .messages) lost same)
 
-module _ (n r : ℕ) (ns : List ℕ) (e : r ≡ min n 64) (b : Bench) (costs tables sent held : List ℕ) (p : ℕ) where
+module _ (n r : ℕ) (ns : List ℕ) (e : r ≡ min n 64) (b : Bench) (costs sent held : List ℕ) (p : ℕ) where
   -- what is handed over, with these numbers
   abbrev with : List ℕ → State
-  with m = state b costs tables sent held m
+  with m = state b costs sent held m
 
   module _ (k : Said Answer) (b′ : Bench) (ss hs after : List ℕ) (g : delivered k b′ ss hs after ≡ deliverOf (with (take (5 * r) ns)) p) where
     went : delivered k b′ ss hs after ≡ deliverOf (with (took n ns)) p

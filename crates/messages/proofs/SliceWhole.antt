@@ -29,10 +29,10 @@ led s t (c ∷ cs) n =
     led (n .left) t cs (n .later) ∙ ap (λ x. runBy x cs) (n .leads .numbers) ∙ sym (run-next (numbered s) c cs)
 
 pub whole-slices : WholeSlices
-whole-slices b costs tables sent held s t cs start lead =
+whole-slices b costs sent held s t cs start lead =
     let long : 320 ≤ length (flight (s .messages)) = omega (arith, numbers-length (take 64 (s .messages)), length-take-le 64 (s .messages) (start .room)) in
-    let w = whole-lists b costs tables sent held (flight (s .messages)) (start .accepted) long cs in
-    let e : runBy (freshBy b costs tables sent held (flight (s .messages))) cs ≡ numbered t =
+    let w = whole-lists b costs sent held (flight (s .messages)) (start .accepted) long cs in
+    let e : runBy (freshBy b costs sent held (flight (s .messages))) cs ≡ numbered t =
     sym (led s t cs lead ∙ ap (λ x. runBy x cs) (start .numbers)) in
     record {
       holds = w .holds;
@@ -43,7 +43,7 @@ whole-slices b costs tables sent held s t cs start lead =
 -- what a contract says is what a call leads to
 module _ (s : Kept) (b : Bench) (ms : List Message) (past : drop 64 ms ≡ drop 64 (s .messages)) where
   abbrev after : Kept
-  after = kept b (s .costs) (s .tables) (s .sent) (s .held) ms
+  after = kept b (s .costs) (s .sent) (s .held) ms
 
   pub send-leads : (reply y l : ℕ) → flown reply b (flight ms) ≡ sendOf (s .bench) (flight (s .messages)) y l → Leads s (send y l) after
   send-leads reply y l e =
@@ -55,7 +55,7 @@ module _ (s : Kept) (b : Bench) (ms : List Message) (past : drop 64 ms ≡ drop 
 
   module _ (sent held : List ℕ) (reply : Said Answer) (p : ℕ) where
     abbrev taken : Kept
-    taken = kept b (s .costs) (s .tables) sent held ms
+    taken = kept b (s .costs) sent held ms
 
     pub deliver-leads : delivered reply b sent held (flight ms) ≡ deliverOf (numbered s) p → Leads s (deliver p) taken
     deliver-leads e =

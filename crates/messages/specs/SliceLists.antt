@@ -18,18 +18,17 @@ use Rattle.messages.specs.Slices.{flight}
 pub record Kept : Type 0 where
   pub bench : Bench
   pub costs : List ℕ
-  pub tables : List ℕ
   pub sent : List ℕ
   pub held : List ℕ
   pub messages : List Message
 
-abbrev pub kept : Bench → List ℕ → List ℕ → List ℕ → List ℕ → List Message → Kept
-kept bench costs tables sent held messages =
-    record { bench = bench; costs = costs; tables = tables; sent = sent; held = held; messages = messages }
+abbrev pub kept : Bench → List ℕ → List ℕ → List ℕ → List Message → Kept
+kept bench costs sent held messages =
+    record { bench = bench; costs = costs; sent = sent; held = held; messages = messages }
 
 -- the same with the slice's numbers
 abbrev pub numbered : Kept → State
-numbered s = state (s .bench) (s .costs) (s .tables) (s .sent) (s .held) (flight (s .messages))
+numbered s = state (s .bench) (s .costs) (s .sent) (s .held) (flight (s .messages))
 
 -- a call takes what is kept from s to t: its numbers as the bench's outcome has them, and what lies past 64 messages as it was
 pub record Leads (s : Kept) (c : Call) (t : Kept) : Type 0 where
@@ -48,10 +47,10 @@ Lead s [] t = t ≡ s
 Lead s (c ∷ cs) t = Next s c (λ u. Lead u cs t)
 
 -- `fresh` over this slice was accepted: it leaves the messages alone
-pub record Starts (b : Bench) (costs tables sent held : List ℕ) (s : Kept) : Type 0 where
-  pub accepted : freshOf b costs tables sent held .reply ≡ 0
+pub record Starts (b : Bench) (costs sent held : List ℕ) (s : Kept) : Type 0 where
+  pub accepted : freshOf b costs sent held .reply ≡ 0
   pub room : 64 ≤ length (s .messages)
-  pub numbers : numbered s ≡ freshBy b costs tables sent held (flight (s .messages))
+  pub numbers : numbered s ≡ freshBy b costs sent held (flight (s .messages))
 
 -- demand 3: what it says of every list of calls, and that the network it speaks of is the one that stands in what is kept
 pub record Meets (b : Bench) (costs : List ℕ) (cs : List Call) (t : Kept) : Type 0 where
@@ -61,7 +60,7 @@ pub record Meets (b : Bench) (costs : List ℕ) (cs : List Call) (t : Kept) : Ty
 
 abbrev pub WholeSlices : Type 0
 WholeSlices =
-    (b : Bench) (costs tables sent held : List ℕ) (s t : Kept) (cs : List Call) →
-    Starts b costs tables sent held s →
+    (b : Bench) (costs sent held : List ℕ) (s t : Kept) (cs : List Call) →
+    Starts b costs sent held s →
     Lead s cs t →
     Meets b costs cs t

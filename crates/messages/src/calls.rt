@@ -41,26 +41,16 @@ pub fn lose(bench: Bench, ms: &mut [Message], place: usize) -> Changed
 pub fn deliver(
     bench: Bench,
     costs: &[u32],
-    tables: &[u32],
     sent: &mut [u32],
     held: &mut [u32],
     ms: &mut [Message],
     place: usize,
 ) -> Delivered
-    ensures { λ r. ⌜ delivered (reactionSays (r .reply)) (r .bench) (now (sent .exit)) (now (held .exit)) (flight (now (ms .exit))) ≡ deliverOf (state bench (now (costs .entry)) (now (tables .entry)) (now (sent .entry)) (now (held .entry)) (flight (now (ms .entry)))) place ⌝ }
+    ensures { λ r. ⌜ delivered (reactionSays (r .reply)) (r .bench) (now (sent .exit)) (now (held .exit)) (flight (now (ms .exit))) ≡ deliverOf (state bench (now (costs .entry)) (now (sent .entry)) (now (held .entry)) (flight (now (ms .entry)))) place ⌝ }
     ensures { λ _. ⌜ drop 64 (now (ms .exit)) ≡ drop 64 (now (ms .entry)) ⌝ }
 {
     let numbers = numbers_in(ms);
-    let decided = decisions::decide_deliver(
-        bench,
-        costs,
-        tables,
-        sent,
-        held,
-        numbers,
-        ms.len(),
-        place,
-    );
+    let decided = decisions::decide_deliver(bench, costs, sent, held, numbers, ms.len(), place);
     places::remove_at(ms, decided.from, decided.past);
     decided.delivered
 }
@@ -69,14 +59,13 @@ pub fn deliver(
 pub fn repeat(
     bench: Bench,
     costs: &[u32],
-    tables: &[u32],
     sent: &mut [u32],
     held: &mut [u32],
     ms: &[Message],
     place: usize,
 ) -> Delivered
-    ensures { λ r. ⌜ delivered (reactionSays (r .reply)) (r .bench) (now (sent .exit)) (now (held .exit)) (flight (now (ms .entry))) ≡ repeatOf (state bench (now (costs .entry)) (now (tables .entry)) (now (sent .entry)) (now (held .entry)) (flight (now (ms .entry)))) place ⌝ }
+    ensures { λ r. ⌜ delivered (reactionSays (r .reply)) (r .bench) (now (sent .exit)) (now (held .exit)) (flight (now (ms .entry))) ≡ repeatOf (state bench (now (costs .entry)) (now (sent .entry)) (now (held .entry)) (flight (now (ms .entry)))) place ⌝ }
 {
     let numbers = numbers_in(ms);
-    decisions::decide_repeat(bench, costs, tables, sent, held, numbers, ms.len(), place)
+    decisions::decide_repeat(bench, costs, sent, held, numbers, ms.len(), place)
 }

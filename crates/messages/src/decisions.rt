@@ -85,21 +85,19 @@ pub(crate) fn decide_lose(bench: Bench, numbers: [u32; 320], len: usize, place: 
 pub(crate) fn decide_deliver(
     bench: Bench,
     costs: &[u32],
-    tables: &[u32],
     sent: &mut [u32],
     held: &mut [u32],
     numbers: [u32; 320],
     len: usize,
     place: usize,
 ) -> Decided
-    ensures { λ r. ⌜ (delivered (reactionSays (r .delivered .reply)) (r .delivered .bench) (now (sent .exit)) (now (held .exit)) (shifted (r .from) (r .past) (took len numbers)) ≡ deliverOf (state bench (now (costs .entry)) (now (tables .entry)) (now (sent .entry)) (now (held .entry)) (took len numbers)) place) × ((r .from ≤ r .past) × ((r .past ≤ len - 1) × (r .past ≤ 63))) ⌝ }
+    ensures { λ r. ⌜ (delivered (reactionSays (r .delivered .reply)) (r .delivered .bench) (now (sent .exit)) (now (held .exit)) (shifted (r .from) (r .past) (took len numbers)) ≡ deliverOf (state bench (now (costs .entry)) (now (sent .entry)) (now (held .entry)) (took len numbers)) place) × ((r .from ≤ r .past) × ((r .past ≤ len - 1) × (r .past ≤ 63))) ⌝ }
 {
     let before = bench.messages;
     let mut left = numbers;
     let delivered = bench::messages::deliver(
         bench,
         costs,
-        tables,
         sent,
         held,
         &mut left[..5 * room(len)],
@@ -123,23 +121,14 @@ pub(crate) fn decide_deliver(
 pub(crate) fn decide_repeat(
     bench: Bench,
     costs: &[u32],
-    tables: &[u32],
     sent: &mut [u32],
     held: &mut [u32],
     numbers: [u32; 320],
     len: usize,
     place: usize,
 ) -> Delivered
-    ensures { λ r. ⌜ delivered (reactionSays (r .reply)) (r .bench) (now (sent .exit)) (now (held .exit)) (took len numbers) ≡ repeatOf (state bench (now (costs .entry)) (now (tables .entry)) (now (sent .entry)) (now (held .entry)) (took len numbers)) place ⌝ }
+    ensures { λ r. ⌜ delivered (reactionSays (r .reply)) (r .bench) (now (sent .exit)) (now (held .exit)) (took len numbers) ≡ repeatOf (state bench (now (costs .entry)) (now (sent .entry)) (now (held .entry)) (took len numbers)) place ⌝ }
 {
     let all = numbers;
-    bench::messages::repeat(
-        bench,
-        costs,
-        tables,
-        sent,
-        held,
-        &all[..5 * room(len)],
-        place,
-    )
+    bench::messages::repeat(bench, costs, sent, held, &all[..5 * room(len)], place)
 }

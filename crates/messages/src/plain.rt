@@ -84,16 +84,15 @@ pub fn lose(bench: Bench, numbers: [u32; 320], place: usize) -> ChangedNumbers
 pub fn deliver(
     bench: Bench,
     costs: &[u32],
-    tables: &[u32],
     sent: &mut [u32],
     held: &mut [u32],
     numbers: [u32; 320],
     place: usize,
 ) -> DeliveredNumbers
-    ensures { λ r. ⌜ delivered (reactionSays (r .delivered .reply)) (r .delivered .bench) (now (sent .exit)) (now (held .exit)) (r .numbers) ≡ deliverOf (state bench (now (costs .entry)) (now (tables .entry)) (now (sent .entry)) (now (held .entry)) numbers) place ⌝ }
+    ensures { λ r. ⌜ delivered (reactionSays (r .delivered .reply)) (r .delivered .bench) (now (sent .exit)) (now (held .exit)) (r .numbers) ≡ deliverOf (state bench (now (costs .entry)) (now (sent .entry)) (now (held .entry)) numbers) place ⌝ }
 {
     let mut ms = messages_in(numbers);
-    let delivered = calls::deliver(bench, costs, tables, sent, held, &mut ms, place);
+    let delivered = calls::deliver(bench, costs, sent, held, &mut ms, place);
     DeliveredNumbers {
         delivered,
         numbers: numbers_from(ms),
@@ -104,14 +103,13 @@ pub fn deliver(
 pub fn repeat(
     bench: Bench,
     costs: &[u32],
-    tables: &[u32],
     sent: &mut [u32],
     held: &mut [u32],
     numbers: [u32; 320],
     place: usize,
 ) -> Delivered
-    ensures { λ r. ⌜ delivered (reactionSays (r .reply)) (r .bench) (now (sent .exit)) (now (held .exit)) numbers ≡ repeatOf (state bench (now (costs .entry)) (now (tables .entry)) (now (sent .entry)) (now (held .entry)) numbers) place ⌝ }
+    ensures { λ r. ⌜ delivered (reactionSays (r .reply)) (r .bench) (now (sent .exit)) (now (held .exit)) numbers ≡ repeatOf (state bench (now (costs .entry)) (now (sent .entry)) (now (held .entry)) numbers) place ⌝ }
 {
     let ms = messages_in(numbers);
-    calls::repeat(bench, costs, tables, sent, held, &ms, place)
+    calls::repeat(bench, costs, sent, held, &ms, place)
 }

@@ -61,7 +61,7 @@ fn read_plan(fd: i32, plan: &mut [u8]) -> Input
 pub fn print(plan: &[u8]) -> Reply
     ensures { λ r. ⌜ Handed r (printed (now (plan .entry))) ⌝ }
 {
-    let mut out = [0u8; 32768];
+    let mut out = [0u8; 131072];
     if 61440 < plan.len() {
         return too_long(&mut out);
     }
@@ -91,7 +91,6 @@ fn carry_out(plan: &[u8], out: &mut [u8]) -> Reply
     ensures { λ r. ⌜ Handed r (prints (suc (length (now (plan .entry)))) firstRunner firstBuffers (now (plan .entry))) ⌝ }
 {
     let mut costs = [0u32; 1024];
-    let mut tables = [0u32; 8192];
     let mut sent = [0u32; 1024];
     let mut held = [0u32; 1024];
     let mut messages = [0u32; 320];
@@ -105,7 +104,6 @@ fn carry_out(plan: &[u8], out: &mut [u8]) -> Reply
             r,
             &plan[at..],
             &mut costs,
-            &mut tables,
             &mut sent,
             &mut held,
             &mut messages,

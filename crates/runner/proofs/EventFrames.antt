@@ -10,20 +10,20 @@ use Rattle.plan.specs.declared.Event.the-variants.{Update, Send, Deliver, Repea
 use Rattle.runner.specs.Events.{replyOf, rowsAfter, textOf, Happening, happening, happenedOf}
 use Rattle.runner.proofs.EventSteps.{quiet}
 
-module _ (b : Bench) (costs tables sent held m rows out : List ℕ) where
+module _ (b : Bench) (costs sent held m rows out : List ℕ) where
   -- the state of an event that is lent no messages, the messages alone, or no buffer
   abbrev Short : State
-  Short = state b costs tables sent held []
+  Short = state b costs sent held []
 
   abbrev Flight : State
-  Flight = state b [] [] [] [] m
+  Flight = state b [] [] [] m
 
   abbrev Bare : State
-  Bare = state b [] [] [] [] []
+  Bare = state b [] [] [] []
 
   -- all that is lent
   abbrev Full : State
-  Full = state b costs tables sent held m
+  Full = state b costs sent held m
 
   pub update-frame :
       (y t : ℕ) →

@@ -142,9 +142,8 @@ field-texts rest (Field.Event e) used most r k low = event-texts (opened r k) e 
 abbrev othersLong : Buffers → Bool
 othersLong k =
     leb 1024 (length (k .costs))
-    && (leb 8192 (length (k .tables))
     && (leb 1024 (length (k .sent))
-    && (leb 1024 (length (k .held)) && (leb 320 (length (k .messages)) && (leb 32 (length (k .rows)) && true)))))
+    && (leb 1024 (length (k .held)) && (leb 320 (length (k .messages)) && (leb 32 (length (k .rows)) && true))))
 
 pub step-texts : (r : Runner) (k : Buffers) (rest : List ℕ) → Texts (length rest) (λ out. stepOf r (buffersWithOut out k) rest)
 unfolding stepOf readTurn lastTurn buffersLong
@@ -197,7 +196,7 @@ unfolding stepOf buffersLong
 step-cramped r k rest few =
     let last = not-both (leb 32 (length (k .rows))) _ (lt-leb 544 (length (k .out)) few) in
     let two = not-both (leb 1024 (length (k .held))) _ (not-both (leb 320 (length (k .messages))) _ last) in
-    let four = not-both (leb 8192 (length (k .tables))) _ (not-both (leb 1024 (length (k .sent))) _ two) in
+    let four = not-both (leb 1024 (length (k .sent))) _ two in
     rw (not-both (runnerInRange r) _ (not-both (leb 1024 (length (k .costs))) _ four))
 
 pub record Within (r : Runner) (k : Buffers) (rest : List ℕ) : Type 0 where

@@ -21,7 +21,7 @@ use Rattle.runner.proofs.ListTurns.{listOn, list-steps}
 
 -- the buffers with a state of the bench, and bytes to be printed
 abbrev pub buffersOf : State → List ℕ → List ℕ → Buffers
-buffersOf s rows out = buffers (s .costs) (s .tables) (s .sent) (s .held) (s .messages) rows out
+buffersOf s rows out = buffers (s .costs) (s .sent) (s .held) (s .messages) rows out
 
 module _
     (rest ways : List ℕ)
@@ -64,7 +64,7 @@ module _
 
     pub some-made :
         t .going ≡ true → t .used ≤ length rest → ListFits (t .runner) (length rest - t .used) →
-        length ways ≤ 180 → t .written + 544 * (length ways / 3) ≤ length (t .buffers .out) →
+        length ways ≤ 720 → t .written + 544 * (length ways / 3) ≤ length (t .buffers .out) →
         32 ≤ length (t .buffers .rows) →
         (end : ℕ) (out : List ℕ) →
         Put (t .buffers .out) (t .written) (listTexts calls (lists.progressOf (t .runner .bench)) (take (length rest - t .used) (drop (t .used) rest)) answers) out end →
@@ -86,7 +86,6 @@ module _
               offset = fits .offset;
               used = inside;
               costs = ready .lasting .costsLong;
-              tables = ready .lasting .tablesLong;
               sent = ready .sentLong;
               held = ready .heldLong;
               messages = ready .messagesLong;

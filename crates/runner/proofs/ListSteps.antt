@@ -95,7 +95,6 @@ pub record Roomy (rest : List ℕ) (k : ℕ) (t : Turn) : Type 0 where
   pub offset : t .runner .offset + (length rest - t .used) ≤ 61440
   pub used : t .used ≤ length rest
   pub costs : 1024 ≤ length (t .buffers .costs)
-  pub tables : 8192 ≤ length (t .buffers .tables)
   pub sent : 1024 ≤ length (t .buffers .sent)
   pub held : 1024 ≤ length (t .buffers .held)
   pub messages : 320 ≤ length (t .buffers .messages)
@@ -109,7 +108,7 @@ eventOn t e used =
     let text : List ℕ = textOf s (t .buffers .rows) e in
     turn 0 true (t .used + used) (t .written + length text)
     (record { bench = after .bench; stage = 3; events = t .runner .events + 1; offset = t .runner .offset + used })
-    (buffers (after .costs) (after .tables) (after .sent) (after .held) (after .messages) (t .buffers .rows) (sets (t .buffers .out) (t .written) text))
+    (buffers (after .costs) (after .sent) (after .held) (after .messages) (t .buffers .rows) (sets (t .buffers .out) (t .written) text))
 
 module _ (rest : List ℕ) (k : ℕ) (t : Turn) (roomy : Roomy rest (suc k) t) where
   pub steps-on : stepsOn t ≡ true
@@ -124,11 +123,10 @@ module _ (rest : List ℕ) (k : ℕ) (t : Turn) (roomy : Roomy rest (suc k) t) w
   unfolding buffersLong
   long =
       true-both (le-leb _ _ (roomy .costs))
-      (true-both (le-leb _ _ (roomy .tables))
       (true-both (le-leb _ _ (roomy .sent))
       (true-both (le-leb _ _ (roomy .held))
       (true-both (le-leb _ _ (roomy .messages))
-      (true-both (le-leb _ _ (roomy .rows)) (le-leb 544 (length (drop (t .written) (t .buffers .out))) (omega (arith, roomy .room, length-drop (t .written) (t .buffers .out)))))))))
+      (true-both (le-leb _ _ (roomy .rows)) (le-leb 544 (length (drop (t .written) (t .buffers .out))) (omega (arith, roomy .room, length-drop (t .written) (t .buffers .out))))))))
 
   -- the reader has come as far as the list's
   progress-same : progressOf (t .runner) ≡ lists.progressOf (t .runner .bench)

@@ -55,7 +55,7 @@ module _ (rest : List ℕ) where
   listOn t r =
       turn (replyAfter (r .calls) (t .reply)) true (t .used + r .used) (t .written + length (textsOn t r))
       (record { bench = r .state .bench; stage = 3; events = t .runner .events + r .calls; offset = t .runner .offset + r .used })
-      (buffers (r .state .costs) (r .state .tables) (r .state .sent) (r .state .held) (r .state .messages) (t .buffers .rows) (sets (t .buffers .out) (t .written) (textsOn t r)))
+      (buffers (r .state .costs) (r .state .sent) (r .state .held) (r .state .messages) (t .buffers .rows) (sets (t .buffers .out) (t .written) (textsOn t r)))
 
   -- no event
   none-on : (k : ℕ) (t : Turn) (ways : List ℕ) → Roomy rest k t → t ≡ listOn t (ran 0 0 (stateAt t) ways)
@@ -78,8 +78,7 @@ module _ (rest : List ℕ) where
           events = omega (arith, roomy .events);
           offset = omega (arith, roomy .offset, roomy .used, size, length-drop (t .used) rest);
           used = omega (arith, roomy .used, size, length-drop (t .used) rest);
-          costs = rw (lasting .0) (roomy .costs);
-          tables = rw (lasting .1) (roomy .tables);
+          costs = rw lasting (roomy .costs);
           sent = rw (kept .sent) (roomy .sent);
           held = rw (kept .held) (roomy .held);
           messages = rw (kept .messages) (roomy .messages);

@@ -170,8 +170,8 @@ module _ (stage : ℕ) (b : Bench) (costs : List ℕ) (s : Begun stage b costs) 
       (omega (arith, s .linksMost, s .endsLong))
 
   -- what no call changes
-  lasts : (tables : List ℕ) → stage ≡ 2 → 1024 ≤ length costs → 8192 ≤ length tables → LastingOf b costs tables
-  lasts tables e long room =
+  lasts : stage ≡ 2 → 1024 ≤ length costs → LastingOf b costs
+  lasts e long =
       record {
         viewsLeast = s .viewed (omega arith);
         viewsMost = s .viewsMost;
@@ -182,10 +182,9 @@ module _ (stage : ℕ) (b : Bench) (costs : List ℕ) (s : Begun stage b costs) 
             let few : b .links ≤ 32 = s .linksMost in
             costs-made (b .links) (part 32 t costs) (omega (arith, part-length 32 t costs (omega arith)))
             (λ l g. rw (part-at 32 t costs l (omega arith)) (s .cost t l h g));
-        tablesLong = room;
       }
 
   -- so `fresh` accepts them
-  pub begun-accepted : (tables sent held : List ℕ) → stage ≡ 2 → 1024 ≤ length costs → 8192 ≤ length tables → 1024 ≤ length sent → 1024 ≤ length held →
-      freshOf b costs tables sent held .reply ≡ 0
-  begun-accepted tables sent held e long room = fresh-accepts b costs tables sent held (lasts tables e long room)
+  pub begun-accepted : (sent held : List ℕ) → stage ≡ 2 → 1024 ≤ length costs → 1024 ≤ length sent → 1024 ≤ length held →
+      freshOf b costs sent held .reply ≡ 0
+  begun-accepted sent held e long = fresh-accepts b costs sent held (lasts e long)

@@ -34,7 +34,6 @@ use Rattle.runner.proofs.RunSetup.{Begun, begun-first, bridges-begun, l
 -- buffers that are long enough
 record Long (k : Buffers) : Type 0 where
   costs : 1024 ≤ length (k .costs)
-  tables : 8192 ≤ length (k .tables)
   sent : 1024 ≤ length (k .sent)
   held : 1024 ≤ length (k .held)
   messages : 320 ≤ length (k .messages)
@@ -43,13 +42,11 @@ long-told : (k : Buffers) → buffersLong k ≡ true → Long k
 unfolding buffersLong
 long-told k e =
     let one = both-true (leb 1024 (length (k .costs))) _ e in
-    let two = both-true (leb 8192 (length (k .tables))) _ (one .1) in
-    let three = both-true (leb 1024 (length (k .sent))) _ (two .1) in
+    let three = both-true (leb 1024 (length (k .sent))) _ (one .1) in
     let four = both-true (leb 1024 (length (k .held))) _ (three .1) in
     let five = both-true (leb 320 (length (k .messages))) _ (four .1) in
     record {
       costs = leb-true _ _ (one .0);
-      tables = leb-true _ _ (two .0);
       sent = leb-true _ _ (three .0);
       held = leb-true _ _ (four .0);
       messages = leb-true _ _ (five .0);
@@ -62,7 +59,7 @@ opened-fresh r k e = rw (eq-eqb (r .stage) 2 e, fresh-leaves)
 -- an event came, and all but demand 3 itself
 record Opens (p : Place) (end : Place) (cs : List Call) : Type 0 where
   stage : end .runner .stage ≡ 3
-  accepted : freshOf (p .runner .bench) (p .buffers .costs) (p .buffers .tables) (p .buffers .sent) (p .buffers .held) .reply ≡ 0
+  accepted : freshOf (p .runner .bench) (p .buffers .costs) (p .buffers .sent) (p .buffers .held) .reply ≡ 0
   room : 320 ≤ length (p .buffers .messages)
   ran : stateAt end ≡ runBy (freshAt p) cs
 
@@ -79,7 +76,7 @@ first-event fuel v used r k rest s ready long =
     let two : r .stage ≡ 2 = omega (arith, s .early) in
     let e = event-ran fuel (follows fuel) (opened r k) v used r k rest in
     record {
-      accepted = begun-accepted _ _ _ s (k .tables) (k .sent) (k .held) two (long .costs) (long .tables) (long .sent) (long .held);
+      accepted = begun-accepted _ _ _ s (k .sent) (k .held) two (long .costs) (long .sent) (long .held);
       room = long .messages;
       stage = e .stage;
       ran = e .state ∙ ap (λ (x : State). runBy x (callsAfter fuel rest (callOf v ∷ []) (eventTurn (opened r k) v used r k))) (opened-fresh r k two);
@@ -114,5 +111,5 @@ plan-runs plan = go _ _ _ (set-up (suc (length plan)) firstRunner firstBuffers p
           stage = o .stage;
           accepted = o .accepted;
           ran = o .ran;
-          meets = whole-lists (p .runner .bench) (p .buffers .costs) (p .buffers .tables) (p .buffers .sent) (p .buffers .held) (p .buffers .messages) (o .accepted) (o .room) cs;
+          meets = whole-lists (p .runner .bench) (p .buffers .costs) (p .buffers .sent) (p .buffers .held) (p .buffers .messages) (o .accepted) (o .room) cs;
         })

@@ -28,45 +28,45 @@ use Rattle.runner.proofs.StepRefused.{refused-state, refused-rows}
 -- a private call is lent nothing, or the bytes to be printed alone: its turn on all of the buffers
 pub setup-on :
     (used : ℕ) (b : Bench) (stage : ℕ) (r : Runner) (k : Buffers) {reply : ℕ} {going : Bool} {taken written : ℕ} {runner : Runner} →
-    turn reply going taken written runner (buffers [] [] [] [] [] [] []) ≡ setupTurn used b stage r (buffers [] [] [] [] [] [] []) →
+    turn reply going taken written runner (buffers [] [] [] [] [] []) ≡ setupTurn used b stage r (buffers [] [] [] [] [] []) →
     turn reply going taken written runner k ≡ setupTurn used b stage r k
 unfolding setupTurn
 setup-on used b stage r k e = ap (λ (t : Turn). turn (t .reply) (t .going) (t .used) (t .written) (t .runner) k) e
 
 pub ended-on :
     (number : ℕ) (text : List ℕ) (r : Runner) (k : Buffers) {reply : ℕ} {going : Bool} {taken written : ℕ} {runner : Runner} {out : List ℕ} →
-    turn reply going taken written runner (buffers [] [] [] [] [] [] out) ≡ lastTurn number text r (buffers [] [] [] [] [] [] (k .out)) →
-    turn reply going taken written runner (buffers (k .costs) (k .tables) (k .sent) (k .held) (k .messages) (k .rows) out)
+    turn reply going taken written runner (buffers [] [] [] [] [] out) ≡ lastTurn number text r (buffers [] [] [] [] [] (k .out)) →
+    turn reply going taken written runner (buffers (k .costs) (k .sent) (k .held) (k .messages) (k .rows) out)
     ≡ lastTurn number text r k
 unfolding lastTurn
 ended-on number text r k e =
     ap
     (λ (t : Turn).
     turn (t .reply) (t .going) (t .used) (t .written) (t .runner)
-    (buffers (k .costs) (k .tables) (k .sent) (k .held) (k .messages) (k .rows) (t .buffers .out)))
+    (buffers (k .costs) (k .sent) (k .held) (k .messages) (k .rows) (t .buffers .out)))
     e
 
 -- ---- events
 
 -- the state that stands when the network was opened
 pub opened-state :
-    (r : Runner) (k : Buffers) {b : Bench} {tables sent held : List ℕ} →
-    openedAs b tables sent held ≡ openedOf r (buffers (k .costs) (k .tables) (k .sent) (k .held) [] [] []) →
-    state b (k .costs) tables sent held (k .messages) ≡ opened r k
+    (r : Runner) (k : Buffers) {b : Bench} {sent held : List ℕ} →
+    openedAs b sent held ≡ openedOf r (buffers (k .costs) (k .sent) (k .held) [] [] []) →
+    state b (k .costs) sent held (k .messages) ≡ opened r k
 unfolding opened
-opened-state r k {b} {tables} {sent} {held} = go (eqb (r .stage) 2)
+opened-state r k {b} {sent} {held} = go (eqb (r .stage) 2)
   where
     go :
         (z : Bool) →
-        openedAs b tables sent held
-        ≡ (let o = freshOf (r .bench) (k .costs) (k .tables) (k .sent) (k .held) in
-        let s = cond z (state (o .bench) (k .costs) (o .tables) (o .sent) (o .held) []) (state (r .bench) (k .costs) (k .tables) (k .sent) (k .held) []) in
-        openedAs (s .bench) (s .tables) (s .sent) (s .held)) →
-        state b (k .costs) tables sent held (k .messages)
-        ≡ (let o = freshOf (r .bench) (k .costs) (k .tables) (k .sent) (k .held) in
-        cond z (state (o .bench) (k .costs) (o .tables) (o .sent) (o .held) (k .messages)) (stateOn (r .bench) k))
-    go true e = ap (λ (o : Opened). state (o .bench) (k .costs) (o .tables) (o .sent) (o .held) (k .messages)) e
-    go false e = ap (λ (o : Opened). state (o .bench) (k .costs) (o .tables) (o .sent) (o .held) (k .messages)) e
+        openedAs b sent held
+        ≡ (let o = freshOf (r .bench) (k .costs) (k .sent) (k .held) in
+        let s = cond z (state (o .bench) (k .costs) (o .sent) (o .held) []) (state (r .bench) (k .costs) (k .sent) (k .held) []) in
+        openedAs (s .bench) (s .sent) (s .held)) →
+        state b (k .costs) sent held (k .messages)
+        ≡ (let o = freshOf (r .bench) (k .costs) (k .sent) (k .held) in
+        cond z (state (o .bench) (k .costs) (o .sent) (o .held) (k .messages)) (stateOn (r .bench) k))
+    go true e = ap (λ (o : Opened). state (o .bench) (k .costs) (o .sent) (o .held) (k .messages)) e
+    go false e = ap (λ (o : Opened). state (o .bench) (k .costs) (o .sent) (o .held) (k .messages)) e
 
 -- what happened, carried into a turn
 module _ (s : State) (e : Event) (used : ℕ) (r : Runner) (k : Buffers) (h : Happening) (same : h ≡ happenedOf s (k .rows) (k .out) e) where
@@ -78,16 +78,16 @@ module _ (s : State) (e : Event) (used : ℕ) (r : Runner) (k : Buffers) (h : Ha
       h .reply ≡ 0 →
       turn 0 true used (h .written)
       (record { bench = h .bench; stage = 3; events = r .events + 1; offset = r .offset + used })
-      (buffers (s .costs) (s .tables) (h .sent) (h .held) (h .messages) (h .rows) (h .out))
+      (buffers (s .costs) (h .sent) (h .held) (h .messages) (h .rows) (h .out))
       ≡ eventTurn s e used r k
   unfolding happenedOf eventTurn
-  accepted-turn none = rw (same, eq-eqb _ 0 (sym same-reply ∙ none), step-lasting s (callOf e) .0, step-lasting s (callOf e) .1)
+  accepted-turn none = rw (same, eq-eqb _ 0 (sym same-reply ∙ none), step-lasting s (callOf e))
 
   pub refused-turn :
       (h .reply ≡ 0 → ⊥) →
       lastTurn (h .reply) (lastText (h .reply) (r .events) (r .offset))
       (record { bench = h .bench; stage = 3; events = r .events; offset = r .offset })
-      (buffers (s .costs) (s .tables) (h .sent) (h .held) (h .messages) (h .rows) (h .out))
+      (buffers (s .costs) (h .sent) (h .held) (h .messages) (h .rows) (h .out))
       ≡ eventTurn s e used r k
   unfolding happenedOf eventTurn lastTurn lastText
   refused-turn some =
@@ -109,8 +109,7 @@ step-told r k ok =
     let all = both-true (leb (r .events) 61440 && leb (r .offset) 61440) _ ok in
     let counts = both-true (leb (r .events) 61440) _ (all .0) in
     let costs = both-true (leb 1024 (length (k .costs))) _ (all .1) in
-    let tables = both-true (leb 8192 (length (k .tables))) _ (costs .1) in
-    let sent = both-true (leb 1024 (length (k .sent))) _ (tables .1) in
+    let sent = both-true (leb 1024 (length (k .sent))) _ (costs .1) in
     let held = both-true (leb 1024 (length (k .held))) _ (sent .1) in
     let messages = both-true (leb 320 (length (k .messages))) _ (held .1) in
     let rows = both-true (leb 32 (length (k .rows))) _ (messages .1) in

@@ -61,10 +61,10 @@ listTexts (suc k) p rest ways =
     let o : FieldText = headText p rest ways in
     o .text ++ listTexts k p (drop (o .used) rest) (drop 3 ways)
 
--- the list is in range from here on: 60 events more, and the bytes that are left
+-- the list is in range from here on: 240 events more, and the bytes that are left
 pub record ListFits (r : Runner) (left : ℕ) : Type 0 where
   pub stage : r .stage ≡ 3
-  pub events : r .events ≤ 61380
+  pub events : r .events ≤ 61200
   pub offset : r .offset + left ≤ 61440
 
 -- with the calls of a list that were made, and their texts up to an end

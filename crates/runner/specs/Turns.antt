@@ -89,13 +89,13 @@ withRow rest b costs =
     ++ (costsReply rest (b .links) (part 32 (b .views) costs) .row ++ drop 32 (drop (32 * b .views) costs))
 
 abbrev pub buffersWithCosts : List ℕ → Buffers → Buffers
-buffersWithCosts costs k = buffers costs (k .tables) (k .sent) (k .held) (k .messages) (k .rows) (k .out)
+buffersWithCosts costs k = buffers costs (k .sent) (k .held) (k .messages) (k .rows) (k .out)
 
 -- the network is fresh before the first event
 unfoldable pub opened : Runner → Buffers → State
 opened r k =
-    let o = freshOf (r .bench) (k .costs) (k .tables) (k .sent) (k .held) in
-    cond (eqb (r .stage) 2) (state (o .bench) (k .costs) (o .tables) (o .sent) (o .held) (k .messages)) (stateOn (r .bench) k)
+    let o = freshOf (r .bench) (k .costs) (k .sent) (k .held) in
+    cond (eqb (r .stage) 2) (state (o .bench) (k .costs) (o .sent) (o .held) (k .messages)) (stateOn (r .bench) k)
 
 -- an event carried out on a state: accepted, it is counted and printed; refused, it ends the plan
 unfoldable pub eventTurn : State → Event → ℕ → Runner → Buffers → Turn
@@ -154,15 +154,14 @@ setUp bench costs = record { bench = bench; costs = costs }
 -- the network that stands before an event: fresh before the first
 pub record Opened : Type 0 where
   pub bench : Bench
-  pub tables : List ℕ
   pub sent : List ℕ
   pub held : List ℕ
 
-abbrev pub openedAs : Bench → List ℕ → List ℕ → List ℕ → Opened
-openedAs bench tables sent held = record { bench = bench; tables = tables; sent = sent; held = held }
+abbrev pub openedAs : Bench → List ℕ → List ℕ → Opened
+openedAs bench sent held = record { bench = bench; sent = sent; held = held }
 
 abbrev pub openedOf : Runner → Buffers → Opened
-openedOf r k = let s : State = opened r k in openedAs (s .bench) (s .tables) (s .sent) (s .held)
+openedOf r k = let s : State = opened r k in openedAs (s .bench) (s .sent) (s .held)
 
 -- what the reader has told of a field
 abbrev pub fieldFits : Bench → Field → Type 0

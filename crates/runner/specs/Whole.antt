@@ -55,7 +55,7 @@ stateAt p = stateOn (p .runner .bench) (p .buffers)
 
 -- what `fresh` leaves of what was set up
 abbrev pub freshAt : Place → State
-freshAt p = freshBy (p .runner .bench) (p .buffers .costs) (p .buffers .tables) (p .buffers .sent) (p .buffers .held) (p .buffers .messages)
+freshAt p = freshBy (p .runner .bench) (p .buffers .costs) (p .buffers .sent) (p .buffers .held) (p .buffers .messages)
 
 -- where the plan ends
 unfoldable pub leaves : ℕ → Runner → Buffers → List ℕ → Place
@@ -90,9 +90,9 @@ pub record NoEvent (end : Place) (cs : List Call) : Type 0 where
 -- holds of the calls, and the network of Demand3 is the one that stands in the state at the end
 pub record RunsFrom (p : Place) (end : Place) (cs : List Call) : Type 0 where
   pub stage : end .runner .stage ≡ 3
-  pub accepted : freshOf (p .runner .bench) (p .buffers .costs) (p .buffers .tables) (p .buffers .sent) (p .buffers .held) .reply ≡ 0
+  pub accepted : freshOf (p .runner .bench) (p .buffers .costs) (p .buffers .sent) (p .buffers .held) .reply ≡ 0
   pub ran : stateAt end ≡ runBy (freshAt p) cs
-  pub meets : Meets (p .runner .bench) (p .buffers .costs) (p .buffers .tables) (p .buffers .sent) (p .buffers .held) (p .buffers .messages) cs
+  pub meets : Meets (p .runner .bench) (p .buffers .costs) (p .buffers .sent) (p .buffers .held) (p .buffers .messages) cs
 
 abbrev pub PlanRuns : Type 0
 PlanRuns =

@@ -35,23 +35,14 @@ fn reaction_number(reply: bench::Reaction) -> u8
 fn update_event(
     bench: Bench,
     costs: &[u32],
-    tables: &[u32],
     sent: &mut [u32],
     held: &mut [u32],
     bridge: u8,
     view: u8,
 ) -> Happened
-    ensures { λ r. ⌜ happening (r .reply) (r .bench) (now (sent .exit)) (now (held .exit)) [] [] [] (r .written) ≡ happenedOf (state bench (now (costs .entry)) (now (tables .entry)) (now (sent .entry)) (now (held .entry)) []) [] [] (Update bridge view) ⌝ }
+    ensures { λ r. ⌜ happening (r .reply) (r .bench) (now (sent .exit)) (now (held .exit)) [] [] [] (r .written) ≡ happenedOf (state bench (now (costs .entry)) (now (sent .entry)) (now (held .entry)) []) [] [] (Update bridge view) ⌝ }
 {
-    let done = bench::changes::update(
-        bench,
-        costs,
-        tables,
-        sent,
-        held,
-        bridge as usize,
-        view as usize,
-    );
+    let done = bench::changes::update(bench, costs, sent, held, bridge as usize, view as usize);
     let reply = done.reply;
     let next = done.bench;
     Happened {
@@ -62,7 +53,7 @@ fn update_event(
 }
 
 fn cut_event(bench: Bench, link: u8) -> Happened
-    ensures { λ r. ⌜ happening (r .reply) (r .bench) [] [] [] [] [] (r .written) ≡ happenedOf (state bench [] [] [] [] []) [] [] (Cut link) ⌝ }
+    ensures { λ r. ⌜ happening (r .reply) (r .bench) [] [] [] [] [] (r .written) ≡ happenedOf (state bench [] [] [] []) [] [] (Cut link) ⌝ }
 {
     let done = bench::changes::cut(bench, link as usize);
     let reply = done.reply;
@@ -75,7 +66,7 @@ fn cut_event(bench: Bench, link: u8) -> Happened
 }
 
 fn restore_event(bench: Bench, link: u8) -> Happened
-    ensures { λ r. ⌜ happening (r .reply) (r .bench) [] [] [] [] [] (r .written) ≡ happenedOf (state bench [] [] [] [] []) [] [] (Restore link) ⌝ }
+    ensures { λ r. ⌜ happening (r .reply) (r .bench) [] [] [] [] [] (r .written) ≡ happenedOf (state bench [] [] [] []) [] [] (Restore link) ⌝ }
 {
     let done = bench::changes::restore(bench, link as usize);
     let reply = done.reply;
@@ -88,7 +79,7 @@ fn restore_event(bench: Bench, link: u8) -> Happened
 }
 
 fn send_event(bench: Bench, messages: &mut [u32], bridge: u8, link: u8) -> Happened
-    ensures { λ r. ⌜ happening (r .reply) (r .bench) [] [] (now (messages .exit)) [] [] (r .written) ≡ happenedOf (state bench [] [] [] [] (now (messages .entry))) [] [] (Send bridge link) ⌝ }
+    ensures { λ r. ⌜ happening (r .reply) (r .bench) [] [] (now (messages .exit)) [] [] (r .written) ≡ happenedOf (state bench [] [] [] (now (messages .entry))) [] [] (Send bridge link) ⌝ }
 {
     let done = bench::messages::send(bench, messages, bridge as usize, link as usize);
     let reply = done.reply;
@@ -101,7 +92,7 @@ fn send_event(bench: Bench, messages: &mut [u32], bridge: u8, link: u8) -> Happe
 }
 
 fn lose_event(bench: Bench, messages: &mut [u32], place: u8) -> Happened
-    ensures { λ r. ⌜ happening (r .reply) (r .bench) [] [] (now (messages .exit)) [] [] (r .written) ≡ happenedOf (state bench [] [] [] [] (now (messages .entry))) [] [] (Lose place) ⌝ }
+    ensures { λ r. ⌜ happening (r .reply) (r .bench) [] [] (now (messages .exit)) [] [] (r .written) ≡ happenedOf (state bench [] [] [] (now (messages .entry))) [] [] (Lose place) ⌝ }
 {
     let done = bench::messages::lose(bench, messages, place as usize);
     let reply = done.reply;
@@ -116,15 +107,14 @@ fn lose_event(bench: Bench, messages: &mut [u32], place: u8) -> Happened
 fn deliver_event(
     bench: Bench,
     costs: &[u32],
-    tables: &[u32],
     sent: &mut [u32],
     held: &mut [u32],
     messages: &mut [u32],
     place: u8,
 ) -> Happened
-    ensures { λ r. ⌜ happening (r .reply) (r .bench) (now (sent .exit)) (now (held .exit)) (now (messages .exit)) [] [] (r .written) ≡ happenedOf (state bench (now (costs .entry)) (now (tables .entry)) (now (sent .entry)) (now (held .entry)) (now (messages .entry))) [] [] (Deliver place) ⌝ }
+    ensures { λ r. ⌜ happening (r .reply) (r .bench) (now (sent .exit)) (now (held .exit)) (now (messages .exit)) [] [] (r .written) ≡ happenedOf (state bench (now (costs .entry)) (now (sent .entry)) (now (held .entry)) (now (messages .entry))) [] [] (Deliver place) ⌝ }
 {
-    let done = bench::messages::deliver(bench, costs, tables, sent, held, messages, place as usize);
+    let done = bench::messages::deliver(bench, costs, sent, held, messages, place as usize);
     let reply = done.reply;
     let next = done.bench;
     Happened {
@@ -137,15 +127,14 @@ fn deliver_event(
 fn repeat_event(
     bench: Bench,
     costs: &[u32],
-    tables: &[u32],
     sent: &mut [u32],
     held: &mut [u32],
     messages: &[u32],
     place: u8,
 ) -> Happened
-    ensures { λ r. ⌜ happening (r .reply) (r .bench) (now (sent .exit)) (now (held .exit)) (now (messages .entry)) [] [] (r .written) ≡ happenedOf (state bench (now (costs .entry)) (now (tables .entry)) (now (sent .entry)) (now (held .entry)) (now (messages .entry))) [] [] (Repeat place) ⌝ }
+    ensures { λ r. ⌜ happening (r .reply) (r .bench) (now (sent .exit)) (now (held .exit)) (now (messages .entry)) [] [] (r .written) ≡ happenedOf (state bench (now (costs .entry)) (now (sent .entry)) (now (held .entry)) (now (messages .entry))) [] [] (Repeat place) ⌝ }
 {
-    let done = bench::messages::repeat(bench, costs, tables, sent, held, messages, place as usize);
+    let done = bench::messages::repeat(bench, costs, sent, held, messages, place as usize);
     let reply = done.reply;
     let next = done.bench;
     Happened {
@@ -158,7 +147,6 @@ fn repeat_event(
 fn report_event(
     bench: Bench,
     costs: &[u32],
-    tables: &[u32],
     sent: &[u32],
     held: &[u32],
     rows: &mut [u32],
@@ -166,9 +154,9 @@ fn report_event(
     dest: u8,
 ) -> Happened
     requires { ⌜ (32 ≤ length (now rows)) × (544 ≤ length (now out)) ⌝ }
-    ensures { λ r. ⌜ happening (r .reply) (r .bench) (now (sent .entry)) (now (held .entry)) [] (now (rows .exit)) (now (out .exit)) (r .written) ≡ happenedOf (state bench (now (costs .entry)) (now (tables .entry)) (now (sent .entry)) (now (held .entry)) []) (now (rows .entry)) (now (out .entry)) (Report dest) ⌝ }
+    ensures { λ r. ⌜ happening (r .reply) (r .bench) (now (sent .entry)) (now (held .entry)) [] (now (rows .exit)) (now (out .exit)) (r .written) ≡ happenedOf (state bench (now (costs .entry)) (now (sent .entry)) (now (held .entry)) []) (now (rows .entry)) (now (out .entry)) (Report dest) ⌝ }
 {
-    let reply = bench::answers::report(bench, costs, tables, sent, held, dest as usize, rows);
+    let reply = bench::answers::report(bench, costs, sent, held, dest as usize, rows);
     let number = number_of(reply);
     if number != 0 {
         return Happened {
@@ -220,7 +208,6 @@ fn way_number(way: bench::Way) -> u8
 fn path_event(
     bench: Bench,
     costs: &[u32],
-    tables: &[u32],
     sent: &[u32],
     held: &[u32],
     out: &mut [u8],
@@ -228,17 +215,9 @@ fn path_event(
     dest: u8,
 ) -> Happened
     requires { ⌜ 544 ≤ length (now out) ⌝ }
-    ensures { λ r. ⌜ happening (r .reply) (r .bench) (now (sent .entry)) (now (held .entry)) [] [] (now (out .exit)) (r .written) ≡ happenedOf (state bench (now (costs .entry)) (now (tables .entry)) (now (sent .entry)) (now (held .entry)) []) [] (now (out .entry)) (Path start dest) ⌝ }
+    ensures { λ r. ⌜ happening (r .reply) (r .bench) (now (sent .entry)) (now (held .entry)) [] [] (now (out .exit)) (r .written) ≡ happenedOf (state bench (now (costs .entry)) (now (sent .entry)) (now (held .entry)) []) [] (now (out .entry)) (Path start dest) ⌝ }
 {
-    let way = bench::answers::path(
-        bench,
-        costs,
-        tables,
-        sent,
-        held,
-        start as usize,
-        dest as usize,
-    );
+    let way = bench::answers::path(bench, costs, sent, held, start as usize, dest as usize);
     let number = way_number(way);
     if number != 0 {
         return Happened {
@@ -257,7 +236,6 @@ fn path_event(
 pub(crate) fn happen(
     bench: Bench,
     costs: &[u32],
-    tables: &[u32],
     sent: &mut [u32],
     held: &mut [u32],
     messages: &mut [u32],
@@ -266,17 +244,17 @@ pub(crate) fn happen(
     event: Event,
 ) -> Happened
     requires { ⌜ (32 ≤ length (now rows)) × (544 ≤ length (now out)) ⌝ }
-    ensures { λ r. ⌜ happening (r .reply) (r .bench) (now (sent .exit)) (now (held .exit)) (now (messages .exit)) (now (rows .exit)) (now (out .exit)) (r .written) ≡ happenedOf (state bench (now (costs .entry)) (now (tables .entry)) (now (sent .entry)) (now (held .entry)) (now (messages .entry))) (now (rows .entry)) (now (out .entry)) event ⌝ }
+    ensures { λ r. ⌜ happening (r .reply) (r .bench) (now (sent .exit)) (now (held .exit)) (now (messages .exit)) (now (rows .exit)) (now (out .exit)) (r .written) ≡ happenedOf (state bench (now (costs .entry)) (now (sent .entry)) (now (held .entry)) (now (messages .entry))) (now (rows .entry)) (now (out .entry)) event ⌝ }
 {
     match event {
-        Event::Update(bridge, view) => update_event(bench, costs, tables, sent, held, bridge, view),
+        Event::Update(bridge, view) => update_event(bench, costs, sent, held, bridge, view),
         Event::Send(bridge, link) => send_event(bench, messages, bridge, link),
-        Event::Deliver(place) => deliver_event(bench, costs, tables, sent, held, messages, place),
-        Event::Repeat(place) => repeat_event(bench, costs, tables, sent, held, messages, place),
+        Event::Deliver(place) => deliver_event(bench, costs, sent, held, messages, place),
+        Event::Repeat(place) => repeat_event(bench, costs, sent, held, messages, place),
         Event::Lose(place) => lose_event(bench, messages, place),
         Event::Cut(link) => cut_event(bench, link),
         Event::Restore(link) => restore_event(bench, link),
-        Event::Report(dest) => report_event(bench, costs, tables, sent, held, rows, out, dest),
-        Event::Path(start, dest) => path_event(bench, costs, tables, sent, held, out, start, dest),
+        Event::Report(dest) => report_event(bench, costs, sent, held, rows, out, dest),
+        Event::Path(start, dest) => path_event(bench, costs, sent, held, out, start, dest),
     }
 }

@@ -29,7 +29,6 @@ fn step_on(
     done: Stepped,
     rest: &[u8],
     costs: &mut [u32],
-    tables: &mut [u32],
     sent: &mut [u32],
     held: &mut [u32],
     messages: &mut [u32],
@@ -37,7 +36,7 @@ fn step_on(
     out: &mut [u8],
 ) -> Stepped
     requires { ⌜ (done .used ≤ length (now rest)) × (done .written ≤ length (now out)) ⌝ }
-    ensures { λ s. ⌜ turn (s .reply) (s .going) (s .used) (s .written) (s .runner) (buffers (now (costs .exit)) (now (tables .exit)) (now (sent .exit)) (now (held .exit)) (now (messages .exit)) (now (rows .exit)) (now (out .exit))) ≡ stepOn (turn (done .reply) (done .going) (done .used) (done .written) (done .runner) (buffers (now (costs .entry)) (now (tables .entry)) (now (sent .entry)) (now (held .entry)) (now (messages .entry)) (now (rows .entry)) (now (out .entry)))) (now (rest .entry)) ⌝ }
+    ensures { λ s. ⌜ turn (s .reply) (s .going) (s .used) (s .written) (s .runner) (buffers (now (costs .exit)) (now (sent .exit)) (now (held .exit)) (now (messages .exit)) (now (rows .exit)) (now (out .exit))) ≡ stepOn (turn (done .reply) (done .going) (done .used) (done .written) (done .runner) (buffers (now (costs .entry)) (now (sent .entry)) (now (held .entry)) (now (messages .entry)) (now (rows .entry)) (now (out .entry)))) (now (rest .entry)) ⌝ }
 {
     let used = done.used;
     let written = done.written;
@@ -46,7 +45,6 @@ fn step_on(
         r,
         &rest[used..],
         costs,
-        tables,
         sent,
         held,
         messages,
@@ -63,33 +61,22 @@ fn steps_listed(
     done: Stepped,
     rest: &[u8],
     costs: &mut [u32],
-    tables: &mut [u32],
     sent: &mut [u32],
     held: &mut [u32],
     messages: &mut [u32],
     rows: &mut [u32],
     out: &mut [u8],
 ) -> Stepped
-    requires { ⌜ (done .used ≤ length (now rest)) × (done .written ≤ length (now out)) × (stepsOn (turn (done .reply) (done .going) (done .used) (done .written) (done .runner) (buffers (now costs) (now tables) (now sent) (now held) (now messages) (now rows) (now out))) ≡ true) ⌝ }
+    requires { ⌜ (done .used ≤ length (now rest)) × (done .written ≤ length (now out)) × (stepsOn (turn (done .reply) (done .going) (done .used) (done .written) (done .runner) (buffers (now costs) (now sent) (now held) (now messages) (now rows) (now out))) ≡ true) ⌝ }
     requires { ⌜ ListFits (done .runner) (length (now rest) - done .used) × (32 ≤ length (now rows)) ⌝ }
-    ensures { λ s. ⌜ StepsMade (turn (done .reply) (done .going) (done .used) (done .written) (done .runner) (buffers (now (costs .entry)) (now (tables .entry)) (now (sent .entry)) (now (held .entry)) (now (messages .entry)) (now (rows .entry)) (now (out .entry)))) (now (rest .entry)) (turn (s .reply) (s .going) (s .used) (s .written) (s .runner) (buffers (now (costs .exit)) (now (tables .exit)) (now (sent .exit)) (now (held .exit)) (now (messages .exit)) (now (rows .exit)) (now (out .exit)))) ⌝ }
+    ensures { λ s. ⌜ StepsMade (turn (done .reply) (done .going) (done .used) (done .written) (done .runner) (buffers (now (costs .entry)) (now (sent .entry)) (now (held .entry)) (now (messages .entry)) (now (rows .entry)) (now (out .entry)))) (now (rest .entry)) (turn (s .reply) (s .going) (s .used) (s .written) (s .runner) (buffers (now (costs .exit)) (now (sent .exit)) (now (held .exit)) (now (messages .exit)) (now (rows .exit)) (now (out .exit)))) ⌝ }
 {
-    let mut ways = [0u32; 180];
-    let next = list_in_room(
-        done,
-        rest,
-        costs,
-        tables,
-        sent,
-        held,
-        messages,
-        out,
-        &mut ways,
-    );
+    let mut ways = [0u32; 720];
+    let next = list_in_room(done, rest, costs, sent, held, messages, out, &mut ways);
     if next.going {
         return next;
     }
-    step_on(done, rest, costs, tables, sent, held, messages, rows, out)
+    step_on(done, rest, costs, sent, held, messages, rows, out)
 }
 
 // One step more, or several.
@@ -97,23 +84,22 @@ fn steps_more(
     done: Stepped,
     rest: &[u8],
     costs: &mut [u32],
-    tables: &mut [u32],
     sent: &mut [u32],
     held: &mut [u32],
     messages: &mut [u32],
     rows: &mut [u32],
     out: &mut [u8],
 ) -> Stepped
-    requires { ⌜ (done .used ≤ length (now rest)) × (done .written ≤ length (now out)) × (stepsOn (turn (done .reply) (done .going) (done .used) (done .written) (done .runner) (buffers (now costs) (now tables) (now sent) (now held) (now messages) (now rows) (now out))) ≡ true) ⌝ }
-    ensures { λ s. ⌜ StepsMade (turn (done .reply) (done .going) (done .used) (done .written) (done .runner) (buffers (now (costs .entry)) (now (tables .entry)) (now (sent .entry)) (now (held .entry)) (now (messages .entry)) (now (rows .entry)) (now (out .entry)))) (now (rest .entry)) (turn (s .reply) (s .going) (s .used) (s .written) (s .runner) (buffers (now (costs .exit)) (now (tables .exit)) (now (sent .exit)) (now (held .exit)) (now (messages .exit)) (now (rows .exit)) (now (out .exit)))) ⌝ }
+    requires { ⌜ (done .used ≤ length (now rest)) × (done .written ≤ length (now out)) × (stepsOn (turn (done .reply) (done .going) (done .used) (done .written) (done .runner) (buffers (now costs) (now sent) (now held) (now messages) (now rows) (now out))) ≡ true) ⌝ }
+    ensures { λ s. ⌜ StepsMade (turn (done .reply) (done .going) (done .used) (done .written) (done .runner) (buffers (now (costs .entry)) (now (sent .entry)) (now (held .entry)) (now (messages .entry)) (now (rows .entry)) (now (out .entry)))) (now (rest .entry)) (turn (s .reply) (s .going) (s .used) (s .written) (s .runner) (buffers (now (costs .exit)) (now (sent .exit)) (now (held .exit)) (now (messages .exit)) (now (rows .exit)) (now (out .exit)))) ⌝ }
 {
     let used = done.used;
     let r = done.runner;
     let fits = list_fits(r, rest.len() - used, tag_at(rest, used));
     if both(fits, 32 <= rows.len()) {
-        return steps_listed(done, rest, costs, tables, sent, held, messages, rows, out);
+        return steps_listed(done, rest, costs, sent, held, messages, rows, out);
     }
-    step_on(done, rest, costs, tables, sent, held, messages, rows, out)
+    step_on(done, rest, costs, sent, held, messages, rows, out)
 }
 
 // Fields of a plan, carried out one after another as long as 544 bytes are left for a text: `out[..written]` is to be printed, and where
@@ -122,18 +108,17 @@ pub fn fill(
     r: Runner,
     rest: &[u8],
     costs: &mut [u32],
-    tables: &mut [u32],
     sent: &mut [u32],
     held: &mut [u32],
     messages: &mut [u32],
     rows: &mut [u32],
     out: &mut [u8],
 ) -> Stepped
-    ensures { λ s. ⌜ turn (s .reply) (s .going) (s .used) (s .written) (s .runner) (buffers (now (costs .exit)) (now (tables .exit)) (now (sent .exit)) (now (held .exit)) (now (messages .exit)) (now (rows .exit)) (now (out .exit))) ≡ fillOf r (buffers (now (costs .entry)) (now (tables .entry)) (now (sent .entry)) (now (held .entry)) (now (messages .entry)) (now (rows .entry)) (now (out .entry))) (now (rest .entry)) ⌝ }
+    ensures { λ s. ⌜ turn (s .reply) (s .going) (s .used) (s .written) (s .runner) (buffers (now (costs .exit)) (now (sent .exit)) (now (held .exit)) (now (messages .exit)) (now (rows .exit)) (now (out .exit))) ≡ fillOf r (buffers (now (costs .entry)) (now (sent .entry)) (now (held .entry)) (now (messages .entry)) (now (rows .entry)) (now (out .entry))) (now (rest .entry)) ⌝ }
 {
-    let mut done = step(r, rest, costs, tables, sent, held, messages, rows, out);
+    let mut done = step(r, rest, costs, sent, held, messages, rows, out);
     while steps_on(done.going, done.written, out.len()) {
-        done = steps_more(done, rest, costs, tables, sent, held, messages, rows, out);
+        done = steps_more(done, rest, costs, sent, held, messages, rows, out);
     }
     done
 }

@@ -47,16 +47,16 @@ pub(crate) fn list_fits(r: Runner, left: usize, tag: u8) -> bool
     }
     both(
         both(r.stage == 3, tag != 11),
-        both(r.events <= 61380, r.offset as usize <= 61440 - left),
+        both(r.events <= 61200, r.offset as usize <= 61440 - left),
     )
 }
 
-// How many texts have room, up to 60.
+// How many texts have room, up to 240.
 fn list_room(room: usize) -> usize
-    ensures { λ n. ⌜ (n ≤ 60) × (544 * n ≤ room) ⌝ }
+    ensures { λ n. ⌜ (n ≤ 240) × (544 * n ≤ room) ⌝ }
 {
-    if 32640 <= room {
-        return 60;
+    if 130560 <= room {
+        return 240;
     }
     room / 544
 }
@@ -161,7 +161,6 @@ fn list_on(
     done: Stepped,
     rest: &[u8],
     costs: &[u32],
-    tables: &[u32],
     sent: &mut [u32],
     held: &mut [u32],
     messages: &mut [u32],
@@ -169,15 +168,15 @@ fn list_on(
     ways: &mut [u32],
 ) -> Stepped
     requires { ⌜ (done .going ≡ true) × (done .used ≤ length (now rest)) × ListFits (done .runner) (length (now rest) - done .used) ⌝ }
-    requires { ⌜ (length (now ways) ≤ 180) × (done .written + 544 * (length (now ways) / 3) ≤ length (now out)) ⌝ }
-    ensures { λ s. ⌜ ((rows : List ℕ) → 32 ≤ length rows → MadeOrNot (turn (done .reply) (done .going) (done .used) (done .written) (done .runner) (buffers (now (costs .entry)) (now (tables .entry)) (now (sent .entry)) (now (held .entry)) (now (messages .entry)) rows (now (out .entry)))) (now (rest .entry)) (turn (s .reply) (s .going) (s .used) (s .written) (s .runner) (buffers (now (costs .entry)) (now (tables .entry)) (now (sent .exit)) (now (held .exit)) (now (messages .exit)) rows (now (out .exit))))) ⌝ }
+    requires { ⌜ (length (now ways) ≤ 720) × (done .written + 544 * (length (now ways) / 3) ≤ length (now out)) ⌝ }
+    ensures { λ s. ⌜ ((rows : List ℕ) → 32 ≤ length rows → MadeOrNot (turn (done .reply) (done .going) (done .used) (done .written) (done .runner) (buffers (now (costs .entry)) (now (sent .entry)) (now (held .entry)) (now (messages .entry)) rows (now (out .entry)))) (now (rest .entry)) (turn (s .reply) (s .going) (s .used) (s .written) (s .runner) (buffers (now (costs .entry)) (now (sent .exit)) (now (held .exit)) (now (messages .exit)) rows (now (out .exit))))) ⌝ }
 {
     let used = done.used;
     let written = done.written;
     let r = done.runner;
     let bench = r.bench;
     let left = &rest[used..];
-    let ran = bench::lists::run(bench, costs, tables, sent, held, messages, left, ways);
+    let ran = bench::lists::run(bench, costs, sent, held, messages, left, ways);
     let calls = ran.calls;
     if calls == 0 {
         let mut none = done;
@@ -188,12 +187,11 @@ fn list_on(
     listed_on(done, ran, end)
 }
 
-// As many events as their texts have room for in `out`, and 60 at most.
+// As many events as their texts have room for in `out`, and 240 at most.
 pub(crate) fn list_in_room(
     done: Stepped,
     rest: &[u8],
     costs: &[u32],
-    tables: &[u32],
     sent: &mut [u32],
     held: &mut [u32],
     messages: &mut [u32],
@@ -201,8 +199,8 @@ pub(crate) fn list_in_room(
     ways: &mut [u32],
 ) -> Stepped
     requires { ⌜ (done .going ≡ true) × (done .used ≤ length (now rest)) × ListFits (done .runner) (length (now rest) - done .used) ⌝ }
-    requires { ⌜ (180 ≤ length (now ways)) × (done .written ≤ length (now out)) ⌝ }
-    ensures { λ s. ⌜ ((rows : List ℕ) → 32 ≤ length rows → MadeOrNot (turn (done .reply) (done .going) (done .used) (done .written) (done .runner) (buffers (now (costs .entry)) (now (tables .entry)) (now (sent .entry)) (now (held .entry)) (now (messages .entry)) rows (now (out .entry)))) (now (rest .entry)) (turn (s .reply) (s .going) (s .used) (s .written) (s .runner) (buffers (now (costs .entry)) (now (tables .entry)) (now (sent .exit)) (now (held .exit)) (now (messages .exit)) rows (now (out .exit))))) ⌝ }
+    requires { ⌜ (720 ≤ length (now ways)) × (done .written ≤ length (now out)) ⌝ }
+    ensures { λ s. ⌜ ((rows : List ℕ) → 32 ≤ length rows → MadeOrNot (turn (done .reply) (done .going) (done .used) (done .written) (done .runner) (buffers (now (costs .entry)) (now (sent .entry)) (now (held .entry)) (now (messages .entry)) rows (now (out .entry)))) (now (rest .entry)) (turn (s .reply) (s .going) (s .used) (s .written) (s .runner) (buffers (now (costs .entry)) (now (sent .exit)) (now (held .exit)) (now (messages .exit)) rows (now (out .exit))))) ⌝ }
 {
     let written = done.written;
     let past = 3 * list_room(out.len() - written);
@@ -210,7 +208,6 @@ pub(crate) fn list_in_room(
         done,
         rest,
         costs,
-        tables,
         sent,
         held,
         messages,

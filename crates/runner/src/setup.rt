@@ -48,18 +48,12 @@ pub(crate) fn store_row(rest: &[u8], bench: Bench, costs: &mut [u32])
 }
 
 // The network is fresh before the first event.
-pub(crate) fn open(
-    r: Runner,
-    costs: &[u32],
-    tables: &mut [u32],
-    sent: &mut [u32],
-    held: &mut [u32],
-) -> Bench
-    ensures { λ b. ⌜ openedAs b (now (tables .exit)) (now (sent .exit)) (now (held .exit)) ≡ openedOf r (buffers (now (costs .entry)) (now (tables .entry)) (now (sent .entry)) (now (held .entry)) [] [] []) ⌝ }
+pub(crate) fn open(r: Runner, costs: &[u32], sent: &mut [u32], held: &mut [u32]) -> Bench
+    ensures { λ b. ⌜ openedAs b (now (sent .exit)) (now (held .exit)) ≡ openedOf r (buffers (now (costs .entry)) (now (sent .entry)) (now (held .entry)) [] [] []) ⌝ }
 {
     let bench = r.bench;
     if r.stage == 2 {
-        let started = bench::changes::fresh(bench, costs, tables, sent, held);
+        let started = bench::changes::fresh(bench, costs, sent, held);
         started.bench
     } else {
         bench

@@ -52,25 +52,21 @@ pub fn first() -> Runner
 
 fn buffers_long(
     costs: usize,
-    tables: usize,
     sent: usize,
     held: usize,
     messages: usize,
     rows: usize,
     out: usize,
 ) -> bool
-    ensures { λ r. ⌜ r ≡ (leb 1024 costs && (leb 8192 tables && (leb 1024 sent && (leb 1024 held && (leb 320 messages && (leb 32 rows && leb 544 out)))))) ⌝ }
+    ensures { λ r. ⌜ r ≡ (leb 1024 costs && (leb 1024 sent && (leb 1024 held && (leb 320 messages && (leb 32 rows && leb 544 out))))) ⌝ }
 {
     both(
         1024 <= costs,
         both(
-            8192 <= tables,
+            1024 <= sent,
             both(
-                1024 <= sent,
-                both(
-                    1024 <= held,
-                    both(320 <= messages, both(32 <= rows, 544 <= out)),
-                ),
+                1024 <= held,
+                both(320 <= messages, both(32 <= rows, 544 <= out)),
             ),
         ),
     )
@@ -85,7 +81,7 @@ fn runner_in_range(r: Runner) -> bool
 // The plan ends here.
 fn ended(r: Runner, number: u8, out: &mut [u8]) -> Stepped
     requires { ⌜ 544 ≤ length (now out) ⌝ }
-    ensures { λ s. ⌜ turn (s .reply) (s .going) (s .used) (s .written) (s .runner) (buffers [] [] [] [] [] [] (now (out .exit))) ≡ lastTurn number (lastText number (r .events) (r .offset)) r (buffers [] [] [] [] [] [] (now (out .entry))) ⌝ }
+    ensures { λ s. ⌜ turn (s .reply) (s .going) (s .used) (s .written) (s .runner) (buffers [] [] [] [] [] (now (out .exit))) ≡ lastTurn number (lastText number (r .events) (r .offset)) r (buffers [] [] [] [] [] (now (out .entry))) ⌝ }
 {
     let written = last_line(out, number, r.events, r.offset);
     Stepped {
@@ -99,7 +95,7 @@ fn ended(r: Runner, number: u8, out: &mut [u8]) -> Stepped
 
 fn set_up(r: Runner, bench: Bench, stage: usize, used: usize) -> Stepped
     requires { ⌜ (r .offset ≤ 61440) × (used ≤ 65538) ⌝ }
-    ensures { λ s. ⌜ turn (s .reply) (s .going) (s .used) (s .written) (s .runner) (buffers [] [] [] [] [] [] []) ≡ setupTurn used bench stage r (buffers [] [] [] [] [] [] []) ⌝ }
+    ensures { λ s. ⌜ turn (s .reply) (s .going) (s .used) (s .written) (s .runner) (buffers [] [] [] [] [] []) ≡ setupTurn used bench stage r (buffers [] [] [] [] [] []) ⌝ }
 {
     let runner = Runner {
         bench,
@@ -119,7 +115,6 @@ fn set_up(r: Runner, bench: Bench, stage: usize, used: usize) -> Stepped
 fn event_step(
     r: Runner,
     costs: &[u32],
-    tables: &mut [u32],
     sent: &mut [u32],
     held: &mut [u32],
     messages: &mut [u32],
@@ -129,10 +124,10 @@ fn event_step(
     used: usize,
 ) -> Stepped
     requires { ⌜ (r .offset ≤ 61440) × (r .events ≤ 61440) × (used ≤ 65538) × (32 ≤ length (now rows)) × (544 ≤ length (now out)) ⌝ }
-    ensures { λ s. ⌜ turn (s .reply) (s .going) (s .used) (s .written) (s .runner) (buffers (now (costs .entry)) (now (tables .exit)) (now (sent .exit)) (now (held .exit)) (now (messages .exit)) (now (rows .exit)) (now (out .exit))) ≡ fieldTurn [] (Field.Event event) used r (buffers (now (costs .entry)) (now (tables .entry)) (now (sent .entry)) (now (held .entry)) (now (messages .entry)) (now (rows .entry)) (now (out .entry))) ⌝ }
+    ensures { λ s. ⌜ turn (s .reply) (s .going) (s .used) (s .written) (s .runner) (buffers (now (costs .entry)) (now (sent .exit)) (now (held .exit)) (now (messages .exit)) (now (rows .exit)) (now (out .exit))) ≡ fieldTurn [] (Field.Event event) used r (buffers (now (costs .entry)) (now (sent .entry)) (now (held .entry)) (now (messages .entry)) (now (rows .entry)) (now (out .entry))) ⌝ }
 {
-    let bench = setup::open(r, costs, tables, sent, held);
-    let happened = happen(bench, costs, tables, sent, held, messages, rows, out, event);
+    let bench = setup::open(r, costs, sent, held);
+    let happened = happen(bench, costs, sent, held, messages, rows, out, event);
     let after = happened.bench;
     let number = happened.reply;
     if number == 0 {
@@ -163,7 +158,6 @@ fn field_step(
     r: Runner,
     rest: &[u8],
     costs: &mut [u32],
-    tables: &mut [u32],
     sent: &mut [u32],
     held: &mut [u32],
     messages: &mut [u32],
@@ -174,7 +168,7 @@ fn field_step(
 ) -> Stepped
     requires { ⌜ (r .offset ≤ 61440) × (r .events ≤ 61440) × (used ≤ 65538) × (1024 ≤ length (now costs)) × (32 ≤ length (now rows)) × (544 ≤ length (now out)) ⌝ }
     requires { ⌜ fieldFits (r .bench) field ⌝ }
-    ensures { λ s. ⌜ turn (s .reply) (s .going) (s .used) (s .written) (s .runner) (buffers (now (costs .exit)) (now (tables .exit)) (now (sent .exit)) (now (held .exit)) (now (messages .exit)) (now (rows .exit)) (now (out .exit))) ≡ fieldTurn (now (rest .entry)) field used r (buffers (now (costs .entry)) (now (tables .entry)) (now (sent .entry)) (now (held .entry)) (now (messages .entry)) (now (rows .entry)) (now (out .entry))) ⌝ }
+    ensures { λ s. ⌜ turn (s .reply) (s .going) (s .used) (s .written) (s .runner) (buffers (now (costs .exit)) (now (sent .exit)) (now (held .exit)) (now (messages .exit)) (now (rows .exit)) (now (out .exit))) ≡ fieldTurn (now (rest .entry)) field used r (buffers (now (costs .entry)) (now (sent .entry)) (now (held .entry)) (now (messages .entry)) (now (rows .entry)) (now (out .entry))) ⌝ }
 {
     let bench = r.bench;
     match field {
@@ -184,18 +178,7 @@ fn field_step(
             setup::store_row(rest, bench, costs);
             set_up(r, setup::with_view(bench), 2, used)
         }
-        Field::Event(event) => event_step(
-            r,
-            costs,
-            tables,
-            sent,
-            held,
-            messages,
-            rows,
-            out,
-            event,
-            used,
-        ),
+        Field::Event(event) => event_step(r, costs, sent, held, messages, rows, out, event, used),
     }
 }
 
@@ -204,18 +187,16 @@ pub fn step(
     r: Runner,
     rest: &[u8],
     costs: &mut [u32],
-    tables: &mut [u32],
     sent: &mut [u32],
     held: &mut [u32],
     messages: &mut [u32],
     rows: &mut [u32],
     out: &mut [u8],
 ) -> Stepped
-    ensures { λ s. ⌜ turn (s .reply) (s .going) (s .used) (s .written) (s .runner) (buffers (now (costs .exit)) (now (tables .exit)) (now (sent .exit)) (now (held .exit)) (now (messages .exit)) (now (rows .exit)) (now (out .exit))) ≡ stepOf r (buffers (now (costs .entry)) (now (tables .entry)) (now (sent .entry)) (now (held .entry)) (now (messages .entry)) (now (rows .entry)) (now (out .entry))) (now (rest .entry)) ⌝ }
+    ensures { λ s. ⌜ turn (s .reply) (s .going) (s .used) (s .written) (s .runner) (buffers (now (costs .exit)) (now (sent .exit)) (now (held .exit)) (now (messages .exit)) (now (rows .exit)) (now (out .exit))) ≡ stepOf r (buffers (now (costs .entry)) (now (sent .entry)) (now (held .entry)) (now (messages .entry)) (now (rows .entry)) (now (out .entry))) (now (rest .entry)) ⌝ }
 {
     let long = buffers_long(
         costs.len(),
-        tables.len(),
         sent.len(),
         held.len(),
         messages.len(),
@@ -242,17 +223,5 @@ pub fn step(
     let Read::Field(field, used) = read else {
         return ended(r, stop_number(read), out);
     };
-    field_step(
-        r,
-        rest,
-        costs,
-        tables,
-        sent,
-        held,
-        messages,
-        rows,
-        out,
-        field,
-        used,
-    )
+    field_step(r, rest, costs, sent, held, messages, rows, out, field, used)
 }

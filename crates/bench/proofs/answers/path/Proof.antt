@@ -5,6 +5,7 @@ use borrow.Author.Tests.{not-true, not-false}
 use Rattle.bench.specs.Answers.{pathOf}
 use Rattle.bench.specs.Deliveries.{refusedBy}
 use Rattle.bench.proofs.EntrySettled.{out-of-range}
+use Rattle.bench.proofs.TableSteps.{tables-none}
 use Rattle.bench.proofs.answers.path.Statement.{statement}
 use Rattle.bench.proofs.answers.path.Tie as tie
 
@@ -16,10 +17,22 @@ unfolding pathOf
 returns c = out-of-range _ _ _ refusedBy _ (sym (c .before .network-in-range .ensures) ∙ not-true _ (c .if1 .taken))
 
 path-ready-requires : tie.Need-path-ready-requires
-path-ready-requires c κs = sym (c .before .network-in-range .ensures) ∙ not-false _ (c .if1 .left)
+path-ready-requires c κs = (sym (c .before .before .before .network-in-range .ensures) ∙ not-false _ (c .before .before .if1 .left), tables-none _ _)
 
 returns-2 : tie.Need-returns-2
-returns-2 c = c .path-ready .ensures
+returns-2 c = c .before .before .path-ready .ensures .0
+
+slice-aggregate-path-ready : tie.Need-slice-aggregate-path-ready
+slice-aggregate-path-ready c = search needs
+
+slice-aggregate-path-ready-2 : tie.Need-slice-aggregate-path-ready-2
+slice-aggregate-path-ready-2 c = search needs
 
 pub path-spec : {M : Type 1} → statement M
-path-spec = tie.close (tie.spec network-in-range-requires returns path-ready-requires returns-2)
+path-spec = tie.close (tie.spec
+    network-in-range-requires
+    returns
+    slice-aggregate-path-ready
+    slice-aggregate-path-ready-2
+    path-ready-requires
+    returns-2)

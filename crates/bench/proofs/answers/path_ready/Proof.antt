@@ -17,17 +17,30 @@ port-refusal-requires c κs = search needs
 
 returns : tie.Need-returns
 unfolding pathOf refuse checks noSuchBridge
-returns c = turned-down _ _ _ refusedBy _ (c .before .before .before .before .before .before .pre) _ (c .before .port-refusal .ensures) (c .if1 .taken)
+returns c = (turned-down _ _ _ refusedBy _ (c .before .before .before .before .before .before .before .pre .0) _ (c .before .port-refusal .ensures) (c .if1 .taken), c .before .before .before .before .before .before .before .pre .1)
 
 walk-requires : tie.Need-walk-requires
 unfolding refuse checks
 walk-requires c κs =
-    let s = c .before .before .before .before .before .before in
-    (ports-told _ _ _ _ _ (s .pre), bridges-listed (networkOf (s .args .bench) []) (s .args .start) (s .args .dest) _ (sym (c .before .port-refusal .ensures) ∙ c .if1 .left))
+    let s = c .before .before .before .before .before .before .before .before .before in
+    let two = bridges-listed (networkOf (s .args .bench) []) (s .args .start) (s .args .dest) _ (sym (c .before .before .before .port-refusal .ensures) ∙ c .before .before .if1 .left) in
+    (ports-told _ _ _ _ (s .pre .0), (two .0, two .1, s .pre .1))
 
 returns-2 : tie.Need-returns-2
 unfolding pathOf refuse checks noSuchBridge
-returns-2 c = rw (c .walk .ensures) (goes-on _ _ _ refusedBy _ (c .before .before .before .before .before .before .before .pre) _ (c .before .before .port-refusal .ensures) (c .before .if1 .left))
+returns-2 c = (rw (c .before .before .before .before .walk .ensures .0) (goes-on _ _ _ refusedBy _ (c .before .before .before .before .before .before .before .before .before .before .before .before .before .before .pre .0) _ (c .before .before .before .before .before .before .before .before .port-refusal .ensures) (c .before .before .before .before .before .before .before .if1 .left)), c .before .before .before .before .walk .ensures .1)
+
+same-length : tie.Need-same-length
+same-length c = search needs
+
+same-length-2 : tie.Need-same-length-2
+same-length-2 c = search needs
 
 pub path-ready-spec : {M : Type 1} → statement M
-path-ready-spec = tie.close (tie.spec port-refusal-requires returns walk-requires returns-2)
+path-ready-spec = tie.close (tie.spec
+    port-refusal-requires
+    returns
+    walk-requires
+    same-length
+    same-length-2
+    returns-2)

@@ -12,15 +12,13 @@ use Rattle.bench.specs.Answers.{portOf}
 use Rattle.bench.proofs.EntrySettled.{out-of-range, turned-down, goes-on}
 use Rattle.bench.proofs.ChoiceSteps.{ports-told}
 use Rattle.bench.proofs.WalkSteps.{bridges-listed}
+use Rattle.bench.proofs.TableSteps.{tables-none}
 use Rattle.bench.proofs.answers.port.Statement.{statement}
 use Rattle.bench.proofs.answers.port.Tie as tie
 
 -- the state that is asked
 abbrev StateOf : tie.Start → State
-StateOf s = let a = s .args in state (a .bench) (a .costs .now) (a .tables .now) (a .sent .now) (a .held .now) []
-
-in-range : (c : tie.Else1) → stateInRange (StateOf (c .before .before .before .before .before .before)) ≡ true
-in-range c = sym (c .before .network-in-range .ensures) ∙ not-false _ (c .if1 .left)
+StateOf s = let a = s .args in state (a .bench) (a .costs .now) (a .sent .now) (a .held .now) []
 
 network-in-range-requires : tie.Need-network-in-range-requires
 network-in-range-requires c κs = search needs
@@ -36,21 +34,27 @@ port-refusal-requires c κs = search needs
 returns-2 : tie.Need-returns-2
 unfolding portOf refuse checks noSuchBridge
 returns-2 c =
-    turned-down _ _ _ refusedBy _ (in-range (c .before .before)) _ (c .before .port-refusal .ensures) (c .if2 .taken)
+    turned-down _ _ _ refusedBy _ (sym (c .before .before .before .network-in-range .ensures) ∙ not-false _ (c .before .before .if1 .left)) _ (c .before .port-refusal .ensures) (c .if2 .taken)
 
-port-at-requires : tie.Need-port-at-requires
+port-of-requires : tie.Need-port-of-requires
 unfolding refuse checks
-port-at-requires c κs =
-    let s = c .before .before .before .before .before .before .before .before in
-    let passes = sym (c .before .port-refusal .ensures) ∙ c .if2 .left in
-    (ports-told _ _ _ _ _ (in-range (c .before .before)), bridges-listed (networkOf (s .args .bench) []) (s .args .bridge) (s .args .dest) _ passes)
+port-of-requires c κs =
+    let s = c .before .before .before .before .before .before .before .before .before in
+    let passes = sym (c .before .before .before .port-refusal .ensures) ∙ c .before .before .if2 .left in
+    (ports-told _ _ _ _ (sym (c .before .before .before .before .before .network-in-range .ensures) ∙ not-false _ (c .before .before .before .before .if1 .left)), let two = bridges-listed (networkOf (s .args .bench) []) (s .args .bridge) (s .args .dest) _ passes in (two .0, two .1, tables-none _ _))
 
 returns-3 : tie.Need-returns-3
 unfolding portOf refuse checks noSuchBridge
 returns-3 c =
-    rw (c .port-at .ensures)
-    (goes-on _ _ _ refusedBy _ (in-range (c .before .before .before)) _
-    (c .before .before .port-refusal .ensures) (c .before .if2 .left))
+    rw (c .before .before .port-of .ensures .0)
+    (goes-on _ _ _ refusedBy _ (sym (c .before .before .before .before .before .before .before .before .network-in-range .ensures) ∙ not-false _ (c .before .before .before .before .before .before .before .if1 .left)) _
+    (c .before .before .before .before .before .before .port-refusal .ensures) (c .before .before .before .before .before .if2 .left))
+
+slice-aggregate-port-of : tie.Need-slice-aggregate-port-of
+slice-aggregate-port-of c = search needs
+
+slice-aggregate-port-of-2 : tie.Need-slice-aggregate-port-of-2
+slice-aggregate-port-of-2 c = search needs
 
 pub port-spec : {M : Type 1} → statement M
 port-spec =
@@ -60,5 +64,7 @@ port-spec =
     returns
     port-refusal-requires
     returns-2
-    port-at-requires
+    slice-aggregate-port-of
+    slice-aggregate-port-of-2
+    port-of-requires
     returns-3)

@@ -16,25 +16,17 @@ use Rattle.bench.specs.Answers.{Reported, report, reportOf}
 use Rattle.bench.proofs.EntrySettled.{out-of-range, turned-down, goes-on}
 use Rattle.bench.proofs.ChoiceSteps.{ports-told}
 use Rattle.bench.proofs.WalkSteps.{bridge-listed}
+use Rattle.bench.proofs.TableSteps.{tables-none}
 use Rattle.bench.proofs.answers.report.Statement.{statement}
 use Rattle.bench.proofs.answers.report.Tie as tie
 
 -- the state that is asked
 abbrev StateOf : tie.Start → State
-StateOf s = let a = s .args in state (a .bench) (a .costs .now) (a .tables .now) (a .sent .now) (a .held .now) []
+StateOf s = let a = s .args in state (a .bench) (a .costs .now) (a .sent .now) (a .held .now) []
 
 -- refused, with the rows as they were
 abbrev Refused : tie.Start → ℕ → Reported
 Refused s k = report k (s .args .rows .now)
-
-in-range : (c : tie.Else1) → stateInRange (StateOf (c .before .before .before .before .before .before .before)) ≡ true
-in-range c = sym (c .before .network-in-range .ensures) ∙ not-false _ (c .if1 .left)
-
-all-in-range :
-    (c : tie.Else2) →
-    let s : tie.Start = c .before .before .before .before .before .before .before .before in
-    (stateInRange (StateOf s) && leb 32 (length (s .args .rows .now))) ≡ true
-all-in-range c = true-both (in-range (c .before)) (le-leb 32 _ (c .if2 .left))
 
 network-in-range-requires : tie.Need-network-in-range-requires
 network-in-range-requires c κs = search needs
@@ -42,7 +34,7 @@ network-in-range-requires c κs = search needs
 returns : tie.Need-returns
 unfolding reportOf
 returns c =
-    let s = c .before .before .before .before .before .before .before in (
+    let s = c .before .before .before .before .before .before in (
       out-of-range _ _ _ (Refused s) _ (rw (sym (c .before .network-in-range .ensures) ∙ not-true _ (c .if1 .taken))),
       omega arith,
     )
@@ -50,7 +42,7 @@ returns c =
 returns-2 : tie.Need-returns-2
 unfolding reportOf
 returns-2 c =
-    let s = c .before .before .before .before .before .before .before .before in (
+    let s = c .before .before .before .before .before .before .before in (
       out-of-range _ _ _ (Refused s) _ (not-both (stateInRange (StateOf s)) _ (lt-leb 32 _ (c .if2 .taken))),
       omega arith,
     )
@@ -61,18 +53,18 @@ report-refusal-requires c κs = search needs
 returns-3 : tie.Need-returns-3
 unfolding reportOf refuse checks noSuchBridge
 returns-3 c =
-    let s = c .before .before .before .before .before .before .before .before .before .before in (
-      turned-down _ _ _ (Refused s) _ (all-in-range (c .before .before)) _ (c .before .report-refusal .ensures) (c .if3 .taken),
+    let s = c .before .before .before .before .before .before .before .before .before in (
+      turned-down _ _ _ (Refused s) _ (true-both (sym (c .before .before .before .before .network-in-range .ensures) ∙ not-false _ (c .before .before .before .if1 .left)) (le-leb 32 _ (c .before .before .if2 .left))) _ (c .before .report-refusal .ensures) (c .if3 .taken),
       omega (arith, c .if3 .taken),
     )
 
 report-rows-requires : tie.Need-report-rows-requires
 unfolding refuse checks
 report-rows-requires c κs =
-    let s = c .before .before .before .before .before .before .before .before .before .before .before in
-    let passes = sym (c .before .before .report-refusal .ensures) ∙ c .before .if3 .left in (
-      ports-told _ _ _ _ _ (in-range (c .before .before .before .before)),
-      (bridge-listed (networkOf (s .args .bench) []) (s .args .dest) _ passes, c .before .before .before .if2 .left),
+    let s = c .before .before .before .before .before .before .before .before .before .before .before .before in
+    let passes = sym (c .before .before .before .before .report-refusal .ensures) ∙ c .before .before .before .if3 .left in (
+      ports-told _ _ _ _ (sym (c .before .before .before .before .before .before .before .network-in-range .ensures) ∙ not-false _ (c .before .before .before .before .before .before .if1 .left)),
+      (bridge-listed (networkOf (s .args .bench) []) (s .args .dest) _ passes, c .before .before .before .before .before .if2 .left, tables-none _ _),
     )
 
 same-length : tie.Need-same-length
@@ -81,11 +73,17 @@ same-length c = search needs
 returns-4 : tie.Need-returns-4
 unfolding reportOf refuse checks noSuchBridge
 returns-4 c =
-    let s = c .before .before .before .before .before .before .before .before .before .before .before .before .before .before in (
-      rw (c .before .before .report-rows .ensures)
-          (goes-on _ _ _ (Refused s) _ (all-in-range (c .before .before .before .before .before .before)) _ (c .before .before .before .before .before .report-refusal .ensures) (c .before .before .before .before .if3 .left)),
+    let s = c .before .before .before .before .before .before .before .before .before .before .before .before .before .before .before .before .before in (
+      rw (c .before .before .before .before .report-rows .ensures .0)
+          (goes-on _ _ _ (Refused s) _ (true-both (sym (c .before .before .before .before .before .before .before .before .before .before .before .before .network-in-range .ensures) ∙ not-false _ (c .before .before .before .before .before .before .before .before .before .before .before .if1 .left)) (le-leb 32 _ (c .before .before .before .before .before .before .before .before .before .before .if2 .left))) _ (c .before .before .before .before .before .before .before .before .before .report-refusal .ensures) (c .before .before .before .before .before .before .before .before .if3 .left)),
       tt,
     )
+
+slice-aggregate-report-rows : tie.Need-slice-aggregate-report-rows
+slice-aggregate-report-rows c = search needs
+
+slice-aggregate-report-rows-2 : tie.Need-slice-aggregate-report-rows-2
+slice-aggregate-report-rows-2 c = search needs
 
 pub report-spec : {M : Type 1} → statement M
 report-spec =
@@ -96,6 +94,8 @@ report-spec =
     returns-2
     report-refusal-requires
     returns-3
+    slice-aggregate-report-rows
+    slice-aggregate-report-rows-2
     report-rows-requires
     same-length
     returns-4)

@@ -17,63 +17,81 @@ use Rattle.bench.proofs.EntryChecks.{Counted, graph-counted}
 use Rattle.bench.proofs.ChangeEntry.{network-lasting}
 use Rattle.bench.proofs.EntrySettled.{turned-down, goes-on}
 use Rattle.bench.proofs.ChangeEntry.{update-same, update-told, number-left}
+use Rattle.bench.proofs.TableSteps.{tables-filled}
 use Rattle.bench.proofs.changes.update_ready.Statement.{statement}
 use Rattle.bench.proofs.changes.update_ready.Tie as tie
 
 -- what is handed over
 abbrev Given : tie.Start → State
-Given s = let a = s .args in state (a .t1) (a .costs .now) (a .tables .now) (a .sent .now) (a .held .now) []
+Given s = let a = s .args in state (a .t1) (a .costs .now) (a .sent .now) (a .held .now) []
 
 -- what a refusal leaves
 abbrev unmoved : State → ℕ → Rewritten
 unmoved s k = rewritten k (s .bench) (s .sent) (s .held)
 
-lasting : (s : tie.Start) → LastingOf (s .args .t1) (s .args .costs .now) (s .args .tables .now)
-lasting s = network-lasting _ _ _ _ _ (s .pre)
+lasting : (s : tie.Start) → LastingOf (s .args .t1) (s .args .costs .now)
+lasting s = network-lasting _ _ _ _ (s .pre .0)
+
+fits : (s : tie.Start) → Fits w16 (getD (s .args .t1 .number) (s .args .bridge) 0)
+fits s = search needs
 
 counts : (s : tie.Start) → Counted (s .args .t1)
-counts s = graph-counted _ (graph-kept _ _ _ (lasting s))
+counts s = graph-counted _ (graph-kept _ _ (lasting s))
 
 update-refusal-requires : tie.Need-update-refusal-requires
-update-refusal-requires c κs = counts (c .before .before .before .before) .bridges
+update-refusal-requires c κs = counts (c .before .before .before .before .before) .bridges
 
 refused-requires : tie.Need-refused-requires
 refused-requires c κs = search needs
 
 returns : tie.Need-returns
 unfolding updateOf
-returns c = let s = Given (c .before .before .before .before .before .before .before) in (
-  ap (λ (o : Changed). rewritten (o .reply) (o .bench) (s .sent) (s .held)) (c .refused .ensures .0)
-      ∙ turned-down _ _ _ (unmoved s) _ (c .before .before .before .before .before .before .before .pre) _ (c .before .before .update-refusal .ensures ∙ update-same s _ _) (c .before .if1 .taken),
-  c .refused .ensures .1,
+returns c = let s = Given (c .before .before .before .before .before .before .before .before) in (
+  (
+    ap (λ (o : Changed). rewritten (o .reply) (o .bench) (s .sent) (s .held)) (c .refused .ensures .0)
+        ∙ turned-down _ _ _ (unmoved s) _ (c .before .before .before .before .before .before .before .before .pre .0) _ (c .before .before .update-refusal .ensures ∙ update-same s _ _) (c .before .if1 .taken),
+    c .refused .ensures .1,
+  ),
+  c .before .before .before .before .before .before .before .before .pre .1,
 )
 
 element-copy-out-present : tie.Need-element-copy-out-present
-element-copy-out-present c = let a = c .before .before .before .before .before .before .args in
-    omega (arith, counts (c .before .before .before .before .before .before) .bridges, update-told (networkOf (a .t1) []) (a .bridge) (a .view) (c .before .update-refusal .ensures) (c .if1 .left) .bridge)
+element-copy-out-present c = let a = c .before .before .before .before .before .before .before .args in
+    omega (arith, counts (c .before .before .before .before .before .before .before) .bridges, update-told (networkOf (a .t1) []) (a .bridge) (a .view) (c .before .update-refusal .ensures) (c .if1 .left) .bridge)
 
 cast-present : tie.Need-cast-present
 cast-present c = search needs
 
 returns-2 : tie.Need-returns-2
 unfolding updateOf
-returns-2 c = let s = Given (c .before .before .before .before .before .before .before .before) in (
-  rw (eq-eqb _ _ (c .if2 .taken)) (goes-on _ _ _ (unmoved s) _ (c .before .before .before .before .before .before .before .before .pre) _ (c .before .before .before .update-refusal .ensures ∙ update-same s _ _) (c .before .before .if1 .left)),
-  tt,
+returns-2 c = let s = Given (c .before .before .before .before .before .before .before .before .before) in (
+  (
+    rw (eq-eqb _ _ (c .if2 .taken)) (goes-on _ _ _ (unmoved s) _ (c .before .before .before .before .before .before .before .before .before .pre .0) _ (c .before .before .before .update-refusal .ensures ∙ update-same s _ _) (c .before .before .if1 .left)),
+    tt,
+  ),
+  c .before .before .before .before .before .before .before .before .before .pre .1,
 )
 
-moved-requires : tie.Need-moved-requires
-moved-requires c κs = let a = c .before .before .before .before .before .before .before .before .before .before .args in
-    let l = lasting (c .before .before .before .before .before .before .before .before .before .before) in
-    let n = counts (c .before .before .before .before .before .before .before .before .before .before) in
+need-view-requires : tie.Need-need-view-requires
+need-view-requires c κs = let a = c .before .before .before .before .before .before .before .before .before .before .before .args in
     let u = update-told (networkOf (a .t1) []) (a .bridge) (a .view) (c .before .before .before .before .before .update-refusal .ensures) (c .before .before .before .before .if1 .left) in
-    let number : Fits w16 (getD (a .t1 .number) (a .bridge) 0) = search needs in (
-      n .links,
-      omega (arith, n .bridges, u .bridge),
-      omega (arith, n .views, u .view),
-      l .costsLong,
-      l .tablesLong,
-      number-left (networkOf (a .t1) []) (a .bridge) (a .view) u (number .fits) (c .before .before .if2 .left),
+    (omega (arith, counts (c .before .before .before .before .before .before .before .before .before .before .before) .views, u .view), lasting (c .before .before .before .before .before .before .before .before .before .before .before) .costsLong, c .before .before .before .before .before .before .before .before .before .before .before .pre .1)
+
+moved-requires : tie.Need-moved-requires
+moved-requires c κs = let a = c .before .before .before .before .before .before .before .before .before .before .before .before .before .before .before .before .before .before .before .args in
+    let l = lasting (c .before .before .before .before .before .before .before .before .before .before .before .before .before .before .before .before .before .before .before) in
+    let n = counts (c .before .before .before .before .before .before .before .before .before .before .before .before .before .before .before .before .before .before .before) in
+    let u = update-told (networkOf (a .t1) []) (a .bridge) (a .view) (c .before .before .before .before .before .before .before .before .before .before .before .before .before .update-refusal .ensures) (c .before .before .before .before .before .before .before .before .before .before .before .before .if1 .left) in
+    let number : Fits w16 (getD (a .t1 .number) (a .bridge) 0) = fits (c .before .before .before .before .before .before .before .before .before .before .before .before .before .before .before .before .before .before .before) in (
+      (
+        n .links,
+        omega (arith, n .bridges, u .bridge),
+        omega (arith, n .views, u .view),
+        l .costsLong,
+        omega (arith, c .before .before .before .before .before .before .before .need-view .ensures .0 .0 .long),
+        number-left (networkOf (a .t1) []) (a .bridge) (a .view) u (number .fits) (c .before .before .before .before .before .before .before .before .before .before .if2 .left),
+      ),
+      tables-filled _ _ _ _ (c .before .before .before .before .before .before .before .need-view .ensures .0 .0) (a .view) (omega (arith, n .views, u .view)) (c .before .before .before .before .before .before .before .need-view .ensures .0 .1),
     )
 
 same-length : tie.Need-same-length
@@ -84,11 +102,20 @@ same-length-2 c = search needs
 
 returns-3 : tie.Need-returns-3
 unfolding updateOf
-returns-3 c = let s = Given (c .before .before .before .before .before .before .before .before .before .before .before .before .before .before .before) in (
-  c .before .before .before .before .moved .ensures
-      ∙ rw (ne-eqb _ _ (c .before .before .before .before .before .before .before .if2 .left)) (goes-on _ _ _ (unmoved s) _ (c .before .before .before .before .before .before .before .before .before .before .before .before .before .before .before .pre) _ (c .before .before .before .before .before .before .before .before .before .before .update-refusal .ensures ∙ update-same s _ _) (c .before .before .before .before .before .before .before .before .before .if1 .left)),
-  tt,
+returns-3 c = let s = Given (c .before .before .before .before .before .before .before .before .before .before .before .before .before .before .before .before .before .before .before .before .before .before .before .before) in (
+  (
+    c .before .before .before .before .moved .ensures
+        ∙ rw (ne-eqb _ _ (c .before .before .before .before .before .before .before .before .before .before .before .before .before .before .before .if2 .left)) (goes-on _ _ _ (unmoved s) _ (c .before .before .before .before .before .before .before .before .before .before .before .before .before .before .before .before .before .before .before .before .before .before .before .before .pre .0) _ (c .before .before .before .before .before .before .before .before .before .before .before .before .before .before .before .before .before .before .update-refusal .ensures ∙ update-same s _ _) (c .before .before .before .before .before .before .before .before .before .before .before .before .before .before .before .before .before .if1 .left)),
+    tt,
+  ),
+  c .before .before .before .before .before .before .before .before .before .before .before .before .need-view .ensures .0 .0,
 )
+
+same-length-3 : tie.Need-same-length-3
+same-length-3 c = search needs
+
+same-length-4 : tie.Need-same-length-4
+same-length-4 c = search needs
 
 pub update-ready-spec : {M : Type 1} → statement M
 update-ready-spec =
@@ -100,7 +127,10 @@ update-ready-spec =
     element-copy-out-present
     cast-present
     returns-2
+    need-view-requires
     moved-requires
     same-length
     same-length-2
+    same-length-3
+    same-length-4
     returns-3)

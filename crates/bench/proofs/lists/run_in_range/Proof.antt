@@ -12,8 +12,11 @@ use Rattle.bench.specs.Changes.{number, stateInRange}
 use Rattle.bench.specs.Deliveries.{deliveryReady}
 use Rattle.bench.specs.Lists.{runs}
 use Rattle.bench.specs.State.{State, state}
+use Rattle.bench.specs.Steps.{Tables}
 use Rattle.bench.specs.declared.Bench.{Bench}
 use Rattle.bench.proofs.ListCalls.{FirstCall, way-fits, next-changes, nothing-turn, asks-turn, change-turn, ways-long}
+use Rattle.bench.proofs.ListSteps.{made-graph}
+use Rattle.bench.proofs.TableSteps.{tables-none, tables-same}
 use Rattle.bench.proofs.ListTurns.{left, Underway, begins, goes-on, onward, shrinks, used-within, ended}
 use Rattle.bench.proofs.lists.run_in_range.Statement.{statement}
 use Rattle.bench.proofs.lists.run_in_range.Tie as tie
@@ -26,26 +29,27 @@ three : (calls : ℕ) → widthAt calls ≡ 3
 three calls = omega arith
 
 abbrev Inv-loop : tie.InvT-loop
-Inv-loop costs tables sent₀ held₀ flight₀ rest ways₀ most current₀ calls₀ used₀ going₀ sent held flight ways current calls used going =
-    Underway (runs most (state current₀ costs tables sent₀ held₀ flight₀) rest ways₀) most rest (state current costs tables sent held flight) calls used ways going
-    × (deliveryReady (state current costs tables sent held flight) ≡ true)
+Inv-loop costs sent₀ held₀ flight₀ rest ways₀ most tables₀ known₀ current₀ calls₀ used₀ going₀ sent held flight ways tables known current calls used going =
+    Underway (runs most (state current₀ costs sent₀ held₀ flight₀) rest ways₀) most rest (state current costs sent held flight) calls used ways going
+    × (deliveryReady (state current costs sent held flight) ≡ true)
     × (length sent ≡ length sent₀)
     × (length held ≡ length held₀)
     × (length flight ≡ length flight₀)
     × (length ways ≡ length ways₀)
+    × Tables current costs tables known
 
 abbrev μ-loop : tie.MeasureT-loop
-μ-loop costs tables sent₀ held₀ flight₀ rest ways₀ most current₀ calls₀ used₀ going₀ sent held flight ways current calls used going =
+μ-loop costs sent₀ held₀ flight₀ rest ways₀ most tables₀ known₀ current₀ calls₀ used₀ going₀ sent held flight ways tables known current calls used going =
     left most calls going
 
 -- the state, with what the loop changes
 abbrev At : tie.Start Inv-loop μ-loop → Bench → List ℕ → List ℕ → List ℕ → State
-At s current sent held flight = state current (s .args .costs .now) (s .args .tables .now) sent held flight
+At s current sent held flight = state current (s .args .costs .now) sent held flight
 
 -- where the arms meet: one call was made, or none
 met :
     (c : tie.At-match-came Inv-loop μ-loop) →
-    let start = c .before .before .before .before .before .before .before .before .before .before .before .before .before in
+    let start = c .before .before .before .before .before .before .before .before .before .before .before .before in
     let l = c .before .before .before .before .before .loop in
     let rest = start .args .rest .now in
     FirstCall (At start (l .current) (l .sent) (l .held) (l .flight)) (take (length rest - l .used) (drop (l .used) rest)) (l .calls) (l .ways)
@@ -57,15 +61,28 @@ met c =
     let ok = c .before .before .before .before .before .loop .inv .1 in
     let read = c .before .read-next .ensures in
     ⊎-elim
-    (λ w. nothing-turn _ _ _ _ _ _ _ read _ _ ok (w .1 .given .1) (w .2) (w .3) (w .4) (w .5) (w .6) (w .7))
+    (λ w. nothing-turn _ _ _ _ _ _ read _ _ ok (w .1 .given .1) (w .2) (w .3) (w .4) (w .5) (w .8) (w .9))
     (λ v. ⊎-elim
-    (λ w. asks-turn _ _ _ _ _ _ _ read _ _ ok (w .6 .result) (widthAt calls) (three calls) (w .1 .given .1) (w .6 .ensures) (w .7 .ensures) (w .10) (w .11) (w .12) (w .13) (w .14) (w .15))
-    (λ w. change-turn _ _ _ _ _ _ _ read _ _ ok (number (w .6 .result .reply)) (w .1 .given .1) (w .6 .ensures) (omega (arith, w .6 .kept)) (omega (arith, w .6 .kept)) (omega (arith, w .6 .kept)) (w .14 .ensures) (w .15) (w .16) (w .17) (w .18) (w .19) (w .20))
+    (λ w. asks-turn _ _ _ _ _ _ read _ _ ok (w .8 .result) (widthAt calls) (three calls) (w .1 .given .1) (w .8 .ensures .0) (w .11 .ensures) (w .14) (w .15) (w .16) (w .17) (w .20) (w .21))
+    (λ w. change-turn _ _ _ _ _ _ read _ _ ok (number (w .8 .result .reply)) (w .1 .given .1) (w .8 .ensures .0) (omega (arith, w .8 .kept)) (omega (arith, w .8 .kept)) (omega (arith, w .8 .kept)) (w .18 .ensures) (w .19) (w .20) (w .21) (w .22) (w .25) (w .26))
+    v)
+    (c .match .came)
+
+-- and the tables are still those of the views
+met-tables :
+    (c : tie.At-match-came Inv-loop μ-loop) →
+    let start = c .before .before .before .before .before .before .before .before .before .before .before .before in Tables (c .match .current) (start .args .costs .now) (c .match .tables) (c .match .known)
+met-tables c =
+    ⊎-elim
+    (λ w. rw (w .6, w .7, w .8) (c .before .before .before .before .before .loop .inv .6))
+    (λ v. ⊎-elim
+    (λ w. rw (w .18, w .19, w .20) (w .8 .ensures .1))
+    (λ w. let same = made-graph (At (c .before .before .before .before .before .before .before .before .before .before .before .before) (c .before .before .before .before .before .loop .current) (c .before .before .before .before .before .loop .sent) (c .before .before .before .before .before .loop .held) (c .before .before .before .before .before .loop .flight)) _ (number (w .8 .result .reply)) _ (w .8 .ensures .0) in rw (w .23, w .24, w .25) (tables-same _ _ _ _ _ (same .0) (same .1) (same .2) (w .8 .ensures .1)))
     v)
     (c .match .came)
 
 loop-holds : tie.Need-loop-holds Inv-loop μ-loop
-loop-holds c = (begins _ _ _ _ (omega arith), c .before .before .before .before .before .before .before .pre, refl, refl, refl, refl)
+loop-holds c = (begins _ _ _ _ (omega arith), c .before .before .before .before .before .before .pre, refl, refl, refl, refl, tables-none _ _)
 
 both-requires : tie.Need-both-requires Inv-loop μ-loop
 both-requires c κs = search needs
@@ -95,10 +112,10 @@ cast-to : tie.Need-cast-to Inv-loop μ-loop
 cast-to c = search needs
 
 mul-first : tie.Need-mul-first Inv-loop μ-loop
-mul-first c = record { fits = omega (arith, c .before .before .before .before .before .before .before .loop .inv .0 .few, c .before .before .before .before .before .before .before .loop .inv .0 .room, c .before .before .before .before .before .before .before .before .before .before .before .before .before .before .before .good) }
+mul-first c = record { fits = omega (arith, c .before .before .before .before .before .before .before .loop .inv .0 .few, c .before .before .before .before .before .before .before .loop .inv .0 .room, c .before .before .before .before .before .before .before .before .before .before .before .before .before .before .good) }
 
 add-past : tie.Need-add-past Inv-loop μ-loop
-add-past c = record { fits = omega (arith, c .before .before .before .before .before .before .before .loop .inv .0 .few, c .before .before .before .before .before .before .before .loop .inv .0 .room, c .before .before .before .before .before .before .before .before .before .before .before .before .before .before .before .good) }
+add-past c = record { fits = omega (arith, c .before .before .before .before .before .before .before .loop .inv .0 .few, c .before .before .before .before .before .before .before .loop .inv .0 .room, c .before .before .before .before .before .before .before .before .before .before .before .before .before .before .good) }
 
 mul-way : tie.Need-mul-way Inv-loop μ-loop
 mul-way c = search needs
@@ -113,25 +130,25 @@ part-way-end : tie.Need-part-way-end Inv-loop μ-loop
 part-way-end c = omega (arith, c .before .before .before .before .before .before .before .loop .inv .0 .room, goes-on _ _ _ _ _ _ _ (c .before .before .before .before .before .before .both .ensures) (c .before .before .before .before .before .if1 .taken) (c .before .before .before .before .before .before .before .loop .inv .0))
 
 path-ready-requires : tie.Need-path-ready-requires Inv-loop μ-loop
-path-ready-requires c κs = both-true (stateInRange (At (c .before .before .before .before .before .before .before .before .before .before .before .before .before .before .before .before .before .before) (c .before .before .before .before .before .before .before .before .before .before .loop .current) (c .before .before .before .before .before .before .before .before .before .before .loop .sent) (c .before .before .before .before .before .before .before .before .before .before .loop .held) (c .before .before .before .before .before .before .before .before .before .before .loop .flight))) _ (c .before .before .before .before .before .before .before .before .before .before .loop .inv .1) .0
+path-ready-requires c κs = (both-true (stateInRange (At (c .before .before .before .before .before .before .before .before .before .before .before .before .before .before .before .before .before .before .before) (c .before .before .before .before .before .before .before .before .before .before .before .before .loop .current) (c .before .before .before .before .before .before .before .before .before .before .before .before .loop .sent) (c .before .before .before .before .before .before .before .before .before .before .before .before .loop .held) (c .before .before .before .before .before .before .before .before .before .before .before .before .loop .flight))) _ (c .before .before .before .before .before .before .before .before .before .before .before .before .loop .inv .1) .0, c .before .before .before .before .before .before .before .before .before .before .before .before .loop .inv .6)
 
 path-by-requires : tie.Need-path-by-requires Inv-loop μ-loop
-path-by-requires c κs = (search needs, way-fits _ _ _ (c .path-ready .result) (c .path-ready .ensures))
+path-by-requires c κs = (search needs, way-fits _ _ _ (c .before .before .path-ready .result) (c .before .before .path-ready .ensures .0))
 
 enum-known-next-2 : tie.Need-enum-known-next-2 Inv-loop μ-loop
 enum-known-next-2 c = search needs
 
 make-requires : tie.Need-make-requires Inv-loop μ-loop
-make-requires c κs = (next-changes _ _ _ _ (c .before .before .before .before .before .before .read-next .ensures) (c .before .before .before .before .next2 .given .1), c .before .before .before .before .before .before .before .before .before .before .loop .inv .1)
+make-requires c κs = ((next-changes _ _ _ _ (c .before .before .before .before .before .before .before .before .read-next .ensures) (c .before .before .before .before .before .before .next2 .given .1), c .before .before .before .before .before .before .before .before .before .before .before .before .loop .inv .1), c .before .before .before .before .before .before .before .before .before .before .before .before .loop .inv .6)
 
 bytes-by-requires : tie.Need-bytes-by-requires Inv-loop μ-loop
 bytes-by-requires c κs = search needs
 
 counted-requires : tie.Need-counted-requires Inv-loop μ-loop
-counted-requires c κs = omega (arith, c .before .before .before .before .before .loop .inv .0 .few, c .before .before .before .before .before .loop .inv .0 .room, c .before .before .before .before .before .before .before .before .before .before .before .before .before .good)
+counted-requires c κs = omega (arith, c .before .before .before .before .before .loop .inv .0 .few, c .before .before .before .before .before .loop .inv .0 .room, c .before .before .before .before .before .before .before .before .before .before .before .before .good)
 
 add-used : tie.Need-add-used Inv-loop μ-loop
-add-used c = record { fits = omega (arith, used-within _ _ _ _ _ _ _ (c .before .before .before .before .before .before .both .ensures) (c .before .before .before .before .before .if1 .taken) (c .before .before .before .before .before .before .before .loop .inv .0) (met (c .before .before)), c .before .before .before .before .before .before .before .before .before .before .before .before .before .before .before .good) }
+add-used c = record { fits = omega (arith, used-within _ _ _ _ _ _ _ (c .before .before .before .before .before .before .both .ensures) (c .before .before .before .before .before .if1 .taken) (c .before .before .before .before .before .before .before .loop .inv .0) (met (c .before .before)), c .before .before .before .before .before .before .before .before .before .before .before .before .before .before .good) }
 
 loop-less : tie.Need-loop-less Inv-loop μ-loop
 loop-less c = shrinks _ _ _ _ _ _ _ (c .before .before .before .before .before .before .both .ensures) (c .before .before .before .before .before .if1 .taken) (c .before .before .before .before .before .before .before .loop .inv .0) (met (c .before .before)) (c .before .counted .ensures)
@@ -145,6 +162,7 @@ loop-again c = let old = c .before .before .before .before .before .before .befo
       omega (arith, f .heldLong, old .3),
       omega (arith, f .flightLong, old .4),
       omega (arith, ways-long _ _ _ _ f, old .5),
+      met-tables (c .before .before),
     )
 
 same-length : tie.Need-same-length Inv-loop μ-loop
@@ -161,6 +179,18 @@ same-length-4 c = omega (arith, c .before .before .loop .inv .5)
 
 returns : tie.Need-returns Inv-loop μ-loop
 returns c = (refl, ended _ _ _ _ _ _ _ _ _ (c .before .both .ensures) (c .if1 .left) (c .before .before .loop .inv .0))
+
+slice-aggregate-path-ready : tie.Need-slice-aggregate-path-ready Inv-loop μ-loop
+slice-aggregate-path-ready c = search needs
+
+slice-aggregate-path-ready-2 : tie.Need-slice-aggregate-path-ready-2 Inv-loop μ-loop
+slice-aggregate-path-ready-2 c = search needs
+
+slice-aggregate-make : tie.Need-slice-aggregate-make Inv-loop μ-loop
+slice-aggregate-make c = search needs
+
+slice-aggregate-make-2 : tie.Need-slice-aggregate-make-2 Inv-loop μ-loop
+slice-aggregate-make-2 c = search needs
 
 pub run-in-range-spec : {M : Type 1} → statement M
 run-in-range-spec =
@@ -184,9 +214,13 @@ run-in-range-spec =
     sub-way
     part-way-start
     part-way-end
+    slice-aggregate-path-ready
+    slice-aggregate-path-ready-2
     path-ready-requires
     path-by-requires
     enum-known-next-2
+    slice-aggregate-make
+    slice-aggregate-make-2
     make-requires
     bytes-by-requires
     counted-requires

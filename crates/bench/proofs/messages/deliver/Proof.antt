@@ -6,12 +6,13 @@ use borrow.Author.Tests.{not-true, not-false}
 use Rattle.bench.specs.State.{State, state}
 use Rattle.bench.proofs.TieRefusals.{refusal-out}
 use Rattle.bench.proofs.FlightCalls.{deliver-refused}
+use Rattle.bench.proofs.TableSteps.{tables-none}
 use Rattle.bench.proofs.messages.deliver.Statement.{statement}
 use Rattle.bench.proofs.messages.deliver.Tie as tie
 
 -- what is handed over
 abbrev Given : tie.Start → State
-Given s = let a = s .args in state (a .bench) (a .costs .now) (a .tables .now) (a .sent .now) (a .held .now) (a .messages .now)
+Given s = let a = s .args in state (a .bench) (a .costs .now) (a .sent .now) (a .held .now) (a .messages .now)
 
 delivery-in-range-requires : tie.Need-delivery-in-range-requires
 delivery-in-range-requires c κs = search needs
@@ -23,10 +24,10 @@ same-length : tie.Need-same-length
 same-length c = search needs
 
 returns : tie.Need-returns
-returns c = deliver-refused (Given (c .before .before .before .before .before .before .before .before .before)) _ 17 (refusal-out _ _ _ (sym (c .before .before .delivery-in-range .ensures) ∙ not-true _ (c .before .if1 .taken))) (λ z. omega arith) (c .refused-delivery .ensures .0) (c .refused-delivery .ensures .1)
+returns c = deliver-refused (Given (c .before .before .before .before .before .before .before .before)) _ 17 (refusal-out _ _ _ (sym (c .before .before .delivery-in-range .ensures) ∙ not-true _ (c .before .if1 .taken))) (λ z. omega arith) (c .refused-delivery .ensures .0) (c .refused-delivery .ensures .1)
 
 deliver-ready-requires : tie.Need-deliver-ready-requires
-deliver-ready-requires c κs = sym (c .before .before .before .before .delivery-in-range .ensures) ∙ not-false _ (c .before .before .before .if1 .left)
+deliver-ready-requires c κs = (sym (c .before .before .before .before .before .before .delivery-in-range .ensures) ∙ not-false _ (c .before .before .before .before .before .if1 .left), tables-none _ _)
 
 same-length-2 : tie.Need-same-length-2
 same-length-2 c = search needs
@@ -38,7 +39,13 @@ same-length-4 : tie.Need-same-length-4
 same-length-4 c = search needs
 
 returns-2 : tie.Need-returns-2
-returns-2 c = c .before .before .before .before .before .before .deliver-ready .ensures
+returns-2 c = c .before .before .before .before .before .before .before .before .deliver-ready .ensures .0
+
+slice-aggregate-deliver-ready : tie.Need-slice-aggregate-deliver-ready
+slice-aggregate-deliver-ready c = search needs
+
+slice-aggregate-deliver-ready-2 : tie.Need-slice-aggregate-deliver-ready-2
+slice-aggregate-deliver-ready-2 c = search needs
 
 pub deliver-spec : {M : Type 1} → statement M
 deliver-spec =
@@ -48,6 +55,8 @@ deliver-spec =
     refused-delivery-requires
     same-length
     returns
+    slice-aggregate-deliver-ready
+    slice-aggregate-deliver-ready-2
     deliver-ready-requires
     same-length-2
     same-length-3

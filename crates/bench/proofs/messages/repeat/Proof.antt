@@ -6,12 +6,13 @@ use borrow.Author.Tests.{not-true, not-false}
 use Rattle.bench.specs.State.{State, state}
 use Rattle.bench.proofs.TieRefusals.{refusal-out}
 use Rattle.bench.proofs.FlightCalls.{repeat-refused}
+use Rattle.bench.proofs.TableSteps.{tables-none}
 use Rattle.bench.proofs.messages.repeat.Statement.{statement}
 use Rattle.bench.proofs.messages.repeat.Tie as tie
 
 -- what is handed over
 abbrev Given : tie.Start → State
-Given s = let a = s .args in state (a .bench) (a .costs .now) (a .tables .now) (a .sent .now) (a .held .now) (a .messages .now)
+Given s = let a = s .args in state (a .bench) (a .costs .now) (a .sent .now) (a .held .now) (a .messages .now)
 
 delivery-in-range-requires : tie.Need-delivery-in-range-requires
 delivery-in-range-requires c κs = search needs
@@ -20,10 +21,10 @@ refused-delivery-requires : tie.Need-refused-delivery-requires
 refused-delivery-requires c κs = search needs
 
 returns : tie.Need-returns
-returns c = repeat-refused (Given (c .before .before .before .before .before .before .before .before)) _ 17 (refusal-out _ _ _ (sym (c .before .before .delivery-in-range .ensures) ∙ not-true _ (c .before .if1 .taken))) (λ z. omega arith) (c .refused-delivery .ensures .0) (c .refused-delivery .ensures .1)
+returns c = repeat-refused (Given (c .before .before .before .before .before .before .before)) _ 17 (refusal-out _ _ _ (sym (c .before .before .delivery-in-range .ensures) ∙ not-true _ (c .before .if1 .taken))) (λ z. omega arith) (c .refused-delivery .ensures .0) (c .refused-delivery .ensures .1)
 
 repeat-ready-requires : tie.Need-repeat-ready-requires
-repeat-ready-requires c κs = sym (c .before .before .before .delivery-in-range .ensures) ∙ not-false _ (c .before .before .if1 .left)
+repeat-ready-requires c κs = (sym (c .before .before .before .before .before .delivery-in-range .ensures) ∙ not-false _ (c .before .before .before .before .if1 .left), tables-none _ _)
 
 same-length : tie.Need-same-length
 same-length c = search needs
@@ -32,7 +33,13 @@ same-length-2 : tie.Need-same-length-2
 same-length-2 c = search needs
 
 returns-2 : tie.Need-returns-2
-returns-2 c = c .before .before .before .before .repeat-ready .ensures
+returns-2 c = c .before .before .before .before .before .before .repeat-ready .ensures .0
+
+slice-aggregate-repeat-ready : tie.Need-slice-aggregate-repeat-ready
+slice-aggregate-repeat-ready c = search needs
+
+slice-aggregate-repeat-ready-2 : tie.Need-slice-aggregate-repeat-ready-2
+slice-aggregate-repeat-ready-2 c = search needs
 
 pub repeat-spec : {M : Type 1} → statement M
 repeat-spec =
@@ -41,6 +48,8 @@ repeat-spec =
     delivery-in-range-requires
     refused-delivery-requires
     returns
+    slice-aggregate-repeat-ready
+    slice-aggregate-repeat-ready-2
     repeat-ready-requires
     same-length
     same-length-2

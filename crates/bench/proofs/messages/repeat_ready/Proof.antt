@@ -17,23 +17,23 @@ use Rattle.bench.proofs.messages.repeat_ready.Tie as tie
 
 -- what is handed over
 abbrev Given : tie.Start → State
-Given s = let a = s .args in state (a .bench) (a .costs .now) (a .tables .now) (a .sent .now) (a .held .now) (a .messages .now)
+Given s = let a = s .args in state (a .bench) (a .costs .now) (a .sent .now) (a .held .now) (a .messages .now)
 
 -- the table's number, in range
 same : (s : tie.Start) (k : ℕ) → k ≡ refuse (networkOf (s .args .bench) (s .args .messages .now)) (deliver (s .args .place)) → k ≡ refusalOf (deliveryReady (Given s)) (networkOf (s .args .bench) (s .args .messages .now)) (deliver (s .args .place))
-same s k e = e ∙ sym (refusal-ready _ _ _ (s .pre))
+same s k e = e ∙ sym (refusal-ready _ _ _ (s .pre .0))
 
 deliver-refusal-requires : tie.Need-deliver-refusal-requires
-deliver-refusal-requires c κs = let h = told (Given (c .before .before .before .before .before)) (c .before .before .before .before .before .pre) in ((h .count, h .messagesLong), λ low. omega (arith, few (c .before .before .before .before .before .args .bench) (c .before .before .before .before .before .args .costs .now) (c .before .before .before .before .before .args .tables .now) (h .lasting), message-told _ _ _ (h .message (c .before .before .before .before .before .args .place) low) .link))
+deliver-refusal-requires c κs = let h = told (Given (c .before .before .before .before .before .before)) (c .before .before .before .before .before .before .pre .0) in ((h .count, h .messagesLong), λ low. omega (arith, few (c .before .before .before .before .before .before .args .bench) (c .before .before .before .before .before .before .args .costs .now) (h .lasting), message-told _ _ _ (h .message (c .before .before .before .before .before .before .args .place) low) .link))
 
 refused-delivery-requires : tie.Need-refused-delivery-requires
 refused-delivery-requires c κs = search needs
 
 returns : tie.Need-returns
-returns c = repeat-refused (Given (c .before .before .before .before .before .before .before .before)) _ _ (same (c .before .before .before .before .before .before .before .before) _ (c .before .before .deliver-refusal .ensures)) (c .before .if1 .taken) (c .refused-delivery .ensures .0) (c .refused-delivery .ensures .1)
+returns c = (repeat-refused (Given (c .before .before .before .before .before .before .before .before .before)) _ _ (same (c .before .before .before .before .before .before .before .before .before) _ (c .before .before .deliver-refusal .ensures)) (c .before .if1 .taken) (c .refused-delivery .ensures .0) (c .refused-delivery .ensures .1), c .before .before .before .before .before .before .before .before .before .pre .1)
 
 receive-at-requires : tie.Need-receive-at-requires
-receive-at-requires c κs = let h = delivery-told (Given (c .before .before .before .before .before .before .before .before .before)) _ _ (same (c .before .before .before .before .before .before .before .before .before) _ (c .before .before .before .deliver-refusal .ensures)) (c .before .before .if1 .left) in (h .ready, (omega arith, h .long, h .message))
+receive-at-requires c κs = let h = delivery-told (Given (c .before .before .before .before .before .before .before .before .before .before .before .before)) _ _ (same (c .before .before .before .before .before .before .before .before .before .before .before .before) _ (c .before .before .before .before .before .deliver-refusal .ensures)) (c .before .before .before .before .if1 .left) in (h .ready, ((omega arith, h .long, h .message), c .before .before .before .before .before .before .before .before .before .before .before .before .pre .1))
 
 same-length : tie.Need-same-length
 same-length c = search needs
@@ -42,7 +42,13 @@ same-length-2 : tie.Need-same-length-2
 same-length-2 c = search needs
 
 returns-2 : tie.Need-returns-2
-returns-2 c = repeat-done (Given (c .before .before .before .before .before .before .before .before .before .before .before .before .before .before)) _ _ (same (c .before .before .before .before .before .before .before .before .before .before .before .before .before .before) _ (c .before .before .before .before .before .before .before .before .deliver-refusal .ensures)) (c .before .before .before .before .before .before .before .if1 .left) (c .before .before .before .before .receive-at .ensures)
+returns-2 c = (repeat-done (Given (c .before .before .before .before .before .before .before .before .before .before .before .before .before .before .before .before .before .before .before .before .before)) _ _ (same (c .before .before .before .before .before .before .before .before .before .before .before .before .before .before .before .before .before .before .before .before .before) _ (c .before .before .before .before .before .before .before .before .before .before .before .before .before .before .deliver-refusal .ensures)) (c .before .before .before .before .before .before .before .before .before .before .before .before .before .if1 .left) (c .before .before .before .before .before .before .before .before .receive-at .ensures .0), c .before .before .before .before .before .before .before .before .receive-at .ensures .1)
+
+same-length-3 : tie.Need-same-length-3
+same-length-3 c = search needs
+
+same-length-4 : tie.Need-same-length-4
+same-length-4 c = search needs
 
 pub repeat-ready-spec : {M : Type 1} → statement M
 repeat-ready-spec =
@@ -54,4 +60,6 @@ repeat-ready-spec =
     receive-at-requires
     same-length
     same-length-2
+    same-length-3
+    same-length-4
     returns-2)

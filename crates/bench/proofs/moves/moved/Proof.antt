@@ -76,7 +76,7 @@ same-length-2 c = search needs
 returns : tie.Need-returns
 returns c =
     let a = c .before .before .before .before .before .before .before .before .before .before .before .before .before .before .args in
-    rw (add-sub-cancel-left (32 * a .view) 32, add-sub-cancel-left (256 * a .view) 256) at (ap (movedBench (a .t1) (a .bridge) (a .view)) (c .before .before .before .before .before .move-ends .ensures))
+    rw (add-sub-cancel-left (32 * a .view) 32, add-sub-cancel-left (256 * a .view) 256, c .before .before .before .before .before .before .before .before .before .before .before .before .before .before .pre .1) at (ap (movedBench (a .t1) (a .bridge) (a .view)) (c .before .before .before .before .before .move-ends .ensures))
 
 pub moved-spec : {M : Type 1} → statement M
 moved-spec =

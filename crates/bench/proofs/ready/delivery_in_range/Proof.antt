@@ -9,7 +9,7 @@ network-in-range-requires : tie.Need-network-in-range-requires
 network-in-range-requires c κs = search needs
 
 messages-in-range-requires : tie.Need-messages-in-range-requires
-messages-in-range-requires c κs = bench-told _ (network-bench _ _ _ _ _ (sym (c .before .network-in-range .ensures) ∙ c .if1 .taken)) .messages
+messages-in-range-requires c κs = bench-told _ (network-bench _ _ _ _ (sym (c .before .network-in-range .ensures) ∙ c .if1 .taken)) .messages
 
 returns : tie.Need-returns
 returns c = rw (sym (c .before .before .network-in-range .ensures) ∙ c .before .if1 .taken) (c .messages-in-range .ensures)

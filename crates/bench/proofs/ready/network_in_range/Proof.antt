@@ -12,8 +12,8 @@ bench-in-range-requires c κs = search needs
 costs-in-range-requires : tie.Need-costs-in-range-requires
 costs-in-range-requires c κs = bench-counted _ (sym (c .before .bench-in-range .ensures) ∙ c .if1 .taken) .views
 
-tables-long-requires : tie.Need-tables-long-requires
-tables-long-requires c κs = search needs
+limits-long-requires : tie.Need-limits-long-requires
+limits-long-requires c κs = search needs
 
 both-requires : tie.Need-both-requires
 both-requires c κs = search needs
@@ -24,7 +24,7 @@ returns c =
     c .both .ensures
     ∙ rw (
       c .before .before .costs-in-range .ensures,
-      c .before .tables-long .ensures,
+      c .before .limits-long .ensures,
       sym (c .before .before .before .before .bench-in-range .ensures) ∙ c .before .before .before .if1 .taken,
     )
 
@@ -38,7 +38,7 @@ network-in-range-spec =
     (tie.spec
     bench-in-range-requires
     costs-in-range-requires
-    tables-long-requires
+    limits-long-requires
     both-requires
     returns
     returns-2)

@@ -11,8 +11,8 @@ graph-in-range-requires c κs = search needs
 costs-in-range-requires : tie.Need-costs-in-range-requires
 costs-in-range-requires c κs = graph-counted _ (sym (c .before .graph-in-range .ensures) ∙ c .if1 .taken) .views
 
-tables-long-requires : tie.Need-tables-long-requires
-tables-long-requires c κs = search needs
+limits-long-requires : tie.Need-limits-long-requires
+limits-long-requires c κs = search needs
 
 both-requires : tie.Need-both-requires
 both-requires c κs = search needs
@@ -22,7 +22,7 @@ returns c =
     c .both .ensures
     ∙ rw (
       c .before .before .costs-in-range .ensures,
-      c .before .tables-long .ensures,
+      c .before .limits-long .ensures,
       sym (c .before .before .before .before .graph-in-range .ensures) ∙ c .before .before .before .if1 .taken,
     )
 
@@ -35,7 +35,7 @@ plan-in-range-spec =
     (tie.spec
     graph-in-range-requires
     costs-in-range-requires
-    tables-long-requires
+    limits-long-requires
     both-requires
     returns
     returns-2)

@@ -14,7 +14,7 @@ use Rattle.bench.proofs.receives.receive.Tie as tie
 
 -- what the ready bench tells of the end
 told : (s : tie.Start) → Placed (s .args .t1) (s .args .end)
-told s = placed (s .pre .0) (s .args .end) (s .pre .1)
+told s = placed (s .pre .0) (s .args .end) (s .pre .1 .0 .0)
 
 -- as many records as the type says
 listed : (s : tie.Start) → length (s .args .t1 .records) ≡ 64
@@ -72,7 +72,7 @@ part-deliver-end-start-2 : tie.Need-part-deliver-end-start-2
 part-deliver-end-start-2 c = search needs
 
 part-deliver-end-end-2 : tie.Need-part-deliver-end-end-2
-part-deliver-end-end-2 c = omega (arith, told (c .before .before .before .before .before .before .before .before .before), c .before .before .before .before .before .before .before .before .before .pre .0 .tablesLong)
+part-deliver-end-end-2 c = omega (arith, told (c .before .before .before .before .before .before .before .before .before), c .before .before .before .before .before .before .before .before .before .pre .1 .0 .1)
 
 mul-deliver-end-3 : tie.Need-mul-deliver-end-3
 mul-deliver-end-3 c = omega (arith, told (c .before .before .before .before .before .before .before .before .before .before))
@@ -106,8 +106,8 @@ same-length-2 c = search needs
 
 returns : tie.Need-returns
 returns c = let s = c .before .before .before .before .before .before .before .before .before .before .before .before .before .before .before .before .before .before .before .before .before .args in
-    let h : s .end < length (s .t1 .records) = omega (arith, listed (c .before .before .before .before .before .before .before .before .before .before .before .before .before .before .before .before .before .before .before .before .before), c .before .before .before .before .before .before .before .before .before .before .before .before .before .before .before .before .before .before .before .before .before .pre .1, c .before .before .before .before .before .before .before .before .before .before .before .before .before .before .before .before .before .before .before .before .before .pre .0 .fewLinks) in
-    received-end (s .t1) (s .costs .now) (s .tables .now) (s .sent .now) (s .held .now) (s .end) _ (s .message) _ refl
+    let h : s .end < length (s .t1 .records) = omega (arith, listed (c .before .before .before .before .before .before .before .before .before .before .before .before .before .before .before .before .before .before .before .before .before), c .before .before .before .before .before .before .before .before .before .before .before .before .before .before .before .before .before .before .before .before .before .pre .1 .0 .0, c .before .before .before .before .before .before .before .before .before .before .before .before .before .before .before .before .before .before .before .before .before .pre .0 .fewLinks) in
+    received-end (s .t1) (s .costs .now) (s .tables .now) (s .sent .now) (s .held .now) (s .end) _ (s .message) _ (c .before .before .before .before .before .before .before .before .before .before .before .before .before .before .before .before .before .before .before .before .before .pre .1 .1) refl
     (getD-default (s .t1 .records) (s .end) _ freshRecord h) (c .reaction-of .ensures) (c .before .before .before .before .before .before .deliver-end .ensures)
 
 pub receive-spec : {M : Type 1} → statement M

@@ -1,16 +1,22 @@
 -- `receives::receive_at` meets its contract. The message is in range, so its numbers fit and its opposite end is one of the bench's. Assumes
 -- nothing.
+use Prim.Native.Nat.{ℕ, _*_, _<_}
 use native.Mathlib.Omega.{arith}
 use borrow.Author.Needs.{needs}
 use Rattle.bench.specs.State.{messageFrom}
-use Rattle.bench.proofs.FlightSteps.{received-beside}
+use Rattle.bench.proofs.FlightSteps.{Placed, placed, received-beside}
 use Rattle.bench.proofs.TieChecks.{MessageTold, message-told}
+use Rattle.bench.proofs.TableSteps.{tables-filled}
 use Rattle.bench.proofs.receives.receive_at.Statement.{statement}
 use Rattle.bench.proofs.receives.receive_at.Tie as tie
 
 -- what the range check tells of the message
-told : (s : tie.Start) → MessageTold (s .args .bench .links) (s .args .bench .views) (messageFrom (s .args .messages .now) (s .args .place))
-told s = message-told _ _ _ (s .pre .1 .2)
+told : (s : tie.Start) → MessageTold (s .args .t1 .links) (s .args .t1 .views) (messageFrom (s .args .messages .now) (s .args .place))
+told s = message-told _ _ _ (s .pre .1 .0 .2)
+
+-- and the ready bench of an end
+here : (s : tie.Start) (e : ℕ) → e < 2 * s .args .t1 .links → Placed (s .args .t1) e
+here s e low = placed (s .pre .0) e low
 
 mul-at : tie.Need-mul-at
 mul-at c = search needs
@@ -22,10 +28,10 @@ shared-slice-read-from : tie.Need-shared-slice-read-from
 shared-slice-read-from c = search needs
 
 cast-from : tie.Need-cast-from
-cast-from c = omega (arith, told (c .before .before .before .before .before .before), c .before .before .before .before .before .before .pre .0 .fewLinks)
+cast-from c = omega (arith, told (c .before .before .before .before .before .before .before), c .before .before .before .before .before .before .before .pre .0 .fewLinks)
 
 mul-from-2 : tie.Need-mul-from-2
-mul-from-2 c = omega (arith, told (c .before .before .before .before .before .before), c .before .before .before .before .before .before .pre .0 .fewLinks)
+mul-from-2 c = omega (arith, told (c .before .before .before .before .before .before .before), c .before .before .before .before .before .before .before .pre .0 .fewLinks)
 
 add-from : tie.Need-add-from
 add-from c = search needs
@@ -37,52 +43,70 @@ shared-slice-read-from-2 : tie.Need-shared-slice-read-from-2
 shared-slice-read-from-2 c = search needs
 
 cast-from-2 : tie.Need-cast-from-2
-cast-from-2 c = omega (arith, told (c .before .before .before .before .before .before .before))
+cast-from-2 c = omega (arith, told (c .before .before .before .before .before .before .before .before))
 
 add-from-2 : tie.Need-add-from-2
-add-from-2 c = omega (arith, told (c .before .before .before .before .before .before .before), c .before .before .before .before .before .before .before .pre .0 .fewLinks)
+add-from-2 c = omega (arith, told (c .before .before .before .before .before .before .before .before), c .before .before .before .before .before .before .before .before .pre .0 .fewLinks)
 
-add-t11 : tie.Need-add-t11
-add-t11 c = search needs
+add-t16 : tie.Need-add-t16
+add-t16 c = search needs
+
+mul-t19 : tie.Need-mul-t19
+mul-t19 c = search needs
+
+shared-slice-read-t18 : tie.Need-shared-slice-read-t18
+shared-slice-read-t18 c = search needs
+
+cast-t28 : tie.Need-cast-t28
+cast-t28 c = omega (arith, told (c .before .before .before .before .before .before .before .before .before .before .before .before .before .before .before .before .before .before .before), c .before .before .before .before .before .before .before .before .before .before .before .before .before .before .before .before .before .before .before .pre .0 .fewViews)
+
+add-t25 : tie.Need-add-t25
+add-t25 c = search needs
 
 mul-t20 : tie.Need-mul-t20
 mul-t20 c = search needs
 
-shared-slice-read-t19 : tie.Need-shared-slice-read-t19
-shared-slice-read-t19 c = search needs
+shared-slice-read-t24 : tie.Need-shared-slice-read-t24
+shared-slice-read-t24 c = search needs
 
-cast-t22 : tie.Need-cast-t22
-cast-t22 c = omega (arith, told (c .before .before .before .before .before .before .before .before), c .before .before .before .before .before .before .before .before .pre .0 .fewViews)
+cast-t39 : tie.Need-cast-t39
+cast-t39 c = omega (arith, told (c .before .before .before .before .before .before .before .before .before .before .before .before .before .before .before .before .before .before .before .before))
 
-add-t17 : tie.Need-add-t17
-add-t17 c = search needs
+add-t21 : tie.Need-add-t21
+add-t21 c = search needs
 
-mul-t16 : tie.Need-mul-t16
-mul-t16 c = search needs
+mul-t22 : tie.Need-mul-t22
+mul-t22 c = search needs
 
-shared-slice-read-t13 : tie.Need-shared-slice-read-t13
-shared-slice-read-t13 c = search needs
+shared-slice-read-t41 : tie.Need-shared-slice-read-t41
+shared-slice-read-t41 c = search needs
 
-cast-t24 : tie.Need-cast-t24
-cast-t24 c = omega (arith, told (c .before .before .before .before .before .before .before .before .before))
-
-add-t15 : tie.Need-add-t15
-add-t15 c = search needs
-
-mul-t14 : tie.Need-mul-t14
-mul-t14 c = search needs
-
-shared-slice-read-t26 : tie.Need-shared-slice-read-t26
-shared-slice-read-t26 c = search needs
-
-cast-t27 : tie.Need-cast-t27
-cast-t27 c = omega (arith, told (c .before .before .before .before .before .before .before .before .before .before))
+cast-t42 : tie.Need-cast-t42
+cast-t42 c = omega (arith, told (c .before .before .before .before .before .before .before .before .before .before .before .before .before .before .before .before .before .before .before .before .before))
 
 opposite-end-requires : tie.Need-opposite-end-requires
 opposite-end-requires c κs = search needs
 
+element-copy-out-bridge : tie.Need-element-copy-out-bridge
+element-copy-out-bridge c = omega (arith, told (c .before .before .before .before .before .before .before .before .before), c .opposite-end .ensures, c .before .before .before .before .before .before .before .before .before .pre .0 .fewLinks)
+
+cast-bridge : tie.Need-cast-bridge
+cast-bridge c = search needs
+
+element-copy-out-view : tie.Need-element-copy-out-view
+element-copy-out-view c = here (c .before .before .before .before .before .before .before .before .before .before) (c .before .opposite-end .result) (omega (arith, told (c .before .before .before .before .before .before .before .before .before .before), c .before .opposite-end .ensures)) .bridge
+
+cast-view : tie.Need-cast-view
+cast-view c = let low = here (c .before .before .before .before .before .before .before .before .before .before .before) (c .before .before .opposite-end .result) (omega (arith, told (c .before .before .before .before .before .before .before .before .before .before .before), c .before .before .opposite-end .ensures)) .view in omega arith
+
+need-view-requires : tie.Need-need-view-requires
+need-view-requires c κs = (here (c .before .before .before .before .before .before .before .before .before .before .before .before .before) (c .before .before .before .before .opposite-end .result) (omega (arith, told (c .before .before .before .before .before .before .before .before .before .before .before .before .before), c .before .before .before .before .opposite-end .ensures)) .view, c .before .before .before .before .before .before .before .before .before .before .before .before .before .pre .0 .costsLong, c .before .before .before .before .before .before .before .before .before .before .before .before .before .pre .1 .1)
+
 receive-requires : tie.Need-receive-requires
-receive-requires c κs = (c .before .before .before .before .before .before .before .before .before .before .before .before .before .pre .0, omega (arith, told (c .before .before .before .before .before .before .before .before .before .before .before .before .before), c .opposite-end .ensures))
+receive-requires c κs =
+    let low = here (c .before .before .before .before .before .before .before .before .before .before .before .before .before .before .before .before .before .before .before .before .before .before .before .before) (c .before .before .before .before .before .before .before .before .before .before .before .before .before .before .before .opposite-end .result) (omega (arith, told (c .before .before .before .before .before .before .before .before .before .before .before .before .before .before .before .before .before .before .before .before .before .before .before .before), c .before .before .before .before .before .before .before .before .before .before .before .before .before .before .before .opposite-end .ensures)) .view in
+    let kept = c .before .before .before .before .before .before .before .before .before .before .need-view .ensures .0 in
+    (c .before .before .before .before .before .before .before .before .before .before .before .before .before .before .before .before .before .before .before .before .before .before .before .before .pre .0, ((omega (arith, told (c .before .before .before .before .before .before .before .before .before .before .before .before .before .before .before .before .before .before .before .before .before .before .before .before), c .before .before .before .before .before .before .before .before .before .before .before .before .before .before .before .opposite-end .ensures), omega (arith, kept .0 .long)), tables-filled _ _ _ _ (kept .0) _ low (kept .1)))
 
 same-length : tie.Need-same-length
 same-length c = search needs
@@ -90,8 +114,14 @@ same-length c = search needs
 same-length-2 : tie.Need-same-length-2
 same-length-2 c = search needs
 
+same-length-3 : tie.Need-same-length-3
+same-length-3 c = search needs
+
+same-length-4 : tie.Need-same-length-4
+same-length-4 c = search needs
+
 returns : tie.Need-returns
-returns c = rw (c .before .before .before .before .before .opposite-end .ensures) at (received-beside (c .before .before .before .before .before .before .before .before .before .before .before .before .before .before .before .before .before .before .args .messages .now) (c .before .before .before .before .before .before .before .before .before .before .before .before .before .before .before .before .before .before .args .bench) (c .before .before .before .before .before .before .before .before .before .before .before .before .before .before .before .before .before .before .args .costs .now) (c .before .before .before .before .before .before .before .before .before .before .before .before .before .before .before .before .before .before .args .tables .now) (c .before .before .before .before .before .before .before .before .before .before .before .before .before .before .before .before .before .before .args .sent .now) (c .before .before .before .before .before .before .before .before .before .before .before .before .before .before .before .before .before .before .args .held .now) _ _ (c .before .before .before .before .receive .ensures))
+returns c = (rw (c .before .before .before .before .before .before .before .before .before .before .before .before .before .before .before .before .before .before .before .before .opposite-end .ensures) at (received-beside (c .before .before .before .before .before .before .before .before .before .before .before .before .before .before .before .before .before .before .before .before .before .before .before .before .before .before .before .before .before .args .messages .now) (c .before .before .before .before .before .before .before .before .before .before .before .before .before .before .before .before .before .before .before .before .before .before .before .before .before .before .before .before .before .args .t1) (c .before .before .before .before .before .before .before .before .before .before .before .before .before .before .before .before .before .before .before .before .before .before .before .before .before .before .before .before .before .args .costs .now) (c .before .before .before .before .before .before .before .before .before .before .before .before .before .before .before .before .before .before .before .before .before .before .before .before .before .before .before .before .before .args .sent .now) (c .before .before .before .before .before .before .before .before .before .before .before .before .before .before .before .before .before .before .before .before .before .before .before .before .before .before .before .before .before .args .held .now) _ _ (c .before .before .before .before .receive .ensures)), c .before .before .before .before .before .before .before .before .before .before .before .before .before .before .before .need-view .ensures .0 .0)
 
 pub receive-at-spec : {M : Type 1} → statement M
 receive-at-spec =
@@ -107,20 +137,27 @@ receive-at-spec =
     shared-slice-read-from-2
     cast-from-2
     add-from-2
-    add-t11
-    mul-t20
-    shared-slice-read-t19
-    cast-t22
-    add-t17
-    mul-t16
-    shared-slice-read-t13
-    cast-t24
-    add-t15
-    mul-t14
-    shared-slice-read-t26
-    cast-t27
     opposite-end-requires
+    element-copy-out-bridge
+    cast-bridge
+    element-copy-out-view
+    cast-view
+    need-view-requires
+    add-t16
+    mul-t19
+    shared-slice-read-t18
+    cast-t28
+    add-t25
+    mul-t20
+    shared-slice-read-t24
+    cast-t39
+    add-t21
+    mul-t22
+    shared-slice-read-t41
+    cast-t42
     receive-requires
     same-length
     same-length-2
+    same-length-3
+    same-length-4
     returns)

@@ -16,7 +16,7 @@ abbrev Inv-loop : tie.InvT-loop
 Inv-loop costs tables sent held dest bench choices₀ e₀ choices e =
     (e ≤ 2 * bench .links)
     × (length choices ≡ 16)
-    × AreChoices (state bench costs tables sent held []) dest e (bench .bridges) choices
+    × AreChoices (state bench costs sent held []) dest e (bench .bridges) choices
 
 abbrev μ-loop : tie.MeasureT-loop
 μ-loop costs tables sent held dest bench choices₀ e₀ choices e = 2 * bench .links - e
@@ -25,10 +25,10 @@ listed : (s : tie.Start Inv-loop μ-loop) → length (s .args .t1 .records) ≡ 
 listed s = search (needs, length-mapped)
 
 first-choices-requires : tie.Need-first-choices-requires Inv-loop μ-loop
-first-choices-requires c κs = (c .before .before .before .before .pre .0 .ready .fewBridges, c .before .before .before .before .pre .0 .ready .tablesLong, c .before .before .before .before .pre .1, view-low (c .before .before .before .before .pre .0))
+first-choices-requires c κs = (c .before .before .before .before .pre .0 .ready .fewBridges, c .before .before .before .before .pre .1 .1, c .before .before .before .before .pre .1 .0, view-low (c .before .before .before .before .pre .0))
 
 loop-holds : tie.Need-loop-holds Inv-loop μ-loop
-loop-holds c = (omega arith, search (needs, length-mapped), c .first-choices .ensures _ _ _)
+loop-holds c = (omega arith, search (needs, length-mapped), c .first-choices .ensures _ _ _ (c .before .before .before .before .before .pre .1 .2))
 
 mul-loop : tie.Need-mul-loop Inv-loop μ-loop
 mul-loop c = search needs
@@ -153,7 +153,7 @@ loop-again c =
       omega arith,
       search (needs, length-mapped),
       choices-more _ _ choices e _ _ _ room refl (inv .2)
-          (choice-more _ _ _ e (other .result) _ (omega arith) (omega arith) (omega arith)
+          (choice-more _ _ _ _ e (other .result) _ (p .1 .2 _ here) (omega arith) (omega arith) (omega (arith, p .1 .0, p .0 .ready .fewBridges))
           (far-low (p .0) e (other .result) (c .before .before .before .before .before .before .before .before .before .before .before .loop-test .taken) (other .ensures)) refl (other .ensures) (inv .2 _ here _) (c .choice-with .ensures)),
     )
 

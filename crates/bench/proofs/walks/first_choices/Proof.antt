@@ -6,7 +6,7 @@ use mathlib.Core.List.{List, []}
 use borrow.Author.Needs.{needs}
 use lib.ListN.{length}
 use Rattle.bench.specs.State.{state}
-use Rattle.bench.specs.Steps.{AreChoices}
+use Rattle.bench.specs.Steps.{AreChoices, AllFilled}
 use Rattle.bench.proofs.ChangeSteps.{length-mapped}
 use Rattle.bench.proofs.ChoiceSteps.{choice-first, choices-begun}
 use Rattle.bench.proofs.walks.first_choices.Statement.{statement}
@@ -16,7 +16,7 @@ abbrev Inv-loop : tie.InvT-loop
 Inv-loop tables dest bench choices₀ y₀ choices y =
     (y ≤ bench .bridges)
     × (length choices ≡ 16)
-    × ((costs sent held : List ℕ) → AreChoices (state bench costs tables sent held []) dest 0 y choices)
+    × ((costs sent held : List ℕ) → AllFilled bench costs tables → AreChoices (state bench costs sent held []) dest 0 y choices)
 
 abbrev μ-loop : tie.MeasureT-loop
 μ-loop tables dest bench choices₀ y₀ choices y = bench .bridges - y
@@ -25,7 +25,7 @@ first-choice-requires : tie.Need-first-choice-requires Inv-loop μ-loop
 first-choice-requires c κs = search needs
 
 loop-holds : tie.Need-loop-holds Inv-loop μ-loop
-loop-holds c = (omega arith, search (needs, length-mapped), λ costs sent held k low none. absurd (omega arith))
+loop-holds c = (omega arith, search (needs, length-mapped), λ costs sent held all k low none. absurd (omega arith))
 
 element-copy-out-view : tie.Need-element-copy-out-view Inv-loop μ-loop
 element-copy-out-view c = search needs
@@ -73,10 +73,11 @@ loop-again c =
     let inv = c .before .before .before .before .loop .inv in
     let y = c .before .before .before .before .loop .y in
     let choices = c .before .before .before .before .loop .choices in
+    let low : y < a .t1 .bridges = c .before .before .before .loop-test .taken in
     let room : y < length choices = omega arith in (
       omega arith,
       search (needs, length-mapped),
-      λ costs sent held. choices-begun (state (a .t1) costs (a .tables .now) sent held []) (a .dest) choices y _ room (inv .2 costs sent held) (c .first-choice2 .ensures ∙ choice-first _ _ y _ (omega arith) (omega arith) refl),
+      λ costs sent held all. choices-begun (state (a .t1) costs sent held []) (a .dest) choices y _ room (inv .2 costs sent held all) (c .first-choice2 .ensures ∙ choice-first _ _ y _ _ (all y low) (omega arith) (omega arith) refl),
     )
 
 returns : tie.Need-returns Inv-loop μ-loop

@@ -8,8 +8,8 @@ use Rattle.bench.proofs.WalkSteps.{open-link}
 use Rattle.bench.proofs.walks.hop_at.Statement.{statement}
 use Rattle.bench.proofs.walks.hop_at.Tie as tie
 
-port-at-requires : tie.Need-port-at-requires
-port-at-requires c κs = search needs
+port-of-requires : tie.Need-port-of-requires
+port-of-requires c κs = search needs
 
 enum-told : tie.Need-enum-told
 enum-told c = search needs
@@ -17,34 +17,50 @@ enum-told c = search needs
 enum-known-port : tie.Need-enum-known-port
 enum-known-port c = search needs
 
-cast-t11 : tie.Need-cast-t11
-cast-t11 c = search needs
-
 cast-across-link : tie.Need-cast-across-link
 cast-across-link c = search needs
 
 across-link-requires : tie.Need-across-link-requires
 across-link-requires c κs =
-    let a = c .before .before .before .before .before .before .before .before .args in
-    omega (arith, open-link _ (a .bridge) (a .dest) _ (sym (c .before .before .before .port-at .ensures) ∙ c .before .port .given .1))
+    let a = c .before .before .before .before .before .before .before .before .before .before .before .before .before .before .before .args in
+    omega (arith, open-link _ (a .bridge) (a .dest) _ (sym (c .before .before .before .before .before .before .before .port-of .ensures .0) ∙ c .before .port .given .1))
 
 returns : tie.Need-returns
 unfolding hopIn hopBy
-returns c = rw (sym (c .before .before .port-at .ensures), c .enum-told .given .1)
+returns c = (rw (sym (c .before .before .before .before .before .before .port-of .ensures .0), c .enum-told .given .1), c .before .before .before .before .before .before .port-of .ensures .1)
 
 returns-2 : tie.Need-returns-2
 unfolding hopIn hopBy
-returns-2 c = rw (c .across-link .ensures, sym (c .before .before .before .before .port-at .ensures), c .before .before .port .given .1)
+returns-2 c = (rw (c .across-link .ensures, sym (c .before .before .before .before .before .before .before .before .port-of .ensures .0), c .before .before .port .given .1), c .before .before .before .before .before .before .before .before .port-of .ensures .1)
+
+cast-t16 : tie.Need-cast-t16
+cast-t16 c = search needs
+
+same-length : tie.Need-same-length
+same-length c = search needs
+
+same-length-2 : tie.Need-same-length-2
+same-length-2 c = search needs
+
+same-length-3 : tie.Need-same-length-3
+same-length-3 c = search needs
+
+same-length-4 : tie.Need-same-length-4
+same-length-4 c = search needs
 
 pub hop-at-spec : {M : Type 1} → statement M
 hop-at-spec =
     tie.close
     (tie.spec
-    port-at-requires
+    port-of-requires
     enum-told
     enum-known-port
-    cast-t11
+    cast-t16
     cast-across-link
     across-link-requires
+    same-length
+    same-length-2
     returns
+    same-length-3
+    same-length-4
     returns-2)

@@ -15,7 +15,7 @@ use Rattle.bench.proofs.walks.port_at.Tie as tie
 
 abbrev Inv-loop : tie.InvT-loop
 Inv-loop costs tables sent held bridge dest bench view choice₀ e₀ choice e =
-    (e ≤ 2 * bench .links) × (choice ≡ choiceIn (state bench costs tables sent held []) dest bridge e)
+    (e ≤ 2 * bench .links) × (choice ≡ choiceIn (state bench costs sent held []) dest bridge e)
 
 abbrev μ-loop : tie.MeasureT-loop
 μ-loop costs tables sent held bridge dest bench view choice₀ e₀ choice e = 2 * bench .links - e
@@ -27,28 +27,28 @@ cast-view : tie.Need-cast-view Inv-loop μ-loop
 cast-view c = search needs
 
 mul-first-choice : tie.Need-mul-first-choice Inv-loop μ-loop
-mul-first-choice c = omega (arith, view-low (c .before .before .before .before .before .pre .0) (c .before .before .before .before .before .args .bridge) (c .before .before .before .before .before .pre .1 .0))
+mul-first-choice c = omega (arith, view-low (c .before .before .before .before .before .pre .0) (c .before .before .before .before .before .args .bridge) (c .before .before .before .before .before .pre .1 .0 .0))
 
 mul-first-choice-2 : tie.Need-mul-first-choice-2 Inv-loop μ-loop
 mul-first-choice-2 c = search needs
 
 add-first-choice : tie.Need-add-first-choice Inv-loop μ-loop
-add-first-choice c = omega (arith, view-low (c .before .before .before .before .before .pre .0) (c .before .before .before .before .before .args .bridge) (c .before .before .before .before .before .pre .1 .0))
+add-first-choice c = omega (arith, view-low (c .before .before .before .before .before .pre .0) (c .before .before .before .before .before .args .bridge) (c .before .before .before .before .before .pre .1 .0 .0))
 
 add-first-choice-2 : tie.Need-add-first-choice-2 Inv-loop μ-loop
-add-first-choice-2 c = omega (arith, view-low (c .before .before .before .before .before .pre .0) (c .before .before .before .before .before .args .bridge) (c .before .before .before .before .before .pre .1 .0))
+add-first-choice-2 c = omega (arith, view-low (c .before .before .before .before .before .pre .0) (c .before .before .before .before .before .args .bridge) (c .before .before .before .before .before .pre .1 .0 .0))
 
 mul-first-choice-3 : tie.Need-mul-first-choice-3 Inv-loop μ-loop
-mul-first-choice-3 c = omega (arith, view-low (c .before .before .before .before .before .pre .0) (c .before .before .before .before .before .args .bridge) (c .before .before .before .before .before .pre .1 .0))
+mul-first-choice-3 c = omega (arith, view-low (c .before .before .before .before .before .pre .0) (c .before .before .before .before .before .args .bridge) (c .before .before .before .before .before .pre .1 .0 .0))
 
 shared-slice-read-first-choice : tie.Need-shared-slice-read-first-choice Inv-loop μ-loop
-shared-slice-read-first-choice c = omega (arith, view-low (c .before .before .before .before .before .before .pre .0) (c .before .before .before .before .before .before .args .bridge) (c .before .before .before .before .before .before .pre .1 .0))
+shared-slice-read-first-choice c = omega (arith, view-low (c .before .before .before .before .before .before .pre .0) (c .before .before .before .before .before .before .args .bridge) (c .before .before .before .before .before .before .pre .1 .0 .0))
 
 first-choice-requires : tie.Need-first-choice-requires Inv-loop μ-loop
 first-choice-requires c κs = search needs
 
 loop-holds : tie.Need-loop-holds Inv-loop μ-loop
-loop-holds c = (omega arith, c .first-choice .ensures ∙ choice-first _ _ _ _ (omega (arith, c .before .before .before .before .before .before .before .pre)) (omega (arith, c .before .before .before .before .before .before .before .pre)) refl)
+loop-holds c = (omega arith, c .first-choice .ensures ∙ choice-first _ _ _ _ _ (c .before .before .before .before .before .before .before .pre .1 .1) (omega (arith, c .before .before .before .before .before .before .before .pre)) (omega (arith, c .before .before .before .before .before .before .before .pre)) refl)
 
 mul-loop : tie.Need-mul-loop Inv-loop μ-loop
 mul-loop c = search needs
@@ -69,34 +69,34 @@ cast-far : tie.Need-cast-far Inv-loop μ-loop
 cast-far c = omega (arith, far-low (c .before .before .before .before .before .before .before .before .before .before .before .before .before .pre .0) (c .before .before .before .before .before .loop .e) (c .before .opposite-end .result) (c .before .before .before .before .loop-test .taken) (c .before .opposite-end .ensures))
 
 mul-choice-with : tie.Need-mul-choice-with Inv-loop μ-loop
-mul-choice-with c = omega (arith, view-low (c .before .before .before .before .before .before .before .before .before .before .before .before .before .pre .0) (c .before .before .before .before .before .before .before .before .before .before .before .before .before .args .bridge) (c .before .before .before .before .before .before .before .before .before .before .before .before .before .pre .1 .0))
+mul-choice-with c = omega (arith, view-low (c .before .before .before .before .before .before .before .before .before .before .before .before .before .pre .0) (c .before .before .before .before .before .before .before .before .before .before .before .before .before .args .bridge) (c .before .before .before .before .before .before .before .before .before .before .before .before .before .pre .1 .0 .0))
 
 add-choice-with : tie.Need-add-choice-with Inv-loop μ-loop
-add-choice-with c = omega (arith, view-low (c .before .before .before .before .before .before .before .before .before .before .before .before .before .pre .0) (c .before .before .before .before .before .before .before .before .before .before .before .before .before .args .bridge) (c .before .before .before .before .before .before .before .before .before .before .before .before .before .pre .1 .0))
+add-choice-with c = omega (arith, view-low (c .before .before .before .before .before .before .before .before .before .before .before .before .before .pre .0) (c .before .before .before .before .before .before .before .before .before .before .before .before .before .args .bridge) (c .before .before .before .before .before .before .before .before .before .before .before .before .before .pre .1 .0 .0))
 
 mul-choice-with-2 : tie.Need-mul-choice-with-2 Inv-loop μ-loop
-mul-choice-with-2 c = omega (arith, view-low (c .before .before .before .before .before .before .before .before .before .before .before .before .before .pre .0) (c .before .before .before .before .before .before .before .before .before .before .before .before .before .args .bridge) (c .before .before .before .before .before .before .before .before .before .before .before .before .before .pre .1 .0))
+mul-choice-with-2 c = omega (arith, view-low (c .before .before .before .before .before .before .before .before .before .before .before .before .before .pre .0) (c .before .before .before .before .before .before .before .before .before .before .before .before .before .args .bridge) (c .before .before .before .before .before .before .before .before .before .before .before .before .before .pre .1 .0 .0))
 
 shared-slice-read-choice-with : tie.Need-shared-slice-read-choice-with Inv-loop μ-loop
-shared-slice-read-choice-with c = omega (arith, view-low (c .before .before .before .before .before .before .before .before .before .before .before .before .before .before .pre .0) (c .before .before .before .before .before .before .before .before .before .before .before .before .before .before .args .bridge) (c .before .before .before .before .before .before .before .before .before .before .before .before .before .before .pre .1 .0))
+shared-slice-read-choice-with c = omega (arith, view-low (c .before .before .before .before .before .before .before .before .before .before .before .before .before .before .pre .0) (c .before .before .before .before .before .before .before .before .before .before .before .before .before .before .args .bridge) (c .before .before .before .before .before .before .before .before .before .before .before .before .before .before .pre .1 .0 .0))
 
 mul-choice-with-3 : tie.Need-mul-choice-with-3 Inv-loop μ-loop
-mul-choice-with-3 c = omega (arith, view-low (c .before .before .before .before .before .before .before .before .before .before .before .before .before .before .pre .0) (c .before .before .before .before .before .before .before .before .before .before .before .before .before .before .args .bridge) (c .before .before .before .before .before .before .before .before .before .before .before .before .before .before .pre .1 .0))
+mul-choice-with-3 c = omega (arith, view-low (c .before .before .before .before .before .before .before .before .before .before .before .before .before .before .pre .0) (c .before .before .before .before .before .before .before .before .before .before .before .before .before .before .args .bridge) (c .before .before .before .before .before .before .before .before .before .before .before .before .before .before .pre .1 .0 .0))
 
 mul-choice-with-4 : tie.Need-mul-choice-with-4 Inv-loop μ-loop
-mul-choice-with-4 c = omega (arith, view-low (c .before .before .before .before .before .before .before .before .before .before .before .before .before .before .pre .0) (c .before .before .before .before .before .before .before .before .before .before .before .before .before .before .args .bridge) (c .before .before .before .before .before .before .before .before .before .before .before .before .before .before .pre .1 .0), far-low (c .before .before .before .before .before .before .before .before .before .before .before .before .before .before .pre .0) (c .before .before .before .before .before .before .loop .e) (c .before .before .opposite-end .result) (c .before .before .before .before .before .loop-test .taken) (c .before .before .opposite-end .ensures))
+mul-choice-with-4 c = omega (arith, view-low (c .before .before .before .before .before .before .before .before .before .before .before .before .before .before .pre .0) (c .before .before .before .before .before .before .before .before .before .before .before .before .before .before .args .bridge) (c .before .before .before .before .before .before .before .before .before .before .before .before .before .before .pre .1 .0 .0), far-low (c .before .before .before .before .before .before .before .before .before .before .before .before .before .before .pre .0) (c .before .before .before .before .before .before .loop .e) (c .before .before .opposite-end .result) (c .before .before .before .before .before .loop-test .taken) (c .before .before .opposite-end .ensures))
 
 add-choice-with-2 : tie.Need-add-choice-with-2 Inv-loop μ-loop
-add-choice-with-2 c = omega (arith, view-low (c .before .before .before .before .before .before .before .before .before .before .before .before .before .before .pre .0) (c .before .before .before .before .before .before .before .before .before .before .before .before .before .before .args .bridge) (c .before .before .before .before .before .before .before .before .before .before .before .before .before .before .pre .1 .0), far-low (c .before .before .before .before .before .before .before .before .before .before .before .before .before .before .pre .0) (c .before .before .before .before .before .before .loop .e) (c .before .before .opposite-end .result) (c .before .before .before .before .before .loop-test .taken) (c .before .before .opposite-end .ensures))
+add-choice-with-2 c = omega (arith, view-low (c .before .before .before .before .before .before .before .before .before .before .before .before .before .before .pre .0) (c .before .before .before .before .before .before .before .before .before .before .before .before .before .before .args .bridge) (c .before .before .before .before .before .before .before .before .before .before .before .before .before .before .pre .1 .0 .0), far-low (c .before .before .before .before .before .before .before .before .before .before .before .before .before .before .pre .0) (c .before .before .before .before .before .before .loop .e) (c .before .before .opposite-end .result) (c .before .before .before .before .before .loop-test .taken) (c .before .before .opposite-end .ensures))
 
 add-choice-with-3 : tie.Need-add-choice-with-3 Inv-loop μ-loop
-add-choice-with-3 c = omega (arith, view-low (c .before .before .before .before .before .before .before .before .before .before .before .before .before .before .pre .0) (c .before .before .before .before .before .before .before .before .before .before .before .before .before .before .args .bridge) (c .before .before .before .before .before .before .before .before .before .before .before .before .before .before .pre .1 .0), far-low (c .before .before .before .before .before .before .before .before .before .before .before .before .before .before .pre .0) (c .before .before .before .before .before .before .loop .e) (c .before .before .opposite-end .result) (c .before .before .before .before .before .loop-test .taken) (c .before .before .opposite-end .ensures))
+add-choice-with-3 c = omega (arith, view-low (c .before .before .before .before .before .before .before .before .before .before .before .before .before .before .pre .0) (c .before .before .before .before .before .before .before .before .before .before .before .before .before .before .args .bridge) (c .before .before .before .before .before .before .before .before .before .before .before .before .before .before .pre .1 .0 .0), far-low (c .before .before .before .before .before .before .before .before .before .before .before .before .before .before .pre .0) (c .before .before .before .before .before .before .loop .e) (c .before .before .opposite-end .result) (c .before .before .before .before .before .loop-test .taken) (c .before .before .opposite-end .ensures))
 
 mul-choice-with-5 : tie.Need-mul-choice-with-5 Inv-loop μ-loop
-mul-choice-with-5 c = omega (arith, view-low (c .before .before .before .before .before .before .before .before .before .before .before .before .before .before .pre .0) (c .before .before .before .before .before .before .before .before .before .before .before .before .before .before .args .bridge) (c .before .before .before .before .before .before .before .before .before .before .before .before .before .before .pre .1 .0), far-low (c .before .before .before .before .before .before .before .before .before .before .before .before .before .before .pre .0) (c .before .before .before .before .before .before .loop .e) (c .before .before .opposite-end .result) (c .before .before .before .before .before .loop-test .taken) (c .before .before .opposite-end .ensures))
+mul-choice-with-5 c = omega (arith, view-low (c .before .before .before .before .before .before .before .before .before .before .before .before .before .before .pre .0) (c .before .before .before .before .before .before .before .before .before .before .before .before .before .before .args .bridge) (c .before .before .before .before .before .before .before .before .before .before .before .before .before .before .pre .1 .0 .0), far-low (c .before .before .before .before .before .before .before .before .before .before .before .before .before .before .pre .0) (c .before .before .before .before .before .before .loop .e) (c .before .before .opposite-end .result) (c .before .before .before .before .before .loop-test .taken) (c .before .before .opposite-end .ensures))
 
 shared-slice-read-choice-with-2 : tie.Need-shared-slice-read-choice-with-2 Inv-loop μ-loop
-shared-slice-read-choice-with-2 c = omega (arith, view-low (c .before .before .before .before .before .before .before .before .before .before .before .before .before .before .before .pre .0) (c .before .before .before .before .before .before .before .before .before .before .before .before .before .before .before .args .bridge) (c .before .before .before .before .before .before .before .before .before .before .before .before .before .before .before .pre .1 .0), far-low (c .before .before .before .before .before .before .before .before .before .before .before .before .before .before .before .pre .0) (c .before .before .before .before .before .before .before .loop .e) (c .before .before .before .opposite-end .result) (c .before .before .before .before .before .before .loop-test .taken) (c .before .before .before .opposite-end .ensures))
+shared-slice-read-choice-with-2 c = omega (arith, view-low (c .before .before .before .before .before .before .before .before .before .before .before .before .before .before .before .pre .0) (c .before .before .before .before .before .before .before .before .before .before .before .before .before .before .before .args .bridge) (c .before .before .before .before .before .before .before .before .before .before .before .before .before .before .before .pre .1 .0 .0), far-low (c .before .before .before .before .before .before .before .before .before .before .before .before .before .before .before .pre .0) (c .before .before .before .before .before .before .before .loop .e) (c .before .before .before .opposite-end .result) (c .before .before .before .before .before .before .loop-test .taken) (c .before .before .before .opposite-end .ensures))
 
 element-copy-out-choice-with : tie.Need-element-copy-out-choice-with Inv-loop μ-loop
 element-copy-out-choice-with c = search needs
@@ -134,7 +134,7 @@ shared-slice-read-choice-with-4 c = search needs
 choice-with-requires : tie.Need-choice-with-requires Inv-loop μ-loop
 choice-with-requires c κs =
     let a = c .before .before .before .before .before .before .before .before .before .before .before .before .before .before .before .before .before .before .args in
-    (omega arith, c .before .before .before .before .before .before .before .before .before .before .before .before .before .before .before .before .before .before .pre .0 .costsMost _ (c .before .before .before .before .before .before .before .before .before .before .loop .e / 2) (c .before .before .before .before .before .before .before .before .before .before .before .before .before .before .before .before .before .before .pre .0 .ready .areViews (a .bridge) (c .before .before .before .before .before .before .before .before .before .before .before .before .before .before .before .before .before .before .pre .1 .0)) (omega arith))
+    (omega arith, c .before .before .before .before .before .before .before .before .before .before .before .before .before .before .before .before .before .before .pre .0 .costsMost _ (c .before .before .before .before .before .before .before .before .before .before .loop .e / 2) (c .before .before .before .before .before .before .before .before .before .before .before .before .before .before .before .before .before .before .pre .0 .ready .areViews (a .bridge) (c .before .before .before .before .before .before .before .before .before .before .before .before .before .before .before .before .before .before .pre .1 .0 .0)) (omega arith))
 
 add-e : tie.Need-add-e Inv-loop μ-loop
 add-e c = search needs
@@ -152,7 +152,7 @@ loop-again c =
     (λ w. (
       omega arith,
       w .9
-          ∙ choice-more _ _ _ e (w .1 .result) _ (omega arith) (omega arith) (omega arith)
+          ∙ choice-more _ _ _ _ e (w .1 .result) _ (p .1 .1) (omega arith) (omega arith) (omega arith)
           (far-low (p .0) e (w .1 .result) (c .before .before .loop-test .taken) (w .1 .ensures)) (w .0 .taken) (w .1 .ensures) (inv .1) (w .8 .ensures),
     ))
     (λ w. (omega arith, w .1 ∙ inv .1 ∙ choice-other _ _ _ e (w .0 .left)))
@@ -167,7 +167,7 @@ returns : tie.Need-returns Inv-loop μ-loop
 returns c =
     let p = c .before .before .before .before .before .before .before .before .before .before .pre in
     let e : c .before .before .loop .e ≡ 2 * c .before .before .before .before .before .before .before .before .before .before .args .t1 .links = omega arith in
-    c .found-port .ensures ∙ rw (c .before .before .loop .inv .1, e) (choice-port _ (p .0 .inRange) _ _ (p .1 .0) (p .1 .1))
+    c .found-port .ensures ∙ rw (c .before .before .loop .inv .1, e) (choice-port _ (p .0 .inRange) _ _ (p .1 .0 .0) (p .1 .0 .1))
 
 pub port-at-spec : {M : Type 1} → statement M
 port-at-spec =

@@ -8,45 +8,52 @@ use lib.ListN.{length}
 use Rattle.bench.specs.State.{state}
 use Rattle.bench.specs.Answers.{reported}
 use Rattle.bench.proofs.WalkSteps.{reported-more}
-use Rattle.bench.proofs.ChoiceSteps.{choice-low, choice-row}
+use Rattle.bench.proofs.ChoiceSteps.{view-low, choice-low, choice-row}
+use Rattle.bench.proofs.TableSteps.{all-filled}
 use Rattle.bench.proofs.walks.report_rows.Statement.{statement}
 use Rattle.bench.proofs.walks.report_rows.Tie as tie
 
 abbrev Inv-loop : tie.InvT-loop
-Inv-loop bench costs tables sent held dest rows₀ choices y₀ rows y =
-    (rows ≡ reported (state bench costs tables sent held []) dest y rows₀) × (length rows ≡ length rows₀) × (y ≤ bench .bridges)
+Inv-loop bench costs tables known sent held dest rows₀ choices y₀ rows y =
+    (rows ≡ reported (state bench costs sent held []) dest y rows₀) × (length rows ≡ length rows₀) × (y ≤ bench .bridges)
 
 abbrev μ-loop : tie.MeasureT-loop
-μ-loop bench costs tables sent held dest rows₀ choices y₀ rows y = bench .bridges - y
+μ-loop bench costs tables known sent held dest rows₀ choices y₀ rows y = bench .bridges - y
 
 all-choices-requires : tie.Need-all-choices-requires Inv-loop μ-loop
-all-choices-requires c κs = (c .before .before .before .before .before .pre .0, c .before .before .before .before .before .pre .1 .0)
+all-choices-requires c κs =
+    let kept = c .before .before .before .before .before .need-views .ensures in
+    let low = view-low (c .before .before .before .before .before .before .before .before .before .before .before .before .before .before .pre .0) in
+    (c .before .before .before .before .before .before .before .before .before .before .before .before .before .before .pre .0, (c .before .before .before .before .before .before .before .before .before .before .before .before .before .before .pre .1 .0, omega (arith, kept .0 .long), all-filled _ _ _ _ (kept .0) low (kept .1)))
+
+need-views-requires : tie.Need-need-views-requires Inv-loop μ-loop
+need-views-requires c κs = (c .before .before .before .before .before .before .before .before .pre .0 .ready, c .before .before .before .before .before .before .before .before .pre .1 .2)
 
 loop-holds : tie.Need-loop-holds Inv-loop μ-loop
 unfolding reported
 loop-holds c = (refl, refl, omega arith)
 
 mul-report-row : tie.Need-mul-report-row Inv-loop μ-loop
-mul-report-row c = omega (arith, c .before .before .before .before .before .before .before .before .before .before .pre .0 .ready .fewBridges)
+mul-report-row c = omega (arith, c .before .before .before .before .before .before .before .before .before .before .before .before .before .before .before .before .before .before .before .pre .0 .ready .fewBridges)
 
 array-copy-out-report-row : tie.Need-array-copy-out-report-row Inv-loop μ-loop
-array-copy-out-report-row c = omega (arith, c .before .before .before .before .before .before .before .before .before .before .pre .0 .ready .fewBridges)
+array-copy-out-report-row c = omega (arith, c .before .before .before .before .before .before .before .before .before .before .before .before .before .before .before .before .before .before .before .pre .0 .ready .fewBridges)
 
 report-row-requires : tie.Need-report-row-requires Inv-loop μ-loop
 report-row-requires c κs =
-    let p = c .before .before .before .before .before .before .before .before .before .before .before .pre in
-    let few : 2 * c .before .before .before .before .before .before .before .before .before .before .before .args .bench .links ≤ 64 = omega (arith, p .0 .ready .fewLinks) in
+    let p = c .before .before .before .before .before .before .before .before .before .before .before .before .before .before .before .before .before .before .before .before .pre in
+    let few : 2 * c .before .before .before .before .before .before .before .before .before .before .before .before .before .before .before .before .before .before .before .before .args .bench .links ≤ 64 = omega (arith, p .0 .ready .fewLinks) in
     (omega (arith, p .0 .ready .fewBridges), rw (c .before .before .before .before .before .all-choices .ensures (c .before .before .before .before .loop .y) (c .before .before .if1 .taken) _) (choice-low _ _ _ _ few), omega (arith, p .1))
 
 add-y : tie.Need-add-y Inv-loop μ-loop
-add-y c = omega (arith, c .before .before .before .before .before .before .before .before .before .before .before .before .before .before .pre .0 .ready .fewBridges)
+add-y c = omega (arith, c .before .before .before .before .before .before .before .before .before .before .before .before .before .before .before .before .before .before .before .before .before .before .before .pre .0 .ready .fewBridges)
 
 loop-less : tie.Need-loop-less Inv-loop μ-loop
 loop-less c = search needs
 
 loop-again : tie.Need-loop-again Inv-loop μ-loop
 loop-again c =
-    let p = c .before .before .before .before .before .before .before .before .before .before .before .before .before .before .pre in
+    let p = c .before .before .before .before .before .before .before .before .before .before .before .before .before .before .before .before .before .before .before .before .before .before .before .pre in
     let turn = c .before .before .report-row in
     let old = c .before .before .before .before .before .before .before .loop .inv in
     let y = c .before .before .before .before .before .before .before .loop .y in
@@ -57,12 +64,18 @@ loop-again c =
     )
 
 same-length : tie.Need-same-length Inv-loop μ-loop
-same-length c = c .before .before .loop .inv .1
+same-length c = omega (arith, c .before .before .before .before .before .before .before .before .before .need-views .ensures .0 .long, c .before .before .before .before .before .before .before .before .before .before .before .before .before .before .before .before .before .before .pre .1 .2 .long)
 
 returns : tie.Need-returns Inv-loop μ-loop
 returns c =
-    let all : c .before .before .loop .y ≡ c .before .before .before .before .before .before .before .before .before .args .bench .bridges = omega arith in
-    c .before .before .loop .inv .0 ∙ rw all
+    let all : c .before .before .loop .y ≡ c .before .before .before .before .before .before .before .before .before .before .before .before .before .before .before .before .before .before .args .bench .bridges = omega arith in
+    (c .before .before .loop .inv .0 ∙ rw all, c .before .before .before .before .before .before .before .before .before .need-views .ensures .0)
+
+same-length-2 : tie.Need-same-length-2 Inv-loop μ-loop
+same-length-2 c = omega (arith, c .before .before .before .before .before .before .before .before .before .need-views .ensures .0 .flags, c .before .before .before .before .before .before .before .before .before .before .before .before .before .before .before .before .before .before .pre .1 .2 .flags)
+
+same-length-3 : tie.Need-same-length-3 Inv-loop μ-loop
+same-length-3 c = c .before .before .loop .inv .1
 
 pub report-rows-spec : {M : Type 1} → statement M
 report-rows-spec =
@@ -70,6 +83,7 @@ report-rows-spec =
     (tie.spec
     Inv-loop
     μ-loop
+    need-views-requires
     all-choices-requires
     loop-holds
     mul-report-row
@@ -79,4 +93,6 @@ report-rows-spec =
     loop-less
     loop-again
     same-length
+    same-length-2
+    same-length-3
     returns)

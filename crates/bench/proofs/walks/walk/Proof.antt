@@ -8,37 +8,38 @@ use Rattle.agreement.specs.Call.{says}
 use Rattle.bench.specs.Paths.{onward}
 use Rattle.bench.specs.State.{state}
 use Rattle.bench.specs.Answers.{hopIn}
-use Rattle.bench.specs.Steps.{hopSays}
+use Rattle.bench.specs.Steps.{hopSays, Tables}
 use Rattle.bench.proofs.WalkSteps.{hop-leads, onward-here, onward-stops, onward-more, onward-last}
 use Rattle.bench.proofs.walks.walk.Statement.{statement}
 use Rattle.bench.proofs.walks.walk.Tie as tie
 
 abbrev Inv-loop : tie.InvT-loop
-Inv-loop bench costs tables sent held start dest last₀ hops₀ last hops =
-    let next = hopIn (state bench costs tables sent held []) dest in
+Inv-loop bench costs tables₀ known₀ sent held start dest last₀ hops₀ tables known last hops =
+    let next = hopIn (state bench costs sent held []) dest in
     (onward next dest (bench .bridges - 1) 0 start ≡ onward next dest (bench .bridges - 1 - hops) hops last)
     × (last < bench .bridges)
     × (hops ≤ bench .bridges - 1)
+    × Tables bench costs tables known
 
 abbrev μ-loop : tie.MeasureT-loop
-μ-loop bench costs tables sent held start dest last₀ hops₀ last hops = bench .bridges - hops
+μ-loop bench costs tables₀ known₀ sent held start dest last₀ hops₀ tables known last hops = bench .bridges - hops
 
 loop-holds : tie.Need-loop-holds Inv-loop μ-loop
 loop-holds c =
-    let s = c .before .before .before .before in
+    let s = c .before .before .before .before .before in
     let none : s .args .bench .bridges - 1 - 0 ≡ s .args .bench .bridges - 1 = omega arith in
-    (rw none, s .pre .1 .0, omega arith)
+    (rw none, s .pre .1 .0, omega arith, s .pre .1 .2)
 
 sub-if1 : tie.Need-sub-if1 Inv-loop μ-loop
-sub-if1 c = omega (arith, c .before .before .before .before .before .before .pre .1)
+sub-if1 c = omega (arith, c .before .before .before .before .before .before .before .pre .1)
 
 returns : tie.Need-returns Inv-loop μ-loop
-returns c = ap says (sym (c .before .before .before .loop .inv .0 ∙ onward-here _ _ _ _ _ (c .if2 .taken)))
+returns c = (ap says (sym (c .before .before .before .loop .inv .0 ∙ onward-here _ _ _ _ _ (c .if2 .taken))), c .before .before .before .loop .inv .3)
 
 hop-at-requires : tie.Need-hop-at-requires Inv-loop μ-loop
 hop-at-requires c κs =
-    let p = c .before .before .before .before .before .before .before .before .pre in
-    (p .0, (c .before .before .before .loop .inv .1, p .1 .1))
+    let p = c .before .before .before .before .before .before .before .before .before .before .before .pre in
+    (p .0, (c .before .before .before .before .before .loop .inv .1, p .1 .1, c .before .before .before .before .before .loop .inv .3))
 
 enum-known-next : tie.Need-enum-known-next Inv-loop μ-loop
 enum-known-next c = search needs
@@ -48,29 +49,48 @@ enum-told c = search needs
 
 returns-2 : tie.Need-returns-2 Inv-loop μ-loop
 returns-2 c =
-    let hop = sym (c .before .before .hop-at .ensures) ∙ ap hopSays (c .enum-told .given .1) in
-    ap says (sym (c .before .before .before .before .before .before .loop .inv .0 ∙ onward-stops _ _ _ _ _ (c .before .before .before .if2 .left) hop))
+    let hop = sym (c .before .before .before .before .before .before .hop-at .ensures .0) ∙ ap hopSays (c .enum-told .given .1) in
+    (ap says (sym (c .before .before .before .before .before .before .before .before .before .before .before .before .loop .inv .0 ∙ onward-stops _ _ _ _ _ (c .before .before .before .before .before .before .before .before .before .if2 .left) hop)), c .before .before .before .before .before .before .hop-at .ensures .1)
 
 add-hops : tie.Need-add-hops Inv-loop μ-loop
-add-hops c = omega (arith, c .before .before .before .before .before .if1 .taken, c .before .before .before .before .before .before .before .before .before .before .before .before .pre .0 .ready .fewBridges)
+add-hops c = omega (arith, c .before .before .before .before .before .before .before .before .before .before .before .if1 .taken, c .before .before .before .before .before .before .before .before .before .before .before .before .before .before .before .before .before .before .before .pre .0 .ready .fewBridges)
 
 loop-less : tie.Need-loop-less Inv-loop μ-loop
 loop-less c = omega arith
 
 loop-again : tie.Need-loop-again Inv-loop μ-loop
 loop-again c =
-    let hop = sym (c .before .before .before .hop-at .ensures) ∙ ap hopSays (c .before .next .given .1) in
-    let low = c .before .before .before .before .before .if1 .taken in (
-      c .before .before .before .before .before .before .before .loop .inv .0 ∙ onward-more _ _ _ _ _ _ _ low (c .before .before .before .before .if2 .left) hop,
-      hop-leads _ (c .before .before .before .before .before .before .before .before .before .before .before .before .pre .0 .ready) _ _ _ _ hop,
+    let hop = sym (c .before .before .before .before .before .before .before .hop-at .ensures .0) ∙ ap hopSays (c .before .next .given .1) in
+    let low = c .before .before .before .before .before .before .before .before .before .before .before .if1 .taken in (
+      c .before .before .before .before .before .before .before .before .before .before .before .before .before .loop .inv .0 ∙ onward-more _ _ _ _ _ _ _ low (c .before .before .before .before .before .before .before .before .before .before .if2 .left) hop,
+      hop-leads _ (c .before .before .before .before .before .before .before .before .before .before .before .before .before .before .before .before .before .before .before .pre .0 .ready) _ _ _ _ hop,
       omega arith,
+      c .before .before .before .before .before .before .before .hop-at .ensures .1,
     )
 
 end-of-walk-requires : tie.Need-end-of-walk-requires Inv-loop μ-loop
 end-of-walk-requires c κs = search needs
 
 returns-3 : tie.Need-returns-3 Inv-loop μ-loop
-returns-3 c = c .end-of-walk .ensures ∙ ap says (sym (c .before .before .before .loop .inv .0 ∙ onward-last _ _ _ _ _ (c .before .if1 .left)))
+returns-3 c = (c .end-of-walk .ensures ∙ ap says (sym (c .before .before .before .loop .inv .0 ∙ onward-last _ _ _ _ _ (c .before .if1 .left))), c .before .before .before .loop .inv .3)
+
+same-length : tie.Need-same-length Inv-loop μ-loop
+same-length c = omega (arith, c .before .before .before .loop .inv .3 .long, c .before .before .before .before .before .before .before .before .before .pre .1 .2 .long)
+
+same-length-2 : tie.Need-same-length-2 Inv-loop μ-loop
+same-length-2 c = omega (arith, c .before .before .before .loop .inv .3 .flags, c .before .before .before .before .before .before .before .before .before .pre .1 .2 .flags)
+
+same-length-3 : tie.Need-same-length-3 Inv-loop μ-loop
+same-length-3 c = omega (arith, c .before .before .before .before .before .before .hop-at .ensures .1 .long, c .before .before .before .before .before .before .before .before .before .before .before .before .before .before .before .before .before .before .pre .1 .2 .long)
+
+same-length-4 : tie.Need-same-length-4 Inv-loop μ-loop
+same-length-4 c = omega (arith, c .before .before .before .before .before .before .hop-at .ensures .1 .flags, c .before .before .before .before .before .before .before .before .before .before .before .before .before .before .before .before .before .before .pre .1 .2 .flags)
+
+same-length-5 : tie.Need-same-length-5 Inv-loop μ-loop
+same-length-5 c = omega (arith, c .before .before .before .loop .inv .3 .long, c .before .before .before .before .before .before .before .before .before .pre .1 .2 .long)
+
+same-length-6 : tie.Need-same-length-6 Inv-loop μ-loop
+same-length-6 c = omega (arith, c .before .before .before .loop .inv .3 .flags, c .before .before .before .before .before .before .before .before .before .pre .1 .2 .flags)
 
 pub walk-spec : {M : Type 1} → statement M
 walk-spec =
@@ -80,13 +100,19 @@ walk-spec =
     μ-loop
     loop-holds
     sub-if1
+    same-length
+    same-length-2
     returns
     hop-at-requires
     enum-known-next
     enum-told
+    same-length-3
+    same-length-4
     returns-2
     add-hops
     loop-less
     loop-again
     end-of-walk-requires
+    same-length-5
+    same-length-6
     returns-3)

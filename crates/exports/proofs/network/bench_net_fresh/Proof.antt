@@ -23,7 +23,7 @@ fresh-requires : tie.Need-fresh-requires
 fresh-requires c κs = search needs
 
 settle-requires : tie.Need-settle-requires
-settle-requires c κs = room 388 _ _ (c .before .before .before .before .before .before .before .before .before .before .before .before .before .before .holds .ensures) (c .before .before .before .before .before .before .before .before .before .before .before .before .before .if1 .left)
+settle-requires c κs = room 388 _ _ (c .before .before .before .before .before .before .before .before .before .before .before .holds .ensures) (c .before .before .before .before .before .before .before .before .before .before .if1 .left)
 
 same-length-2 : tie.Need-same-length-2
 same-length-2 c = search needs
@@ -34,12 +34,9 @@ same-length-3 c = search needs
 same-length-4 : tie.Need-same-length-4
 same-length-4 c = search needs
 
-same-length-5 : tie.Need-same-length-5
-same-length-5 c = search needs
-
 returns-2 : tie.Need-returns-2
 unfolding netFreshTold
-returns-2 c = rw (passed (c .before .before .before .before .before .before .before .before .before .before .before .before .before .before .before .before .before .holds .ensures) (c .before .before .before .before .before .before .before .before .before .before .before .before .before .before .before .before .if1 .left), ← c .before .before .before .before .before .before .before .before .before .before .before .before .before .before .load .ensures, ← c .before .before .before .before .before .before .before .before .before .before .fresh .ensures .0, c .before .before .settle .ensures .0, c .before .before .settle .ensures .1)
+returns-2 c = rw (passed (c .before .before .before .before .before .before .before .before .before .before .before .before .before .before .holds .ensures) (c .before .before .before .before .before .before .before .before .before .before .before .before .before .if1 .left), ← c .before .before .before .before .before .before .before .before .before .before .before .load .ensures, ← c .before .before .before .before .before .before .before .before .fresh .ensures .0, c .before .before .settle .ensures .0, c .before .before .settle .ensures .1)
 
 pub bench-net-fresh-spec : {M : Type 1} → statement M
 bench-net-fresh-spec =
@@ -54,5 +51,4 @@ bench-net-fresh-spec =
     same-length-2
     same-length-3
     same-length-4
-    same-length-5
     returns-2)

@@ -22,14 +22,14 @@ same-length c = search needs
 
 returns-2 : tie.Need-returns-2
 unfolding sliceDeliverTold netDeliverTold followed
-returns-2 c = rw (le-leb _ _ (c .before .before .before .if1 .left), failed (c .before .holds .ensures) (c .if2 .taken), take-append-drop 320 (c .before .before .before .before .before .before .before .before .before .before .before .args .messages .now))
+returns-2 c = rw (le-leb _ _ (c .before .before .before .if1 .left), failed (c .before .holds .ensures) (c .if2 .taken), take-append-drop 320 (c .before .before .before .before .before .before .before .before .before .before .args .messages .now))
 
 same-length-2 : tie.Need-same-length-2
 same-length-2 c = search needs
 
 returns-3 : tie.Need-returns-3
 unfolding sliceDeliverTold netDeliverTold followed
-returns-3 c = rw (le-leb _ _ (c .before .before .before .before .if1 .left), passed (c .before .before .holds .ensures) (c .before .if2 .left), lt-leb _ _ (c .if3 .taken), take-append-drop 320 (c .before .before .before .before .before .before .before .before .before .before .before .before .args .messages .now))
+returns-3 c = rw (le-leb _ _ (c .before .before .before .before .if1 .left), passed (c .before .before .holds .ensures) (c .before .if2 .left), lt-leb _ _ (c .if3 .taken), take-append-drop 320 (c .before .before .before .before .before .before .before .before .before .before .before .args .messages .now))
 
 load-requires : tie.Need-load-requires
 load-requires c κs = room 388 _ _ (c .before .before .before .holds .ensures) (c .before .before .if2 .left)

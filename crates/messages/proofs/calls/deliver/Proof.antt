@@ -85,24 +85,18 @@ stayed = (
   stay-none (λ _. B.the-row) yes,
   (
     stay-none-slice (0 ∷ []) tt (plain (λ _. u32)) yes,
-    (
-      stay-none-slice (1 ∷ []) tt (plain (λ _. u32)) yes,
-      (
-        gave-slice (2 ∷ []) tt (plain (λ _. u32)),
-        (gave-slice (3 ∷ []) tt (plain (λ _. u32)), (gave-slice (4 ∷ []) tt (plain (λ _. T.the-row)), (stay-none (λ _. usize) yes, tt))),
-      ),
-    ),
+    (gave-slice (1 ∷ []) tt (plain (λ _. u32)), (gave-slice (2 ∷ []) tt (plain (λ _. u32)), (gave-slice (3 ∷ []) tt (plain (λ _. T.the-row)), (stay-none (λ _. usize) yes, tt)))),
   ),
 )
 
 -- what `decide_deliver` ensures of its result and of the limit tables
-abbrev Delivers : Bench → List ℕ → List ℕ → List ℕ → List ℕ → List ℕ → ℕ → Delivered → List ℕ → List ℕ → List ℕ → Type 0
-Delivers h costs tables sent held m p r ss hs zs =
-    delivered (reactionSays (r .reply)) (r .bench) ss hs zs ≡ deliverOf (state h costs tables sent held m) p
+abbrev Delivers : Bench → List ℕ → List ℕ → List ℕ → List ℕ → ℕ → Delivered → List ℕ → List ℕ → List ℕ → Type 0
+Delivers h costs sent held m p r ss hs zs =
+    delivered (reactionSays (r .reply)) (r .bench) ss hs zs ≡ deliverOf (state h costs sent held m) p
 
-abbrev Decides : Bench → List ℕ → List ℕ → List ℕ → List ℕ → List ℕ → ℕ → ℕ → Decided → List ℕ → List ℕ → Type 0
-Decides h costs tables sent held m n p d ss hs =
-    Delivers h costs tables sent held m p (d .delivered) ss hs (shifted (d .from) (d .past) m) × ((d .from ≤ d .past) × ((d .past ≤ n - 1) × (d .past ≤ 63)))
+abbrev Decides : Bench → List ℕ → List ℕ → List ℕ → List ℕ → ℕ → ℕ → Decided → List ℕ → List ℕ → Type 0
+Decides h costs sent held m n p d ss hs =
+    Delivers h costs sent held m p (d .delivered) ss hs (shifted (d .from) (d .past) m) × ((d .from ≤ d .past) × ((d .past ≤ n - 1) × (d .past ≤ 63)))
 
 -- a decision's answer, where the decision stands
 answer-is : (d : Decided) (w : Val) → Is D.the-row d (w ∷ []) → Is R.the-row (d .delivered) (R′.lowered (d .delivered) ∷ [])
@@ -111,102 +105,102 @@ answer-is d w is =
 
 -- the last values of `decide_deliver`'s parameters: those of the limit tables are lists
 abbrev Lasting : Type 0
-Lasting = Unit {0} × (Unit {0} × (Unit {0} × (List ℕ × (List ℕ × (Unit {0} × (Unit {0} × (Unit {0} × Unit {0})))))))
+Lasting = Unit {0} × (Unit {0} × (List ℕ × (List ℕ × (Unit {0} × (Unit {0} × (Unit {0} × Unit {0}))))))
 
 -- the contract that the proof cites
 abbrev DecideDeliver : {M : Type 1} (𝓤 : URA M) (H : Heap 𝓤) (A : Atoms 𝓤) (mem : Memory → SProp 𝓤) (run : Routine → Fun 𝓤) → Contract 𝓤
 DecideDeliver 𝓤 H A mem run = tripleOf 𝓤 H A decide-deliver.signature (decide-deliver.spec 𝓤 H A mem run)
 
 module _ {M : Type 1} (𝓤 : URA M) (H : Heap 𝓤) (A : Atoms 𝓤) (W : Given 𝓤 H A) (mem : Memory → SProp 𝓤) (run : Routine → Fun 𝓤)
-    (κs : Lfts 5) (qs : Shares 5) (h : Bench) (hv : Val) (h-is : Is B.the-row h (hv ∷ [])) (c t s l : RefT (List ℕ)) (x : RefT (List Message)) (p : ℕ) (p-fits : p < 2 ^ 64)
-    (s-room : Room u32 (length (s .now))) (l-room : Room u32 (length (l .now))) (c-room : Room u32 (length (c .now))) (t-room : Room u32 (length (t .now))) (x-room : Room T.the-row (length (x .now))) where
-  -- the lifetime and the share of the messages, and the other four
+    (κs : Lfts 4) (qs : Shares 4) (h : Bench) (hv : Val) (h-is : Is B.the-row h (hv ∷ [])) (c s l : RefT (List ℕ)) (x : RefT (List Message)) (p : ℕ) (p-fits : p < 2 ^ 64)
+    (s-room : Room u32 (length (s .now))) (l-room : Room u32 (length (l .now))) (c-room : Room u32 (length (c .now))) (x-room : Room T.the-row (length (x .now))) where
+  -- the lifetime and the share of the messages, and the other three
   abbrev κ : Lft
-  κ = κs .1 .1 .1 .1 .0
+  κ = κs .1 .1 .1 .0
 
   abbrev q : Share
-  q = qs .1 .1 .1 .1 .0
+  q = qs .1 .1 .1 .0
 
-  abbrev κs′ : Lfts 4
-  κs′ = (κs .0, (κs .1 .0, (κs .1 .1 .0, (κs .1 .1 .1 .0, tt))))
+  abbrev κs′ : Lfts 3
+  κs′ = (κs .0, (κs .1 .0, (κs .1 .1 .0, tt)))
 
-  abbrev qs′ : Shares 4
-  qs′ = (qs .0, (qs .1 .0, (qs .1 .1 .0, (qs .1 .1 .1 .0, tt))))
+  abbrev qs′ : Shares 3
+  qs′ = (qs .0, (qs .1 .0, (qs .1 .1 .0, tt)))
 
   abbrev Toks : Item 𝓤
-  Toks = limits.Toks 𝓤 H A κs′ qs′ c t s l
+  Toks = limits.Toks 𝓤 H A κs′ qs′ c s l
 
   abbrev Kept : Item 𝓤
-  Kept = limits.Kept 𝓤 H A κs′ qs′ c t s l
+  Kept = limits.Kept 𝓤 H A κs′ qs′ c s l
 
   abbrev Handed : Item 𝓤
-  Handed = limits.Handed 𝓤 H A κs′ qs′ c t s l
+  Handed = limits.Handed 𝓤 H A κs′ qs′ c s l
 
   abbrev Said : List ℕ → List ℕ → Item 𝓤
-  Said = limits.Said 𝓤 H A κs′ qs′ c t s l
+  Said = limits.Said 𝓤 H A κs′ qs′ c s l
 
   abbrev AllToks : Item 𝓤
-  AllToks = limits.AllToks 𝓤 H A κs′ qs′ c t s l κ q
+  AllToks = limits.AllToks 𝓤 H A κs′ qs′ c s l κ q
 
   abbrev All : Fml → Fml → Fml → Fml
-  All = limits.All 𝓤 H A κs′ qs′ c t s l W h hv h-is p p-fits
+  All = limits.All 𝓤 H A κs′ qs′ c s l W h hv h-is p p-fits
 
   abbrev Messages : Fml
   Messages = MutSlice (named 0) κ T.the-row .own x (slice-vals x)
 
-  abbrev a : Bench × (RefT (List ℕ) × (RefT (List ℕ) × (RefT (List ℕ) × (RefT (List ℕ) × (RefT (List Message) × (ℕ × Unit {0}))))))
-  a = (h, (c, (t, (s, (l, (x, (p, tt)))))))
+  abbrev a : Bench × (RefT (List ℕ) × (RefT (List ℕ) × (RefT (List ℕ) × (RefT (List Message) × (ℕ × Unit {0})))))
+  a = (h, (c, (s, (l, (x, (p, tt))))))
 
-  abbrev vals : List Val × (List Val × (List Val × (List Val × (List Val × (List Val × (List Val × Unit {0}))))))
-  vals = (hv ∷ [], (slice-vals c, (slice-vals t, (slice-vals s, (slice-vals l, (slice-vals x, (vint w64 p ∷ [], tt)))))))
+  abbrev vals : List Val × (List Val × (List Val × (List Val × (List Val × (List Val × Unit {0})))))
+  vals = (hv ∷ [], (slice-vals c, (slice-vals s, (slice-vals l, (slice-vals x, (vint w64 p ∷ [], tt))))))
 
   abbrev passed : List Val
-  passed = hv ∷ only (slice-vals c) ∷ only (slice-vals t) ∷ only (slice-vals s) ∷ only (slice-vals l) ∷ only (slice-vals x) ∷ vint w64 p ∷ []
+  passed = hv ∷ only (slice-vals c) ∷ only (slice-vals s) ∷ only (slice-vals l) ∷ only (slice-vals x) ∷ vint w64 p ∷ []
 
   abbrev Post : Val → SProp 𝓤
   Post = walkOf 𝓤 H A deliver.ended stayed (deliver.clauses 𝓤 H A mem run) .post ((κs, qs, tt, a, vals), tt)
 
-  abbrev args : List ℕ → Bench × (RefT (List ℕ) × (RefT (List ℕ) × (RefT (List ℕ) × (RefT (List ℕ) × (List ℕ × (ℕ × (ℕ × Unit {0})))))))
-  args ns = (h, (c, (t, (s, (l, (ns, (length (x .now), (p, tt))))))))
+  abbrev args : List ℕ → Bench × (RefT (List ℕ) × (RefT (List ℕ) × (RefT (List ℕ) × (List ℕ × (ℕ × (ℕ × Unit {0}))))))
+  args ns = (h, (c, (s, (l, (ns, (length (x .now), (p, tt)))))))
 
   abbrev to-decide : List ℕ → Val → DecideDeliver 𝓤 H A mem run .Ghost
-  to-decide ns v = ((κs′, qs′, tt, args ns, (hv ∷ [], (slice-vals c, (slice-vals t, (slice-vals s, (slice-vals l, (v ∷ [], (vint w64 (length (x .now)) ∷ [], (vint w64 p ∷ [], tt))))))))), tt)
+  to-decide ns v = ((κs′, qs′, tt, args ns, (hv ∷ [], (slice-vals c, (slice-vals s, (slice-vals l, (v ∷ [], (vint w64 (length (x .now)) ∷ [], (vint w64 p ∷ [], tt)))))))), tt)
 
   -- what the callees say, as the contract has it
   done-as :
       (ns : List ℕ) (d : Decided) (ss hs : List ℕ) (zs : List Message) → took (length (x .now)) ns ≡ flight (x .now)
-      → Decides h (c .now) (t .now) (s .now) (l .now) (took (length (x .now)) ns) (length (x .now)) p d ss hs → zs ≡ movedUp (d .from) (d .past) (x .now)
-      → Delivers h (c .now) (t .now) (s .now) (l .now) (flight (x .now)) p (d .delivered) ss hs (flight zs)
+      → Decides h (c .now) (s .now) (l .now) (took (length (x .now)) ns) (length (x .now)) p d ss hs → zs ≡ movedUp (d .from) (d .past) (x .now)
+      → Delivers h (c .now) (s .now) (l .now) (flight (x .now)) p (d .delivered) ss hs (flight zs)
   done-as ns d ss hs zs e (g, (order, (low, few))) m =
       ap (λ (y : List ℕ). delivered (reactionSays (d .delivered .reply)) (d .delivered .bench) ss hs y) (ap flight m ∙ moved-flight (x .now) (d .from) (d .past) order few)
-      ∙ subst (λ (y : List ℕ). Delivers h (c .now) (t .now) (s .now) (l .now) y p (d .delivered) ss hs (shifted (d .from) (d .past) y)) e g
+      ∙ subst (λ (y : List ℕ). Delivers h (c .now) (s .now) (l .now) y p (d .delivered) ss hs (shifted (d .from) (d .past) y)) e g
 
   exits :
       (d : Decided) (ss hs : List ℕ) (zs : List Message) → Is R.the-row (d .delivered) (R′.lowered (d .delivered) ∷ [])
-      → Delivers h (c .now) (t .now) (s .now) (l .now) (flight (x .now)) p (d .delivered) ss hs (flight zs) → rest 64 zs ≡ rest 64 (x .now)
-      → limits.SameLengths 𝓤 H A κs′ qs′ c t s l ss hs → length zs ≡ length (x .now)
+      → Delivers h (c .now) (s .now) (l .now) (flight (x .now)) p (d .delivered) ss hs (flight zs) → rest 64 zs ≡ rest 64 (x .now)
+      → limits.SameLengths 𝓤 H A κs′ qs′ c s l ss hs → length zs ≡ length (x .now)
       → ent 𝓤 (⋆ 𝓤 H A (‵ (finally T.the-row (x .name) zs) ∷ ‵ (flft κ q) ∷ Toks ∷ Said ss hs ∷ Kept ∷ [])) (Post (R′.lowered (d .delivered)))
   exits d ss hs zs is e same n k =
       qed W (‵ (finally T.the-row (x .name) zs) ∷ ‵ (flft κ q) ∷ Toks ∷ Said ss hs ∷ Kept ∷ []) ∵
-      suffices ! _ (ends-at 𝓤 H A deliver.ended stayed (deliver.clauses 𝓤 H A mem run) W ((κs, qs, tt, a, vals), tt) (R′.lowered (d .delivered)) (d .delivered) (tt, (tt, (tt, (ss, (hs, (zs, (tt, tt))))))) (tt, (tt, (tt, (n .0, (n .1, (k, (tt, tt)))))))) $ says-both ! e same $
-      move ! (1 ∷ 2 ∷ []) $ use2 W AllToks (limits.all-tokens 𝓤 H A κs′ qs′ c t s l W κ q) $ frame ! $ move ! (1 ∷ 2 ∷ 0 ∷ []) $
+      suffices ! _ (ends-at 𝓤 H A deliver.ended stayed (deliver.clauses 𝓤 H A mem run) W ((κs, qs, tt, a, vals), tt) (R′.lowered (d .delivered)) (d .delivered) (tt, (tt, (ss, (hs, (zs, (tt, tt)))))) (tt, (tt, (n .0, (n .1, (k, (tt, tt))))))) $ says-both ! e same $
+      move ! (1 ∷ 2 ∷ []) $ use2 W AllToks (limits.all-tokens 𝓤 H A κs′ qs′ c s l W κ q) $ frame ! $ move ! (1 ∷ 2 ∷ 0 ∷ []) $
       use3 W (‵ (All (finally u32 (s .name) ss) (finally u32 (l .name) hs) (finally T.the-row (x .name) zs)))
-      (limits.leaves 𝓤 H A κs′ qs′ c t s l W h hv h-is p p-fits ss hs (finally T.the-row (x .name) zs)) $
+      (limits.leaves 𝓤 H A κs′ qs′ c s l W h hv h-is p p-fits ss hs (finally T.the-row (x .name) zs)) $
       owned ! R.the-row (Is R.the-row) (LL.makes R.the-type R′.the-plain 𝓤 H A) (d .delivered) _ is $ move ! (1 ∷ 0 ∷ []) $ done !
 
   module _ (C : Calls 𝓤 H) (Λ : Loops 𝓤 H) (fm : FmC 𝓤 H (W .laws) C) (known-numbers : Triple 𝓤 (C #numbers-in) (NumbersIn 𝓤 H A mem run)) (known-decide : Triple 𝓤 (C #decide-deliver) (DecideDeliver 𝓤 H A mem run))
       (known-remove : Triple 𝓤 (C #remove-at) (RemoveAt 𝓤 H A mem run)) where
     walk : ent 𝓤 (onEntry 𝓤 H A deliver.signature κs qs a vals) (WpFn 𝓤 H C Λ code.function passed Post)
     walk =
-        qed W (AllToks ∷ ‵ (All (Writes (κs .1 .1 .0) s) (Writes (κs .1 .1 .1 .0) l) Messages) ∷ []) ∵ enter ! C Λ code.function passed _ $
-        alloc1 ! (λ l₀. alloc1 ! (λ l₁. alloc1 ! (λ l₂. alloc1 ! (λ l₃. alloc1 ! (λ l₄. alloc1 ! (λ l₅. alloc1 ! (λ l₆. alloc1 ! (λ l₇. alloc1 ! (λ l₈. alloc1 ! (λ l₉. alloc1 ! (λ l₁₀. alloc1 ! (λ l₁₁. alloc1 ! (λ l₁₂. alloc1 ! (λ l₁₃. alloc1 ! (λ l₁₄. alloc1 ! (λ l₁₅. alloc1 ! (λ l₁₆. alloc1 ! (λ l₁₇. alloc1 ! (λ l₁₈. alloc1 ! (λ l₁₉. alloc0 ! $ params1 ! $
-        pass1 ! (init ! 36 refl (LL.lawful B.the-type B′.the-laws 𝓤 H A W .typed h _ h-is .0)) $ pass1 ! (init ! 34 refl (tt, (tt, (record { fits = c-room .0 }, tt)))) $ pass1 ! (init ! 32 refl (tt, (tt, (record { fits = t-room .0 }, tt)))) $
+        qed W (AllToks ∷ ‵ (All (Writes (κs .1 .0) s) (Writes (κs .1 .1 .0) l) Messages) ∷ []) ∵ enter ! C Λ code.function passed _ $
+        alloc1 ! (λ l₀. alloc1 ! (λ l₁. alloc1 ! (λ l₂. alloc1 ! (λ l₃. alloc1 ! (λ l₄. alloc1 ! (λ l₅. alloc1 ! (λ l₆. alloc1 ! (λ l₇. alloc1 ! (λ l₈. alloc1 ! (λ l₉. alloc1 ! (λ l₁₀. alloc1 ! (λ l₁₁. alloc1 ! (λ l₁₂. alloc1 ! (λ l₁₃. alloc1 ! (λ l₁₄. alloc1 ! (λ l₁₅. alloc1 ! (λ l₁₆. alloc1 ! (λ l₁₇. alloc1 ! (λ l₁₈. alloc0 ! $ params1 ! $
+        pass1 ! (init ! 34 refl (LL.lawful B.the-type B′.the-laws 𝓤 H A W .typed h _ h-is .0)) $ pass1 ! (init ! 32 refl (tt, (tt, (record { fits = c-room .0 }, tt)))) $
         pass1 ! (init ! 30 refl (tt, (tt, (record { fits = s-room .0 }, tt)))) $ pass1 ! (init ! 28 refl (tt, (tt, (record { fits = l-room .0 }, tt)))) $ pass1 ! (init ! 26 refl (tt, (tt, (record { fits = x-room .0 }, tt)))) $
         pass1 ! (init ! 24 refl (tt, record { fits = p-fits })) $ pass0 ! $
-        -- [_19; …; _18; …; and so on to _0; …; the tokens; what the parameters own]
-        move ! (40 ∷ []) $ use1 W (‵ (flft κ q) ⊛ Toks) (limits.tokens 𝓤 H A κs′ qs′ c t s l W κ q) $ split ! $ move ! (1 ∷ 42 ∷ []) $
-        use2 W (Handed ⊛ ‵ Messages) (limits.enters 𝓤 H A κs′ qs′ c t s l W h hv h-is p p-fits Messages) $ split ! $ move ! (1 ∷ 2 ∷ []) $
-        -- [what the messages own; their token; Handed; _19; …]
+        -- [_18; …; _17; …; and so on to _0; …; the tokens; what the parameters own]
+        move ! (38 ∷ []) $ use1 W (‵ (flft κ q) ⊛ Toks) (limits.tokens 𝓤 H A κs′ qs′ c s l W κ q) $ split ! $ move ! (1 ∷ 40 ∷ []) $
+        use2 W (Handed ⊛ ‵ Messages) (limits.enters 𝓤 H A κs′ qs′ c s l W h hv h-is p p-fits Messages) $ split ! $ move ! (1 ∷ 2 ∷ []) $
+        -- [what the messages own; their token; Handed; _18; …]
         assigns ! (addr ! (from ! (fld ! refl (hop ! (look-in ! 29 (sub ! 0 refl (whole !))) (stop !))))) (from ! (stop !)) (init ! 21 refl (tt, tt)) $
         assigns ! (agg ! (and-then ! (load ! (from ! (stop !)) (look ! 21 refl)) (and-then ! (load ! (from ! (fld ! refl (stop !))) (look-in ! 29 (sub ! 1 refl (whole !)))) (no-more !)))) (from ! (stop !)) (init ! 19 refl (tt, (tt, (record { fits = x-room .0 }, tt)))) $
         -- `numbers_in`
@@ -222,18 +216,18 @@ module _ {M : Type 1} (𝓤 : URA M) (H : Heap 𝓤) (A : Atoms 𝓤) (W : Given
         assigns ! (agg ! (and-then ! (load ! (from ! (stop !)) (look ! 13 refl)) (and-then ! (load ! (from ! (fld ! refl (stop !))) (look-in ! 31 (sub ! 1 refl (whole !)))) (no-more !)))) (from ! (stop !)) (init ! 11 refl (tt, (tt, (record { fits = l-room .0 }, tt)))) $
         assigns ! (of-opd ! (load ! (from ! (fld ! refl (stop !))) (look-in ! 29 (sub ! 1 refl (whole !))))) (from ! (stop !)) (init ! 9 refl (tt, record { fits = x-room .0 })) $
         -- `decide_deliver`
-        move ! (2 ∷ []) $ use1 W (raw (DecideDeliver 𝓤 H A mem run .pre (to-decide ns v)) ⊛ Kept) (limits.hands-numbers 𝓤 H A κs′ qs′ c t s l W h hv h-is p p-fits ns v (g .1) (length (x .now)) (x-room .0)) $ split ! $
+        move ! (2 ∷ []) $ use1 W (raw (DecideDeliver 𝓤 H A mem run .pre (to-decide ns v)) ⊛ Kept) (limits.hands-numbers 𝓤 H A κs′ qs′ c s l W h hv h-is p p-fits ns v (g .1) (length (x .now)) (x-room .0)) $ split ! $
         calls-at ! fm (DecideDeliver 𝓤 H A mem run) known-decide (to-decide ns v)
-        (and-then ! (load ! (from ! (stop !)) (look ! 40 refl)) (and-then ! (load ! (from ! (stop !)) (look ! 38 refl)) (and-then ! (load ! (from ! (stop !)) (look ! 36 refl)) (and-then ! (load ! (from ! (stop !)) (look ! 16 refl)) (and-then ! (load ! (from ! (stop !)) (look ! 12 refl)) (and-then ! (load ! (from ! (stop !)) (look ! 26 refl)) (and-then ! (load ! (from ! (stop !)) (look ! 10 refl)) (and-then ! (load ! (from ! (stop !)) (look ! 28 refl)) (no-more !))))))))) (λ w.
+        (and-then ! (load ! (from ! (stop !)) (look ! 38 refl)) (and-then ! (load ! (from ! (stop !)) (look ! 36 refl)) (and-then ! (load ! (from ! (stop !)) (look ! 16 refl)) (and-then ! (load ! (from ! (stop !)) (look ! 12 refl)) (and-then ! (load ! (from ! (stop !)) (look ! 26 refl)) (and-then ! (load ! (from ! (stop !)) (look ! 10 refl)) (and-then ! (load ! (from ! (stop !)) (look ! 28 refl)) (no-more !)))))))) (λ w.
         use1 W (later (some (λ (d : Decided). (Toks ⊛ ‵ (D.the-row .own d (w ∷ []))) ⊛ raw (ensured 𝓤 H A decide-deliver.ended (decide-deliver.clauses 𝓤 H A mem run) κs′ (args ns) tt d)))) (id⊢ 𝓤 _) $ await ! tt $ pick ! (λ d.
-        split ! $ move ! (1 ∷ []) $ use1 W (some (λ (ws : Lasting). ‵ (lasts decide-deliver.ended κs′ (args ns) ws) ⊛ raw (fact 𝓤 (Decides h (c .now) (t .now) (s .now) (l .now) (took (length (x .now)) ns) (length (x .now)) p d (ws .1 .1 .1 .0) (ws .1 .1 .1 .1 .0))))) (id⊢ 𝓤 _) $ pick ! (λ ws.
-        split ! $ move ! (1 ∷ []) $ heard ! (Decides h (c .now) (t .now) (s .now) (l .now) (took (length (x .now)) ns) (length (x .now)) p d (ws .1 .1 .1 .0) (ws .1 .1 .1 .1 .0)) (λ e.
-        use1 W (given (limits.SameLengths 𝓤 H A κs′ qs′ c t s l (ws .1 .1 .1 .0) (ws .1 .1 .1 .1 .0)) (Said (ws .1 .1 .1 .0) (ws .1 .1 .1 .1 .0) ⊛ ‵ limits.nones))
-        (limits.told 𝓤 H A κs′ qs′ c t s l W (ws .1 .1 .1 .0) (ws .1 .1 .1 .1 .0) limits.nones) $ learn ! (λ n. split ! $ move ! (1 ∷ []) $ drop ! $
+        split ! $ move ! (1 ∷ []) $ use1 W (some (λ (ws : Lasting). ‵ (lasts decide-deliver.ended κs′ (args ns) ws) ⊛ raw (fact 𝓤 (Decides h (c .now) (s .now) (l .now) (took (length (x .now)) ns) (length (x .now)) p d (ws .1 .1 .0) (ws .1 .1 .1 .0))))) (id⊢ 𝓤 _) $ pick ! (λ ws.
+        split ! $ move ! (1 ∷ []) $ heard ! (Decides h (c .now) (s .now) (l .now) (took (length (x .now)) ns) (length (x .now)) p d (ws .1 .1 .0) (ws .1 .1 .1 .0)) (λ e.
+        use1 W (given (limits.SameLengths 𝓤 H A κs′ qs′ c s l (ws .1 .1 .0) (ws .1 .1 .1 .0)) (Said (ws .1 .1 .0) (ws .1 .1 .1 .0) ⊛ ‵ limits.nones))
+        (limits.told 𝓤 H A κs′ qs′ c s l W (ws .1 .1 .0) (ws .1 .1 .1 .0) limits.nones) $ learn ! (λ n. split ! $ move ! (1 ∷ []) $ drop ! $
         move ! (1 ∷ []) $ split ! $ move ! (1 ∷ []) $ facts ! D.the-row (Is D.the-row) (shows 𝓤 H A D.the-row) d (w ∷ []) (λ is.
-        -- [Toks; Said; Kept; what the messages own; their token; _19; …]
+        -- [Toks; Said; Kept; what the messages own; their token; _18; …]
         land ! (from ! (stop !)) (init ! 25 refl (LL.lawful D.the-type D′.the-laws 𝓤 H A W .typed d _ is .0)) $
-        rewrite ! 25 (λ (u : Val). ‵ (fat fullShare D′.mir l₉ 0 u)) (ap only (D′.lowers .val-is d _ is)) refl $ move ! (3 ∷ 4 ∷ []) $
+        rewrite ! 25 (λ (u : Val). ‵ (fat fullShare D′.mir l₈ 0 u)) (ap only (D′.lowers .val-is d _ is)) refl $ move ! (3 ∷ 4 ∷ []) $
         assigns ! (addr ! (from ! (fld ! refl (hop ! (look-in ! 31 (sub ! 0 refl (whole !))) (stop !))))) (from ! (stop !)) (init ! 7 refl (tt, tt)) $
         assigns ! (agg ! (and-then ! (load ! (from ! (stop !)) (look ! 7 refl)) (and-then ! (load ! (from ! (fld ! refl (stop !))) (look-in ! 31 (sub ! 1 refl (whole !)))) (no-more !)))) (from ! (stop !)) (init ! 5 refl (tt, (tt, (record { fits = x-room .0 }, tt)))) $
         -- `remove_at`
@@ -243,29 +237,29 @@ module _ {M : Type 1} (𝓤 : URA M) (H : Heap 𝓤) (A : Atoms 𝓤) (W : Given
         (and-then ! (load ! (from ! (stop !)) (look ! 4 refl)) (and-then ! (load ! (from ! (fld ! refl (stop !))) (look-in ! 24 (sub ! 1 refl (whole !)))) (and-then ! (load ! (from ! (fld ! refl (stop !))) (look-in ! 24 (sub ! 2 refl (whole !)))) (no-more !)))) (λ u.
         use1 W (later (some (λ (zs : List Message). given (Removed (d .from) (d .past) (x .now) zs u) (‵ (finally T.the-row (x .name) zs) ⊛ ‵ (flft κ q)))))
         (removal.gets 𝓤 H A mem run W (named 0) κ q (x .ptr .0) (x .ptr .1) (x .name) (x .now) (d .from) (d .past) u) $ await ! tt $ pick ! (λ zs. learn ! (λ r. split ! $
-        -- [the messages' last list; their token; Toks; Said; Kept; _19; …]
+        -- [the messages' last list; their token; Toks; Said; Kept; _18; …]
         land ! (from ! (stop !)) (init ! 9 refl (subst (λ (y : Val). Holds (hasTy tyUnit y) × WT y) (sym (r .0)) (tt, tt))) $
-        assigns ! (of-opd ! (load ! (from ! (fld ! refl (stop !))) (look-in ! 25 (sub ! 0 refl (whole !))))) (from ! (stop !)) (init ! 43 refl (LL.lawful R.the-type R′.the-laws 𝓤 H A W .typed (d .delivered) _ (answer-is d w is) .0)) $
-        returns ! (look ! 43 refl) $ forget ! 5 refl $ forget ! 7 refl $ forget ! 9 refl $ forget ! 11 refl $ forget ! 13 refl $ forget ! 15 refl $ forget ! 17 refl $ forget ! 19 refl $ forget ! 21 refl $ forget ! 23 refl $ forget ! 25 refl $ forget ! 27 refl $ forget ! 29 refl $ forget ! 31 refl $ forget ! 33 refl $ forget ! 35 refl $ forget ! 37 refl $ forget ! 39 refl $ forget ! 41 refl $ forget ! 43 refl $
-        move ! (43 ∷ 44 ∷ []) $ free1 ! $ move ! (41 ∷ 42 ∷ []) $ free1 ! $ move ! (39 ∷ 40 ∷ []) $ free1 ! $ move ! (37 ∷ 38 ∷ []) $ free1 ! $ move ! (35 ∷ 36 ∷ []) $ free1 ! $ move ! (33 ∷ 34 ∷ []) $ free1 ! $ move ! (31 ∷ 32 ∷ []) $ free1 ! $ move ! (29 ∷ 30 ∷ []) $ free1 ! $ move ! (27 ∷ 28 ∷ []) $ free1 ! $ move ! (25 ∷ 26 ∷ []) $ free1 ! $ move ! (23 ∷ 24 ∷ []) $ free1 ! $ move ! (21 ∷ 22 ∷ []) $ free1 ! $ move ! (19 ∷ 20 ∷ []) $ free1 ! $ move ! (17 ∷ 18 ∷ []) $ free1 ! $ move ! (15 ∷ 16 ∷ []) $ free1 ! $ move ! (13 ∷ 14 ∷ []) $ free1 ! $ move ! (11 ∷ 12 ∷ []) $ free1 ! $ move ! (9 ∷ 10 ∷ []) $ free1 ! $ move ! (7 ∷ 8 ∷ []) $ free1 ! $ move ! (5 ∷ 6 ∷ []) $ free1 ! $ free0 ! $
-        by ! (exits d (ws .1 .1 .1 .0) (ws .1 .1 .1 .1 .0) zs (answer-is d w is) (done-as ns d (ws .1 .1 .1 .0) (ws .1 .1 .1 .1 .0) zs (g .0) e (r .1 .0)) (ap (rest 64) (r .1 .0) ∙ moved-rest (x .now) (d .from) (d .past) (e .1 .0) (e .1 .1 .1)) n (r .1 .1))))))))))))))))))))))))))))))))))))
+        assigns ! (of-opd ! (load ! (from ! (fld ! refl (stop !))) (look-in ! 25 (sub ! 0 refl (whole !))))) (from ! (stop !)) (init ! 41 refl (LL.lawful R.the-type R′.the-laws 𝓤 H A W .typed (d .delivered) _ (answer-is d w is) .0)) $
+        returns ! (look ! 41 refl) $ forget ! 5 refl $ forget ! 7 refl $ forget ! 9 refl $ forget ! 11 refl $ forget ! 13 refl $ forget ! 15 refl $ forget ! 17 refl $ forget ! 19 refl $ forget ! 21 refl $ forget ! 23 refl $ forget ! 25 refl $ forget ! 27 refl $ forget ! 29 refl $ forget ! 31 refl $ forget ! 33 refl $ forget ! 35 refl $ forget ! 37 refl $ forget ! 39 refl $ forget ! 41 refl $
+        move ! (41 ∷ 42 ∷ []) $ free1 ! $ move ! (39 ∷ 40 ∷ []) $ free1 ! $ move ! (37 ∷ 38 ∷ []) $ free1 ! $ move ! (35 ∷ 36 ∷ []) $ free1 ! $ move ! (33 ∷ 34 ∷ []) $ free1 ! $ move ! (31 ∷ 32 ∷ []) $ free1 ! $ move ! (29 ∷ 30 ∷ []) $ free1 ! $ move ! (27 ∷ 28 ∷ []) $ free1 ! $ move ! (25 ∷ 26 ∷ []) $ free1 ! $ move ! (23 ∷ 24 ∷ []) $ free1 ! $ move ! (21 ∷ 22 ∷ []) $ free1 ! $ move ! (19 ∷ 20 ∷ []) $ free1 ! $ move ! (17 ∷ 18 ∷ []) $ free1 ! $ move ! (15 ∷ 16 ∷ []) $ free1 ! $ move ! (13 ∷ 14 ∷ []) $ free1 ! $ move ! (11 ∷ 12 ∷ []) $ free1 ! $ move ! (9 ∷ 10 ∷ []) $ free1 ! $ move ! (7 ∷ 8 ∷ []) $ free1 ! $ move ! (5 ∷ 6 ∷ []) $ free1 ! $ free0 ! $
+        by ! (exits d (ws .1 .1 .0) (ws .1 .1 .1 .0) zs (answer-is d w is) (done-as ns d (ws .1 .1 .0) (ws .1 .1 .1 .0) zs (g .0) e (r .1 .0)) (ap (rest 64) (r .1 .0) ∙ moved-rest (x .now) (d .from) (d .past) (e .1 .0) (e .1 .1 .1)) n (r .1 .1)))))))))))))))))))))))))))))))))))
 
 module _ {M : Type 1} (𝓤 : URA M) (H : Heap 𝓤) (A : Atoms 𝓤) (W : Given 𝓤 H A) (mem : Memory → SProp 𝓤) (run : Routine → Fun 𝓤) where
   deliver-walks : (C : Calls 𝓤 H) (Λ : Loops 𝓤 H) → FmC 𝓤 H (W .laws) C → Triple 𝓤 (C #numbers-in) (NumbersIn 𝓤 H A mem run) → Triple 𝓤 (C #decide-deliver) (DecideDeliver 𝓤 H A mem run) → Triple 𝓤 (C #remove-at) (RemoveAt 𝓤 H A mem run)
       → Walks 𝓤 H A deliver.ended stayed (WpFn 𝓤 H C Λ code.function) (deliver.clauses 𝓤 H A mem run)
   deliver-walks C Λ fm known-numbers known-decide known-remove = walked 𝓤 H A deliver.ended stayed (deliver.clauses 𝓤 H A mem run) (WpFn 𝓤 H C Λ code.function)
-      (λ κs. (LL.vals B.the-type B′.the-laws, (slice-vals, (slice-vals, (slice-vals, (slice-vals, (slice-vals, (uint-vals w64, tt))))))))
-      (λ κs. (LL.tells B.the-type B′.the-laws, (shr-slice-tells (named 0) (κs .0) u32, (shr-slice-tells (named 1) (κs .1 .0) u32, (mut-slice-tells (named 2) (κs .1 .1 .0) u32, (mut-slice-tells (named 3) (κs .1 .1 .1 .0) u32, (mut-slice-tells (named 4) (κs .1 .1 .1 .1 .0) T.the-row, (uint-tells w64, tt))))))))
+      (λ κs. (LL.vals B.the-type B′.the-laws, (slice-vals, (slice-vals, (slice-vals, (slice-vals, (uint-vals w64, tt)))))))
+      (λ κs. (LL.tells B.the-type B′.the-laws, (shr-slice-tells (named 0) (κs .0) u32, (mut-slice-tells (named 1) (κs .1 .0) u32, (mut-slice-tells (named 2) (κs .1 .1 .0) u32, (mut-slice-tells (named 3) (κs .1 .1 .1 .0) T.the-row, (uint-tells w64, tt)))))))
       (λ κs qs bounds a g are. via 𝓤 _ (fst∗ 𝓤 _ (emp 𝓤))
-      (walk 𝓤 H A W mem run κs qs (a .0) (LL.val B.the-type B′.the-laws (a .0)) (are .0) (a .1 .0) (a .1 .1 .0) (a .1 .1 .1 .0) (a .1 .1 .1 .1 .0) (a .1 .1 .1 .1 .1 .0) (a .1 .1 .1 .1 .1 .1 .0) (are .1 .1 .1 .1 .1 .1 .0 .1)
-      (are .1 .1 .1 .0 .0 .1) (are .1 .1 .1 .1 .0 .0 .1) (are .1 .0 .0 .1) (are .1 .1 .0 .0 .1) (are .1 .1 .1 .1 .1 .0 .0 .1) C Λ fm known-numbers known-decide known-remove))
+      (walk 𝓤 H A W mem run κs qs (a .0) (LL.val B.the-type B′.the-laws (a .0)) (are .0) (a .1 .0) (a .1 .1 .0) (a .1 .1 .1 .0) (a .1 .1 .1 .1 .0) (a .1 .1 .1 .1 .1 .0) (are .1 .1 .1 .1 .1 .0 .1)
+      (are .1 .1 .0 .0 .1) (are .1 .1 .1 .0 .0 .1) (are .1 .0 .0 .1) (are .1 .1 .1 .1 .0 .0 .1) C Λ fm known-numbers known-decide known-remove))
 
 deliver-meets : {M : Type 1} (𝓤 : URA M) (H : Heap 𝓤) (A : Atoms 𝓤) → Given 𝓤 H A → (mem : Memory → SProp 𝓤) (run : Routine → Fun 𝓤) (𝓣 : Tables 𝓤 H)
     → Triple 𝓤 (𝓣 .C #numbers-in) (NumbersIn 𝓤 H A mem run) → Triple 𝓤 (𝓣 .C #decide-deliver) (DecideDeliver 𝓤 H A mem run) → Triple 𝓤 (𝓣 .C #remove-at) (RemoveAt 𝓤 H A mem run)
     → Meets 𝓤 H A deliver.signature (WpFn 𝓤 H (𝓣 .C) (𝓣 .Λ) code.function) (deliver.spec 𝓤 H A mem run)
 deliver-meets 𝓤 H A W mem run 𝓣 known-numbers known-decide known-remove =
     walk-meets 𝓤 H A deliver.ended stayed W
-    (goes-none 𝓤 H A W 5 (λ _. B.the-row) yes (λ κs x f. refl), (goes-none-slice 𝓤 H A W 5 (0 ∷ []) tt (plain (λ _. u32)) yes, (goes-none-slice 𝓤 H A W 5 (1 ∷ []) tt (plain (λ _. u32)) yes, (goes-gave-slice 𝓤 H A W 5 2 tt (plain (λ _. u32)), (goes-gave-slice 𝓤 H A W 5 3 tt (plain (λ _. u32)), (goes-gave-slice 𝓤 H A W 5 4 tt (plain (λ _. T.the-row)), (goes-none 𝓤 H A W 5 (λ _. usize) yes (λ κs x f. refl), tt))))))) (deliver.clauses 𝓤 H A mem run)
+    (goes-none 𝓤 H A W 4 (λ _. B.the-row) yes (λ κs x f. refl), (goes-none-slice 𝓤 H A W 4 (0 ∷ []) tt (plain (λ _. u32)) yes, (goes-gave-slice 𝓤 H A W 4 1 tt (plain (λ _. u32)), (goes-gave-slice 𝓤 H A W 4 2 tt (plain (λ _. u32)), (goes-gave-slice 𝓤 H A W 4 3 tt (plain (λ _. T.the-row)), (goes-none 𝓤 H A W 4 (λ _. usize) yes (λ κs x f. refl), tt)))))) (deliver.clauses 𝓤 H A mem run)
     (WpFn 𝓤 H (𝓣 .C) (𝓣 .Λ) code.function) (WpFn-mono 𝓤 H (W .laws) 𝓣 code.function) (deliver-walks 𝓤 H A W mem run (𝓣 .C) (𝓣 .Λ) (fmOf 𝓤 H (W .laws) 𝓣) known-numbers known-decide known-remove)
 
 pub deliver-spec : {M : Type 1} → stated.statement M

@@ -20,7 +20,7 @@ array-borrow-prefix-left : tie.Need-array-borrow-prefix-left
 array-borrow-prefix-left c = search needs
 
 slice-aggregate-deliver : tie.Need-slice-aggregate-deliver
-slice-aggregate-deliver c = lent-length _ _ _ (c .before .room .ensures) (listed (c .before .before .before .before .before .before .before .before))
+slice-aggregate-deliver c = lent-length _ _ _ (c .before .room .ensures) (listed (c .before .before .before .before .before .before .before))
 
 deliver-requires : tie.Need-deliver-requires
 deliver-requires c κs = search needs
@@ -32,7 +32,7 @@ same-length-2 : tie.Need-same-length-2
 same-length-2 c = search needs
 
 returns : tie.Need-returns
-returns c = deliver-decided _ _ _ (c .before .before .before .before .before .before .before .before .room .ensures) _ _ _ _ _ _ _ _ _ _ _ (c .before .before .before .before .before .before .deliver .ensures) (c .if1 .taken)
+returns c = deliver-decided _ _ _ (c .before .before .before .before .before .before .before .before .room .ensures) _ _ _ _ _ _ _ _ _ _ (c .before .before .before .before .before .before .deliver .ensures) (c .if1 .taken)
 
 same-length-3 : tie.Need-same-length-3
 same-length-3 c = search needs
@@ -41,7 +41,7 @@ same-length-4 : tie.Need-same-length-4
 same-length-4 c = search needs
 
 returns-2 : tie.Need-returns-2
-returns-2 c = deliver-refused _ _ _ (c .before .before .before .before .before .before .before .before .room .ensures) _ _ _ _ _ _ _ _ _ _ _ (c .before .before .before .before .before .before .deliver .ensures) (c .if1 .left)
+returns-2 c = deliver-refused _ _ _ (c .before .before .before .before .before .before .before .before .room .ensures) _ _ _ _ _ _ _ _ _ _ (c .before .before .before .before .before .before .deliver .ensures) (c .if1 .left)
 
 pub decide-deliver-spec : {M : Type 1} → statement M
 decide-deliver-spec =

@@ -20,7 +20,7 @@ array-share-prefix-all : tie.Need-array-share-prefix-all
 array-share-prefix-all c = search needs
 
 slice-aggregate-repeat : tie.Need-slice-aggregate-repeat
-slice-aggregate-repeat c = lent-length _ _ _ (c .before .room .ensures) (listed (c .before .before .before .before .before .before .before .before))
+slice-aggregate-repeat c = lent-length _ _ _ (c .before .room .ensures) (listed (c .before .before .before .before .before .before .before))
 
 repeat-requires : tie.Need-repeat-requires
 repeat-requires c κs = search needs
@@ -32,7 +32,7 @@ same-length-2 : tie.Need-same-length-2
 same-length-2 c = search needs
 
 returns : tie.Need-returns
-returns c = repeat-decided _ _ _ (c .before .before .before .before .before .before .room .ensures) _ _ _ _ _ _ _ _ _ _ (c .before .before .before .before .repeat .ensures)
+returns c = repeat-decided _ _ _ (c .before .before .before .before .before .before .room .ensures) _ _ _ _ _ _ _ _ _ (c .before .before .before .before .repeat .ensures)
 
 pub decide-repeat-spec : {M : Type 1} → statement M
 decide-repeat-spec =

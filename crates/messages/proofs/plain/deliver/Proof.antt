@@ -83,20 +83,17 @@ stayed = (
   stay-none (λ _. B.the-row) yes,
   (
     stay-none-slice (0 ∷ []) tt (plain (λ _. u32)) yes,
-    (
-      stay-none-slice (1 ∷ []) tt (plain (λ _. u32)) yes,
-      (gave-slice (2 ∷ []) tt (plain (λ _. u32)), (gave-slice (3 ∷ []) tt (plain (λ _. u32)), (stay-none (λ _. Numbers) yes, (stay-none (λ _. usize) yes, tt)))),
-    ),
+    (gave-slice (1 ∷ []) tt (plain (λ _. u32)), (gave-slice (2 ∷ []) tt (plain (λ _. u32)), (stay-none (λ _. Numbers) yes, (stay-none (λ _. usize) yes, tt)))),
   ),
 )
 
 -- what is said of the answer r, of the limit tables' last lists and of the messages' numbers, m before and z after
-abbrev Delivers : Bench → List ℕ → List ℕ → List ℕ → List ℕ → List ℕ → ℕ → Delivered → List ℕ → List ℕ → List ℕ → Type 0
-Delivers h costs tables sent held m p r ss es z = delivered (reactionSays (r .reply)) (r .bench) ss es z ≡ deliverOf (state h costs tables sent held m) p
+abbrev Delivers : Bench → List ℕ → List ℕ → List ℕ → List ℕ → ℕ → Delivered → List ℕ → List ℕ → List ℕ → Type 0
+Delivers h costs sent held m p r ss es z = delivered (reactionSays (r .reply)) (r .bench) ss es z ≡ deliverOf (state h costs sent held m) p
 
 -- the last values of `calls::deliver`'s parameters: those of the limit tables and of the messages are lists
 abbrev Lasting : Type 0
-Lasting = Unit {0} × (Unit {0} × (Unit {0} × (List ℕ × (List ℕ × (List Message × (Unit {0} × Unit {0}))))))
+Lasting = Unit {0} × (Unit {0} × (List ℕ × (List ℕ × (List Message × (Unit {0} × Unit {0})))))
 
 -- an answer, with the limit tables' last lists
 abbrev Answer : Type 0
@@ -107,49 +104,49 @@ abbrev Deliver : {M : Type 1} (𝓤 : URA M) (H : Heap 𝓤) (A : Atoms 𝓤) (m
 Deliver 𝓤 H A mem run = tripleOf 𝓤 H A called.signature (called.spec 𝓤 H A mem run)
 
 module _ {M : Type 1} (𝓤 : URA M) (H : Heap 𝓤) (A : Atoms 𝓤) (W : Given 𝓤 H A) (mem : Memory → SProp 𝓤) (run : Routine → Fun 𝓤)
-    (κs : Lfts 4) (qs : Shares 4) (h : Bench) (hv : Val) (h-is : Is B.the-row h (hv ∷ [])) (c t s e : RefT (List ℕ)) (ns : List ℕ) (nv : Val) (n-is : Is Numbers ns (nv ∷ [])) (p : ℕ) (p-fits : p < 2 ^ 64)
-    (c-room : Room u32 (length (c .now))) (t-room : Room u32 (length (t .now))) (s-room : Room u32 (length (s .now))) (e-room : Room u32 (length (e .now))) where
+    (κs : Lfts 3) (qs : Shares 3) (h : Bench) (hv : Val) (h-is : Is B.the-row h (hv ∷ [])) (c s e : RefT (List ℕ)) (ns : List ℕ) (nv : Val) (n-is : Is Numbers ns (nv ∷ [])) (p : ℕ) (p-fits : p < 2 ^ 64)
+    (c-room : Room u32 (length (c .now))) (s-room : Room u32 (length (s .now))) (e-room : Room u32 (length (e .now))) where
   abbrev Toks : Item 𝓤
-  Toks = limits.Toks 𝓤 H A κs qs c t s e
+  Toks = limits.Toks 𝓤 H A κs qs c s e
 
   abbrev Kept : Item 𝓤
-  Kept = limits.Kept 𝓤 H A κs qs c t s e
+  Kept = limits.Kept 𝓤 H A κs qs c s e
 
   abbrev Said : List ℕ → List ℕ → Item 𝓤
-  Said = limits.Said 𝓤 H A κs qs c t s e
+  Said = limits.Said 𝓤 H A κs qs c s e
 
-  abbrev a : Bench × (RefT (List ℕ) × (RefT (List ℕ) × (RefT (List ℕ) × (RefT (List ℕ) × (List ℕ × (ℕ × Unit {0}))))))
-  a = (h, (c, (t, (s, (e, (ns, (p, tt)))))))
+  abbrev a : Bench × (RefT (List ℕ) × (RefT (List ℕ) × (RefT (List ℕ) × (List ℕ × (ℕ × Unit {0})))))
+  a = (h, (c, (s, (e, (ns, (p, tt))))))
 
-  abbrev vals : List Val × (List Val × (List Val × (List Val × (List Val × (List Val × (List Val × Unit {0}))))))
-  vals = (hv ∷ [], (slice-vals c, (slice-vals t, (slice-vals s, (slice-vals e, (nv ∷ [], (vint w64 p ∷ [], tt)))))))
+  abbrev vals : List Val × (List Val × (List Val × (List Val × (List Val × (List Val × Unit {0})))))
+  vals = (hv ∷ [], (slice-vals c, (slice-vals s, (slice-vals e, (nv ∷ [], (vint w64 p ∷ [], tt))))))
 
   abbrev passed : List Val
-  passed = hv ∷ only (slice-vals c) ∷ only (slice-vals t) ∷ only (slice-vals s) ∷ only (slice-vals e) ∷ nv ∷ vint w64 p ∷ []
+  passed = hv ∷ only (slice-vals c) ∷ only (slice-vals s) ∷ only (slice-vals e) ∷ nv ∷ vint w64 p ∷ []
 
   abbrev Post : Val → SProp 𝓤
   Post = walkOf 𝓤 H A deliver.ended stayed (deliver.clauses 𝓤 H A mem run) .post ((κs, qs, tt, a, vals), tt)
 
   -- the call of `calls::deliver`: the local's messages ys stand at b, and are lent for ν under the name δ
   module _ (b : ℕ) (ys : List Message) where
-    abbrev args : GName → Bench × (RefT (List ℕ) × (RefT (List ℕ) × (RefT (List ℕ) × (RefT (List ℕ) × (RefT (List Message) × (ℕ × Unit {0}))))))
-    args δ = (h, (c, (t, (s, (e, (at-list T.the-row 64 b δ ys, (p, tt)))))))
+    abbrev args : GName → Bench × (RefT (List ℕ) × (RefT (List ℕ) × (RefT (List ℕ) × (RefT (List Message) × (ℕ × Unit {0})))))
+    args δ = (h, (c, (s, (e, (at-list T.the-row 64 b δ ys, (p, tt))))))
 
     abbrev to-deliver : ℕ → GName → Deliver 𝓤 H A mem run .Ghost
     to-deliver ν δ = (
       (
-        limits.with-last 𝓤 H A κs qs c t s e (ν ∷ []),
-        limits.with-share 𝓤 H A κs qs c t s e fullShare,
+        limits.with-last 𝓤 H A κs qs c s e (ν ∷ []),
+        limits.with-share 𝓤 H A κs qs c s e fullShare,
         tt,
         args δ,
-        (hv ∷ [], (slice-vals c, (slice-vals t, (slice-vals s, (slice-vals e, (sliceVal (b, 0) 64 ∷ [], (vint w64 p ∷ [], tt))))))),
+        (hv ∷ [], (slice-vals c, (slice-vals s, (slice-vals e, (sliceVal (b, 0) 64 ∷ [], (vint w64 p ∷ [], tt)))))),
       ),
       tt,
     )
 
     -- what is known once it has returned w, with the last messages zs
     abbrev DeliveredWith : Val → Answer → List Message → Type 0
-    DeliveredWith w x zs = Delivers h (c .now) (t .now) (s .now) (e .now) (flight ys) p (x .0) (x .1 .0) (x .1 .1) (flight zs) × (limits.SameLengths 𝓤 H A κs qs c t s e (x .1 .0) (x .1 .1) × Is R.the-row (x .0) (w ∷ []))
+    DeliveredWith w x zs = Delivers h (c .now) (s .now) (e .now) (flight ys) p (x .0) (x .1 .0) (x .1 .1) (flight zs) × (limits.SameLengths 𝓤 H A κs qs c s e (x .1 .0) (x .1 .1) × Is R.the-row (x .0) (w ∷ []))
 
     abbrev Left : Answer → Item 𝓤
     Left x = Toks ⊛ Said (x .1 .0) (x .1 .1)
@@ -163,56 +160,56 @@ module _ {M : Type 1} (𝓤 : URA M) (H : Heap 𝓤) (A : Atoms 𝓤) (W : Given
         (H .⇛ (ex 𝓤 (λ (x : Answer). ex 𝓤 (λ (zs : List Message). guard 𝓤 (DeliveredWith w x zs) (sep 𝓤 (sem 𝓤 H A (finally T.the-row δ zs)) (sep 𝓤 (A .lft (ν ∷ []) fullShare) (mean 𝓤 H A (Left x))))))))
     leaves ν δ w =
         qed W (raw (Deliver 𝓤 H A mem run .post (to-deliver ν δ) w) ∷ []) ∵ updating ! $
-        use1 W (later (some (λ (r : Delivered). (limits.AllToks 𝓤 H A κs qs c t s e (ν ∷ []) fullShare ⊛ ‵ (R.the-row .own r (w ∷ []))) ⊛ raw (ensured 𝓤 H A called.ended (called.clauses 𝓤 H A mem run) (limits.with-last 𝓤 H A κs qs c t s e (ν ∷ [])) (args δ) tt r)))) (id⊢ 𝓤 _) $ await ! tt $ pick ! (λ r.
+        use1 W (later (some (λ (r : Delivered). (limits.AllToks 𝓤 H A κs qs c s e (ν ∷ []) fullShare ⊛ ‵ (R.the-row .own r (w ∷ []))) ⊛ raw (ensured 𝓤 H A called.ended (called.clauses 𝓤 H A mem run) (limits.with-last 𝓤 H A κs qs c s e (ν ∷ [])) (args δ) tt r)))) (id⊢ 𝓤 _) $ await ! tt $ pick ! (λ r.
         split ! $ move ! (1 ∷ []) $
-        use1 W (some (λ (ws : Lasting). ‵ (lasts called.ended (limits.with-last 𝓤 H A κs qs c t s e (ν ∷ [])) (args δ) ws) ⊛ raw (fact 𝓤 (Delivers h (c .now) (t .now) (s .now) (e .now) (flight ys) p r (ws .1 .1 .1 .0) (ws .1 .1 .1 .1 .0) (flight (ws .1 .1 .1 .1 .1 .0)))) ⊛ raw (fact 𝓤 (rest 64 (ws .1 .1 .1 .1 .1 .0) ≡ rest 64 ys)))) (id⊢ 𝓤 _) $ pick ! (λ ws.
-        split ! $ move ! (1 ∷ []) $ split ! $ heard ! (Delivers h (c .now) (t .now) (s .now) (e .now) (flight ys) p r (ws .1 .1 .1 .0) (ws .1 .1 .1 .1 .0) (flight (ws .1 .1 .1 .1 .1 .0))) (λ f. drop ! $
-        use1 W (given (limits.SameLengths 𝓤 H A κs qs c t s e (ws .1 .1 .1 .0) (ws .1 .1 .1 .1 .0)) (Said (ws .1 .1 .1 .0) (ws .1 .1 .1 .1 .0) ⊛ ‵ (fsep (LastMessages δ (ws .1 .1 .1 .1 .1 .0)) (fsep ftrue ftrue))))
-        (limits.told 𝓤 H A κs qs c t s e W (ws .1 .1 .1 .0) (ws .1 .1 .1 .1 .0) (fsep (LastMessages δ (ws .1 .1 .1 .1 .1 .0)) (fsep ftrue ftrue))) $ learn ! (λ n.
+        use1 W (some (λ (ws : Lasting). ‵ (lasts called.ended (limits.with-last 𝓤 H A κs qs c s e (ν ∷ [])) (args δ) ws) ⊛ raw (fact 𝓤 (Delivers h (c .now) (s .now) (e .now) (flight ys) p r (ws .1 .1 .0) (ws .1 .1 .1 .0) (flight (ws .1 .1 .1 .1 .0)))) ⊛ raw (fact 𝓤 (rest 64 (ws .1 .1 .1 .1 .0) ≡ rest 64 ys)))) (id⊢ 𝓤 _) $ pick ! (λ ws.
+        split ! $ move ! (1 ∷ []) $ split ! $ heard ! (Delivers h (c .now) (s .now) (e .now) (flight ys) p r (ws .1 .1 .0) (ws .1 .1 .1 .0) (flight (ws .1 .1 .1 .1 .0))) (λ f. drop ! $
+        use1 W (given (limits.SameLengths 𝓤 H A κs qs c s e (ws .1 .1 .0) (ws .1 .1 .1 .0)) (Said (ws .1 .1 .0) (ws .1 .1 .1 .0) ⊛ ‵ (fsep (LastMessages δ (ws .1 .1 .1 .1 .0)) (fsep ftrue ftrue))))
+        (limits.told 𝓤 H A κs qs c s e W (ws .1 .1 .0) (ws .1 .1 .1 .0) (fsep (LastMessages δ (ws .1 .1 .1 .1 .0)) (fsep ftrue ftrue))) $ learn ! (λ n.
         split ! $ move ! (1 ∷ []) $ fsplit ! $ move ! (1 ∷ []) $ drop ! $ fsplit ! $ move ! (1 ∷ []) $ drop ! $
         -- [the last messages; Said; the tokens and the result]
         move ! (2 ∷ []) $ split ! $ move ! (1 ∷ []) $ facts ! R.the-row (Is R.the-row) (shows 𝓤 H A R.the-row) r (w ∷ []) (λ is.
-        use1 W (‵ (flft (ν ∷ []) fullShare) ⊛ Toks) (limits.tokens 𝓤 H A κs qs c t s e W (ν ∷ []) fullShare) $ split ! $ move ! (1 ∷ 3 ∷ []) $ join ! $ at-once ! $
-        show ! (λ (x : Answer). ex 𝓤 (λ (zs : List Message). guard 𝓤 (DeliveredWith w x zs) (sep 𝓤 (sem 𝓤 H A (finally T.the-row δ zs)) (sep 𝓤 (A .lft (ν ∷ []) fullShare) (mean 𝓤 H A (Left x)))))) (r, (ws .1 .1 .1 .0, ws .1 .1 .1 .1 .0)) $
-        show ! (λ (zs : List Message). guard 𝓤 (DeliveredWith w (r, (ws .1 .1 .1 .0, ws .1 .1 .1 .1 .0)) zs) (sep 𝓤 (sem 𝓤 H A (finally T.the-row δ zs)) (sep 𝓤 (A .lft (ν ∷ []) fullShare) (mean 𝓤 H A (Left (r, (ws .1 .1 .1 .0, ws .1 .1 .1 .1 .0))))))) (ws .1 .1 .1 .1 .1 .0) $
+        use1 W (‵ (flft (ν ∷ []) fullShare) ⊛ Toks) (limits.tokens 𝓤 H A κs qs c s e W (ν ∷ []) fullShare) $ split ! $ move ! (1 ∷ 3 ∷ []) $ join ! $ at-once ! $
+        show ! (λ (x : Answer). ex 𝓤 (λ (zs : List Message). guard 𝓤 (DeliveredWith w x zs) (sep 𝓤 (sem 𝓤 H A (finally T.the-row δ zs)) (sep 𝓤 (A .lft (ν ∷ []) fullShare) (mean 𝓤 H A (Left x)))))) (r, (ws .1 .1 .0, ws .1 .1 .1 .0)) $
+        show ! (λ (zs : List Message). guard 𝓤 (DeliveredWith w (r, (ws .1 .1 .0, ws .1 .1 .1 .0)) zs) (sep 𝓤 (sem 𝓤 H A (finally T.the-row δ zs)) (sep 𝓤 (A .lft (ν ∷ []) fullShare) (mean 𝓤 H A (Left (r, (ws .1 .1 .0, ws .1 .1 .1 .0))))))) (ws .1 .1 .1 .1 .0) $
         check ! (f, (n, is)) $ move ! (2 ∷ 1 ∷ 0 ∷ []) $ done !)))))
 
   -- what the callees say, as the contract has it
   done-as :
-      (ys zs : List Message) (x : Answer) (ms : List ℕ) → flight ys ≡ ns → flight zs ≡ ms → Delivers h (c .now) (t .now) (s .now) (e .now) (flight ys) p (x .0) (x .1 .0) (x .1 .1) (flight zs)
-      → Delivers h (c .now) (t .now) (s .now) (e .now) ns p (x .0) (x .1 .0) (x .1 .1) ms
+      (ys zs : List Message) (x : Answer) (ms : List ℕ) → flight ys ≡ ns → flight zs ≡ ms → Delivers h (c .now) (s .now) (e .now) (flight ys) p (x .0) (x .1 .0) (x .1 .1) (flight zs)
+      → Delivers h (c .now) (s .now) (e .now) ns p (x .0) (x .1 .0) (x .1 .1) ms
   done-as ys zs x ms before after f =
-      ap (λ (y : List ℕ). delivered (reactionSays (x .0 .reply)) (x .0 .bench) (x .1 .0) (x .1 .1) y) (sym after) ∙ f ∙ ap (λ (y : List ℕ). deliverOf (state h (c .now) (t .now) (s .now) (e .now) y) p) before
+      ap (λ (y : List ℕ). delivered (reactionSays (x .0 .reply)) (x .0 .bench) (x .1 .0) (x .1 .1) y) (sym after) ∙ f ∙ ap (λ (y : List ℕ). deliverOf (state h (c .now) (s .now) (e .now) y) p) before
 
   exits :
-      (v : Val) (x : Answer) (ms : List ℕ) → Delivers h (c .now) (t .now) (s .now) (e .now) ns p (x .0) (x .1 .0) (x .1 .1) ms → limits.SameLengths 𝓤 H A κs qs c t s e (x .1 .0) (x .1 .1)
+      (v : Val) (x : Answer) (ms : List ℕ) → Delivers h (c .now) (s .now) (e .now) ns p (x .0) (x .1 .0) (x .1 .1) ms → limits.SameLengths 𝓤 H A κs qs c s e (x .1 .0) (x .1 .1)
       → Is P.the-row (record { delivered = x .0; numbers = ms }) (v ∷ []) → ent 𝓤 (⋆ 𝓤 H A (Toks ∷ Said (x .1 .0) (x .1 .1) ∷ Kept ∷ [])) (Post v)
   exits v x ms f n is =
       qed W (Toks ∷ Said (x .1 .0) (x .1 .1) ∷ Kept ∷ []) ∵
-      suffices ! _ (ends-at 𝓤 H A deliver.ended stayed (deliver.clauses 𝓤 H A mem run) W ((κs, qs, tt, a, vals), tt) v (record { delivered = x .0; numbers = ms }) (tt, (tt, (tt, (x .1 .0, (x .1 .1, (tt, (tt, tt))))))) (tt, (tt, (tt, (n .0, (n .1, (tt, (tt, tt)))))))) $ says ! f $
+      suffices ! _ (ends-at 𝓤 H A deliver.ended stayed (deliver.clauses 𝓤 H A mem run) W ((κs, qs, tt, a, vals), tt) v (record { delivered = x .0; numbers = ms }) (tt, (tt, (x .1 .0, (x .1 .1, (tt, (tt, tt)))))) (tt, (tt, (n .0, (n .1, (tt, (tt, tt))))))) $ says ! f $
       frame ! $ owned ! Numbers (Is Numbers) (array.made the-numbers 𝓤 H A W) ns _ n-is $ move ! (1 ∷ 2 ∷ 0 ∷ []) $
-      use3 W (‵ (limits.All 𝓤 H A κs qs c t s e W h hv h-is p p-fits (finally u32 (s .name) (x .1 .0)) (finally u32 (e .name) (x .1 .1)) (Numbers .own ns (nv ∷ []))))
-      (limits.leaves 𝓤 H A κs qs c t s e W h hv h-is p p-fits (x .1 .0) (x .1 .1) (Numbers .own ns (nv ∷ []))) $
+      use3 W (‵ (limits.All 𝓤 H A κs qs c s e W h hv h-is p p-fits (finally u32 (s .name) (x .1 .0)) (finally u32 (e .name) (x .1 .1)) (Numbers .own ns (nv ∷ []))))
+      (limits.leaves 𝓤 H A κs qs c s e W h hv h-is p p-fits (x .1 .0) (x .1 .1) (Numbers .own ns (nv ∷ []))) $
       owned ! P.the-row (Is P.the-row) (LL.makes P.the-type P′.the-plain 𝓤 H A) (record { delivered = x .0; numbers = ms }) _ is $ move ! (1 ∷ 0 ∷ []) $ done !
 
   module _ (C : Calls 𝓤 H) (Λ : Loops 𝓤 H) (fm : FmC 𝓤 H (W .laws) C) (known-in : Triple 𝓤 (C #messages-in) (MessagesIn 𝓤 H A mem run)) (known-deliver : Triple 𝓤 (C #called) (Deliver 𝓤 H A mem run))
       (known-from : Triple 𝓤 (C #numbers-from) (NumbersFrom 𝓤 H A mem run)) where
     walk : ent 𝓤 (onEntry 𝓤 H A deliver.signature κs qs a vals) (WpFn 𝓤 H C Λ code.function passed Post)
     walk =
-        qed W (Toks ∷ ‵ (limits.All 𝓤 H A κs qs c t s e W h hv h-is p p-fits (Writes (κs .1 .1 .0) s) (Writes (κs .1 .1 .1 .0) e) (Numbers .own ns (nv ∷ []))) ∷ []) ∵
-        use2 W (limits.Handed 𝓤 H A κs qs c t s e ⊛ ‵ (Numbers .own ns (nv ∷ []))) (limits.enters 𝓤 H A κs qs c t s e W h hv h-is p p-fits (Numbers .own ns (nv ∷ []))) $
+        qed W (Toks ∷ ‵ (limits.All 𝓤 H A κs qs c s e W h hv h-is p p-fits (Writes (κs .1 .0) s) (Writes (κs .1 .1 .0) e) (Numbers .own ns (nv ∷ []))) ∷ []) ∵
+        use2 W (limits.Handed 𝓤 H A κs qs c s e ⊛ ‵ (Numbers .own ns (nv ∷ []))) (limits.enters 𝓤 H A κs qs c s e W h hv h-is p p-fits (Numbers .own ns (nv ∷ []))) $
         split ! $ move ! (1 ∷ []) $ drop ! $ enter ! C Λ code.function passed _ $
-        alloc1 ! (λ l₀. alloc1 ! (λ l₁. alloc1 ! (λ l₂. alloc1 ! (λ l₃. alloc1 ! (λ l₄. alloc1 ! (λ l₅. alloc1 ! (λ l₆. alloc1 ! (λ l₇. alloc1 ! (λ l₈. alloc1 ! (λ l₉. alloc1 ! (λ l₁₀. alloc1 ! (λ l₁₁. alloc1 ! (λ l₁₂. alloc1 ! (λ l₁₃. alloc1 ! (λ l₁₄. alloc1 ! (λ l₁₅. alloc1 ! (λ l₁₆. alloc1 ! (λ l₁₇. alloc0 ! $ params1 ! $
-        pass1 ! (init ! 32 refl (LL.lawful B.the-type B′.the-laws 𝓤 H A W .typed h _ h-is .0)) $ pass1 ! (init ! 30 refl (tt, (tt, (record { fits = c-room .0 }, tt)))) $ pass1 ! (init ! 28 refl (tt, (tt, (record { fits = t-room .0 }, tt)))) $
+        alloc1 ! (λ l₀. alloc1 ! (λ l₁. alloc1 ! (λ l₂. alloc1 ! (λ l₃. alloc1 ! (λ l₄. alloc1 ! (λ l₅. alloc1 ! (λ l₆. alloc1 ! (λ l₇. alloc1 ! (λ l₈. alloc1 ! (λ l₉. alloc1 ! (λ l₁₀. alloc1 ! (λ l₁₁. alloc1 ! (λ l₁₂. alloc1 ! (λ l₁₃. alloc1 ! (λ l₁₄. alloc1 ! (λ l₁₅. alloc1 ! (λ l₁₆. alloc0 ! $ params1 ! $
+        pass1 ! (init ! 30 refl (LL.lawful B.the-type B′.the-laws 𝓤 H A W .typed h _ h-is .0)) $ pass1 ! (init ! 28 refl (tt, (tt, (record { fits = c-room .0 }, tt)))) $
         pass1 ! (init ! 26 refl (tt, (tt, (record { fits = s-room .0 }, tt)))) $ pass1 ! (init ! 24 refl (tt, (tt, (record { fits = e-room .0 }, tt)))) $ pass1 ! (init ! 22 refl (array.typed the-numbers 𝓤 H A W ns _ n-is)) $
         pass1 ! (init ! 20 refl (tt, record { fits = p-fits })) $ pass0 ! $
-        -- [_17; …; _16; …; and so on to _0; …; Handed]
-        move ! (36 ∷ []) $
+        -- [_16; …; _15; …; and so on to _0; …; Handed]
+        move ! (34 ∷ []) $
         -- `messages_in`
         use0 W (raw (MessagesIn 𝓤 H A mem run .pre (plainly.to-take 𝓤 H A mem run ns nv))) (plainly.takes 𝓤 H A mem run W ns nv n-is) $
         calls-at ! fm (MessagesIn 𝓤 H A mem run) known-in (plainly.to-take 𝓤 H A mem run ns nv) (and-then ! (load ! (from ! (stop !)) (look ! 24 refl)) (no-more !)) (λ v.
         use1 W (later (some (λ (ys : List Message). given (Taken ns v ys) (‵ ftrue)))) (plainly.taken 𝓤 H A mem run W ns nv v) $ await ! tt $ pick ! (λ ys. learn ! (λ g. drop ! $
-        -- [Handed; _17; …]
+        -- [Handed; _16; …]
         land ! (from ! (stop !)) (init ! 15 refl (array.typed messages 𝓤 H A W ys _ (g .1))) $
         assigns ! (of-opd ! (load ! (from ! (stop !)) (look ! 15 refl))) (from ! (stop !)) (init ! 19 refl (array.typed messages 𝓤 H A W ys _ (g .1))) $
         assigns ! (addr ! (from ! (fld ! refl (hop ! (look-in ! 27 (sub ! 0 refl (whole !))) (stop !))))) (from ! (stop !)) (init ! 13 refl (tt, tt)) $
@@ -222,17 +219,17 @@ module _ {M : Type 1} (𝓤 : URA M) (H : Heap 𝓤) (A : Atoms 𝓤) (W : Given
         assigns ! (addr ! (from ! (stop !))) (from ! (stop !)) (init ! 5 refl (tt, tt)) $
         assigns ! (agg ! (and-then ! (load ! (from ! (stop !)) (look ! 5 refl)) (and-then ! (lit ! tt) (no-more !)))) (from ! (stop !)) (init ! 3 refl (tt, (tt, (record { fits = lit< tt }, tt)))) $
         -- `calls::deliver`
-        move ! (19 ∷ []) $ use1 W (given (length ys ≡ 64) (‵ (rowOf T.the-row 64 ys l₈))) (array.apart messages 𝓤 H A W l₈ ys v (g .1)) $ learn ! (λ z.
-        use2 W (later (some (λ (ν : ℕ). some (λ (δ : GName). (raw (Deliver 𝓤 H A mem run .pre (to-deliver l₈ ys ν δ)) ⊛ Kept) ⊛ ‵ (flent (ν ∷ []) (Held T.the-row 64 l₈ 0 δ))))))
-        (array.lends messages 𝓤 H A W l₈ (named 0) ys z (limits.Handed 𝓤 H A κs qs c t s e) (λ ν δ. sep 𝓤 (Deliver 𝓤 H A mem run .pre (to-deliver l₈ ys ν δ)) (mean 𝓤 H A Kept))
-        (λ ν δ. limits.hands-messages 𝓤 H A κs qs c t s e W h hv h-is p p-fits (ν ∷ []) fullShare (array.Writes T.the-row 64 (named 0) (ν ∷ []) l₈ δ ys))) $ await ! tt $ pick ! (λ ν. pick ! (λ δ. split ! $ split ! $
-        -- [what is asked; Kept; the lender's part; _17; …]
-        calls-at ! fm (Deliver 𝓤 H A mem run) known-deliver (to-deliver l₈ ys ν δ)
-        (and-then ! (load ! (from ! (stop !)) (look ! 34 refl)) (and-then ! (load ! (from ! (stop !)) (look ! 32 refl)) (and-then ! (load ! (from ! (stop !)) (look ! 30 refl)) (and-then ! (load ! (from ! (stop !)) (look ! 13 refl)) (and-then ! (load ! (from ! (stop !)) (look ! 9 refl)) (and-then ! (load ! (from ! (stop !)) (look ! 5 refl)) (and-then ! (load ! (from ! (stop !)) (look ! 22 refl)) (no-more !)))))))) (λ w.
-        move ! (0 ∷ 2 ∷ []) $ use2 W (later (some (λ (x : Answer). some (λ (zs : List Message). given (DeliveredWith l₈ ys w x zs × (length zs ≡ 64)) (‵ (rowOf T.the-row 64 zs l₈) ⊛ Left l₈ ys x)))))
-        (array.back messages 𝓤 H A W l₈ ν (Deliver 𝓤 H A mem run .post (to-deliver l₈ ys ν δ) w) δ (DeliveredWith l₈ ys w) (Left l₈ ys) (leaves l₈ ys ν δ w)) $ await ! tt $ pick ! (λ x. pick ! (λ zs. learn ! (λ f. split ! $
-        use1 W (some (λ (u : Val). given (Is Messages zs (u ∷ [])) (‵ (fat fullShare (arrayTy T.the-row 64) l₈ 0 u)))) (array.whole messages 𝓤 H A W l₈ zs (f .1)) $ pick ! (λ u. learn ! (λ u-is. move ! (1 ∷ []) $ split ! $ move ! (0 ∷ 1 ∷ 3 ∷ 2 ∷ []) $
-        -- [Toks; Said; Kept; _8; _17; …; _16; …; and so on to _9; …; (_8's right to be freed); _7; …]
+        move ! (19 ∷ []) $ use1 W (given (length ys ≡ 64) (‵ (rowOf T.the-row 64 ys l₇))) (array.apart messages 𝓤 H A W l₇ ys v (g .1)) $ learn ! (λ z.
+        use2 W (later (some (λ (ν : ℕ). some (λ (δ : GName). (raw (Deliver 𝓤 H A mem run .pre (to-deliver l₇ ys ν δ)) ⊛ Kept) ⊛ ‵ (flent (ν ∷ []) (Held T.the-row 64 l₇ 0 δ))))))
+        (array.lends messages 𝓤 H A W l₇ (named 0) ys z (limits.Handed 𝓤 H A κs qs c s e) (λ ν δ. sep 𝓤 (Deliver 𝓤 H A mem run .pre (to-deliver l₇ ys ν δ)) (mean 𝓤 H A Kept))
+        (λ ν δ. limits.hands-messages 𝓤 H A κs qs c s e W h hv h-is p p-fits (ν ∷ []) fullShare (array.Writes T.the-row 64 (named 0) (ν ∷ []) l₇ δ ys))) $ await ! tt $ pick ! (λ ν. pick ! (λ δ. split ! $ split ! $
+        -- [what is asked; Kept; the lender's part; _16; …]
+        calls-at ! fm (Deliver 𝓤 H A mem run) known-deliver (to-deliver l₇ ys ν δ)
+        (and-then ! (load ! (from ! (stop !)) (look ! 32 refl)) (and-then ! (load ! (from ! (stop !)) (look ! 30 refl)) (and-then ! (load ! (from ! (stop !)) (look ! 13 refl)) (and-then ! (load ! (from ! (stop !)) (look ! 9 refl)) (and-then ! (load ! (from ! (stop !)) (look ! 5 refl)) (and-then ! (load ! (from ! (stop !)) (look ! 22 refl)) (no-more !))))))) (λ w.
+        move ! (0 ∷ 2 ∷ []) $ use2 W (later (some (λ (x : Answer). some (λ (zs : List Message). given (DeliveredWith l₇ ys w x zs × (length zs ≡ 64)) (‵ (rowOf T.the-row 64 zs l₇) ⊛ Left l₇ ys x)))))
+        (array.back messages 𝓤 H A W l₇ ν (Deliver 𝓤 H A mem run .post (to-deliver l₇ ys ν δ) w) δ (DeliveredWith l₇ ys w) (Left l₇ ys) (leaves l₇ ys ν δ w)) $ await ! tt $ pick ! (λ x. pick ! (λ zs. learn ! (λ f. split ! $
+        use1 W (some (λ (u : Val). given (Is Messages zs (u ∷ [])) (‵ (fat fullShare (arrayTy T.the-row 64) l₇ 0 u)))) (array.whole messages 𝓤 H A W l₇ zs (f .1)) $ pick ! (λ u. learn ! (λ u-is. move ! (1 ∷ []) $ split ! $ move ! (0 ∷ 1 ∷ 3 ∷ 2 ∷ []) $
+        -- [Toks; Said; Kept; _7; _16; …; _15; …; and so on to _8; …; (_7's right to be freed); _6; …]
         land ! (from ! (stop !)) (init ! 20 refl (LL.lawful R.the-type R′.the-laws 𝓤 H A W .typed (x .0) _ (f .0 .1 .1) .0)) $
         assigns ! (of-opd ! (load ! (from ! (stop !)) (look ! 3 refl))) (from ! (stop !)) (store ! 18 refl (array.typed messages 𝓤 H A W zs _ u-is)) $
         -- `numbers_from`
@@ -241,27 +238,27 @@ module _ {M : Type 1} (𝓤 : URA M) (H : Heap 𝓤) (A : Atoms 𝓤) (W : Given
         use1 W (later (some (λ (ms : List ℕ). given (GivenBack zs m ms) (‵ ftrue)))) (plainly.gave 𝓤 H A mem run W zs u m) $ await ! tt $ pick ! (λ ms. learn ! (λ k. drop ! $
         land ! (from ! (stop !)) (init ! 4 refl (array.typed the-numbers 𝓤 H A W ms _ (k .1))) $
         assigns ! (agg ! (and-then ! (load ! (from ! (stop !)) (look ! 20 refl)) (and-then ! (load ! (from ! (stop !)) (look ! 4 refl)) (no-more !)))) (from ! (stop !))
-        (init ! 37 refl (LL.lawful P.the-type P′.the-laws 𝓤 H A W .typed (record { delivered = x .0; numbers = ms }) _ (delivered-is (x .0) w ms m (f .0 .1 .1) (k .1)) .0)) $
-        returns ! (look ! 37 refl) $ forget ! 3 refl $ forget ! 4 refl $ forget ! 6 refl $ forget ! 8 refl $ forget ! 10 refl $ forget ! 12 refl $ forget ! 14 refl $ forget ! 16 refl $ forget ! 18 refl $ forget ! 20 refl $ forget ! 23 refl $ forget ! 25 refl $ forget ! 27 refl $ forget ! 29 refl $ forget ! 31 refl $ forget ! 33 refl $ forget ! 35 refl $ forget ! 37 refl $
-        move ! (37 ∷ 38 ∷ []) $ free1 ! $ move ! (35 ∷ 36 ∷ []) $ free1 ! $ move ! (33 ∷ 34 ∷ []) $ free1 ! $ move ! (31 ∷ 32 ∷ []) $ free1 ! $ move ! (29 ∷ 30 ∷ []) $ free1 ! $ move ! (27 ∷ 28 ∷ []) $ free1 ! $ move ! (25 ∷ 26 ∷ []) $ free1 ! $ move ! (23 ∷ 24 ∷ []) $ free1 ! $ move ! (3 ∷ 22 ∷ []) $ free1 ! $ move ! (19 ∷ 20 ∷ []) $ free1 ! $ move ! (17 ∷ 18 ∷ []) $ free1 ! $ move ! (15 ∷ 16 ∷ []) $ free1 ! $ move ! (13 ∷ 14 ∷ []) $ free1 ! $ move ! (11 ∷ 12 ∷ []) $ free1 ! $ move ! (9 ∷ 10 ∷ []) $ free1 ! $ move ! (7 ∷ 8 ∷ []) $ free1 ! $ move ! (5 ∷ 6 ∷ []) $ free1 ! $ move ! (3 ∷ 4 ∷ []) $ free1 ! $ free0 ! $
-        by ! (exits _ x ms (done-as ys zs x ms (flight-in ns ys z (g .0)) (flight-out zs ms (f .1) (k .0)) (f .0 .0)) (f .0 .1 .0) (delivered-is (x .0) w ms m (f .0 .1 .1) (k .1))))))))))))))))))))))))))))))))))))
+        (init ! 35 refl (LL.lawful P.the-type P′.the-laws 𝓤 H A W .typed (record { delivered = x .0; numbers = ms }) _ (delivered-is (x .0) w ms m (f .0 .1 .1) (k .1)) .0)) $
+        returns ! (look ! 35 refl) $ forget ! 3 refl $ forget ! 4 refl $ forget ! 6 refl $ forget ! 8 refl $ forget ! 10 refl $ forget ! 12 refl $ forget ! 14 refl $ forget ! 16 refl $ forget ! 18 refl $ forget ! 20 refl $ forget ! 23 refl $ forget ! 25 refl $ forget ! 27 refl $ forget ! 29 refl $ forget ! 31 refl $ forget ! 33 refl $ forget ! 35 refl $
+        move ! (35 ∷ 36 ∷ []) $ free1 ! $ move ! (33 ∷ 34 ∷ []) $ free1 ! $ move ! (31 ∷ 32 ∷ []) $ free1 ! $ move ! (29 ∷ 30 ∷ []) $ free1 ! $ move ! (27 ∷ 28 ∷ []) $ free1 ! $ move ! (25 ∷ 26 ∷ []) $ free1 ! $ move ! (23 ∷ 24 ∷ []) $ free1 ! $ move ! (3 ∷ 22 ∷ []) $ free1 ! $ move ! (19 ∷ 20 ∷ []) $ free1 ! $ move ! (17 ∷ 18 ∷ []) $ free1 ! $ move ! (15 ∷ 16 ∷ []) $ free1 ! $ move ! (13 ∷ 14 ∷ []) $ free1 ! $ move ! (11 ∷ 12 ∷ []) $ free1 ! $ move ! (9 ∷ 10 ∷ []) $ free1 ! $ move ! (7 ∷ 8 ∷ []) $ free1 ! $ move ! (5 ∷ 6 ∷ []) $ free1 ! $ move ! (3 ∷ 4 ∷ []) $ free1 ! $ free0 ! $
+        by ! (exits _ x ms (done-as ys zs x ms (flight-in ns ys z (g .0)) (flight-out zs ms (f .1) (k .0)) (f .0 .0)) (f .0 .1 .0) (delivered-is (x .0) w ms m (f .0 .1 .1) (k .1)))))))))))))))))))))))))))))))))))
 
 module _ {M : Type 1} (𝓤 : URA M) (H : Heap 𝓤) (A : Atoms 𝓤) (W : Given 𝓤 H A) (mem : Memory → SProp 𝓤) (run : Routine → Fun 𝓤) where
   deliver-walks : (C : Calls 𝓤 H) (Λ : Loops 𝓤 H) → FmC 𝓤 H (W .laws) C → Triple 𝓤 (C #messages-in) (MessagesIn 𝓤 H A mem run) → Triple 𝓤 (C #called) (Deliver 𝓤 H A mem run) → Triple 𝓤 (C #numbers-from) (NumbersFrom 𝓤 H A mem run)
       → Walks 𝓤 H A deliver.ended stayed (WpFn 𝓤 H C Λ code.function) (deliver.clauses 𝓤 H A mem run)
   deliver-walks C Λ fm known-in known-deliver known-from = walked 𝓤 H A deliver.ended stayed (deliver.clauses 𝓤 H A mem run) (WpFn 𝓤 H C Λ code.function)
-      (λ κs. (LL.vals B.the-type B′.the-laws, (slice-vals, (slice-vals, (slice-vals, (slice-vals, (array-vals (uint-vals w32), (uint-vals w64, tt))))))))
-      (λ κs. (LL.tells B.the-type B′.the-laws, (shr-slice-tells (named 0) (κs .0) u32, (shr-slice-tells (named 1) (κs .1 .0) u32, (mut-slice-tells (named 2) (κs .1 .1 .0) u32, (mut-slice-tells (named 3) (κs .1 .1 .1 .0) u32, (array-tells u32 (uint-vals w32) (uint-tells w32) 320, (uint-tells w64, tt))))))))
+      (λ κs. (LL.vals B.the-type B′.the-laws, (slice-vals, (slice-vals, (slice-vals, (array-vals (uint-vals w32), (uint-vals w64, tt)))))))
+      (λ κs. (LL.tells B.the-type B′.the-laws, (shr-slice-tells (named 0) (κs .0) u32, (mut-slice-tells (named 1) (κs .1 .0) u32, (mut-slice-tells (named 2) (κs .1 .1 .0) u32, (array-tells u32 (uint-vals w32) (uint-tells w32) 320, (uint-tells w64, tt)))))))
       (λ κs qs bounds a g are. via 𝓤 _ (fst∗ 𝓤 _ (emp 𝓤))
-      (walk 𝓤 H A W mem run κs qs (a .0) (LL.val B.the-type B′.the-laws (a .0)) (are .0) (a .1 .0) (a .1 .1 .0) (a .1 .1 .1 .0) (a .1 .1 .1 .1 .0) (a .1 .1 .1 .1 .1 .0) (only (array-vals (uint-vals w32) (a .1 .1 .1 .1 .1 .0))) (are .1 .1 .1 .1 .1 .0) (a .1 .1 .1 .1 .1 .1 .0) (are .1 .1 .1 .1 .1 .1 .0 .1)
-      (are .1 .0 .0 .1) (are .1 .1 .0 .0 .1) (are .1 .1 .1 .0 .0 .1) (are .1 .1 .1 .1 .0 .0 .1) C Λ fm known-in known-deliver known-from))
+      (walk 𝓤 H A W mem run κs qs (a .0) (LL.val B.the-type B′.the-laws (a .0)) (are .0) (a .1 .0) (a .1 .1 .0) (a .1 .1 .1 .0) (a .1 .1 .1 .1 .0) (only (array-vals (uint-vals w32) (a .1 .1 .1 .1 .0))) (are .1 .1 .1 .1 .0) (a .1 .1 .1 .1 .1 .0) (are .1 .1 .1 .1 .1 .0 .1)
+      (are .1 .0 .0 .1) (are .1 .1 .0 .0 .1) (are .1 .1 .1 .0 .0 .1) C Λ fm known-in known-deliver known-from))
 
 deliver-meets : {M : Type 1} (𝓤 : URA M) (H : Heap 𝓤) (A : Atoms 𝓤) → Given 𝓤 H A → (mem : Memory → SProp 𝓤) (run : Routine → Fun 𝓤) (𝓣 : Tables 𝓤 H)
     → Triple 𝓤 (𝓣 .C #messages-in) (MessagesIn 𝓤 H A mem run) → Triple 𝓤 (𝓣 .C #called) (Deliver 𝓤 H A mem run) → Triple 𝓤 (𝓣 .C #numbers-from) (NumbersFrom 𝓤 H A mem run)
     → Meets 𝓤 H A deliver.signature (WpFn 𝓤 H (𝓣 .C) (𝓣 .Λ) code.function) (deliver.spec 𝓤 H A mem run)
 deliver-meets 𝓤 H A W mem run 𝓣 known-in known-deliver known-from =
     walk-meets 𝓤 H A deliver.ended stayed W
-    (goes-none 𝓤 H A W 4 (λ _. B.the-row) yes (λ κs x f. refl), (goes-none-slice 𝓤 H A W 4 (0 ∷ []) tt (plain (λ _. u32)) yes, (goes-none-slice 𝓤 H A W 4 (1 ∷ []) tt (plain (λ _. u32)) yes, (goes-gave-slice 𝓤 H A W 4 2 tt (plain (λ _. u32)), (goes-gave-slice 𝓤 H A W 4 3 tt (plain (λ _. u32)), (goes-none 𝓤 H A W 4 (λ _. Numbers) yes (λ κs x f. refl), (goes-none 𝓤 H A W 4 (λ _. usize) yes (λ κs x f. refl), tt))))))) (deliver.clauses 𝓤 H A mem run)
+    (goes-none 𝓤 H A W 3 (λ _. B.the-row) yes (λ κs x f. refl), (goes-none-slice 𝓤 H A W 3 (0 ∷ []) tt (plain (λ _. u32)) yes, (goes-gave-slice 𝓤 H A W 3 1 tt (plain (λ _. u32)), (goes-gave-slice 𝓤 H A W 3 2 tt (plain (λ _. u32)), (goes-none 𝓤 H A W 3 (λ _. Numbers) yes (λ κs x f. refl), (goes-none 𝓤 H A W 3 (λ _. usize) yes (λ κs x f. refl), tt)))))) (deliver.clauses 𝓤 H A mem run)
     (WpFn 𝓤 H (𝓣 .C) (𝓣 .Λ) code.function) (WpFn-mono 𝓤 H (W .laws) 𝓣 code.function) (deliver-walks 𝓤 H A W mem run (𝓣 .C) (𝓣 .Λ) (fmOf 𝓤 H (W .laws) 𝓣) known-in known-deliver known-from)
 
 pub deliver-spec : {M : Type 1} → stated.statement M

@@ -67,19 +67,19 @@ same-length-2 : tie.Need-same-length-2
 same-length-2 c = search needs
 
 returns : tie.Need-returns
-returns c = let a = c .before .before .before .before .before .before .before .before .before .before .before .before .before .before .before .before .before .args in
+returns c = let a = c .before .before .before .before .before .before .before .before .before .before .before .before .before .before .before .before .args in
     rw (c .before .before .before .before .before .before .before .before .event .given .1)
     (ap (λ (h : Happening). happening (h .reply) (h .bench) (h .sent) (h .held) (a .messages .now) (a .rows .now) (a .out .now) (h .written)) (c .before .before .before .before .update-event .ensures)
-    ∙ update-frame _ _ _ _ _ _ _ _ _ _)
+    ∙ update-frame _ _ _ _ _ _ _ _ _)
 
 same-length-3 : tie.Need-same-length-3
 same-length-3 c = search needs
 
 returns-2 : tie.Need-returns-2
-returns-2 c = let a = c .before .before .before .before .before .before .before .before .before .before .before .before .before .before .args in
+returns-2 c = let a = c .before .before .before .before .before .before .before .before .before .before .before .before .before .args in
     rw (c .before .before .before .before .before .event2 .given .1)
     (ap (λ (h : Happening). happening (h .reply) (h .bench) (a .sent .now) (a .held .now) (h .messages) (a .rows .now) (a .out .now) (h .written)) (c .before .before .send-event .ensures)
-    ∙ send-frame _ _ _ _ _ _ _ _ _ _)
+    ∙ send-frame _ _ _ _ _ _ _ _ _)
 
 same-length-4 : tie.Need-same-length-4
 same-length-4 c = search needs
@@ -91,10 +91,10 @@ same-length-6 : tie.Need-same-length-6
 same-length-6 c = search needs
 
 returns-3 : tie.Need-returns-3
-returns-3 c = let a = c .before .before .before .before .before .before .before .before .before .before .before .before .before .before .before .before .before .before .before .before .args in
+returns-3 c = let a = c .before .before .before .before .before .before .before .before .before .before .before .before .before .before .before .before .before .before .before .args in
     rw (c .before .before .before .before .before .before .before .before .before .before .before .event3 .given .1)
     (ap (λ (h : Happening). happening (h .reply) (h .bench) (h .sent) (h .held) (h .messages) (a .rows .now) (a .out .now) (h .written)) (c .before .before .before .before .before .before .deliver-event .ensures)
-    ∙ deliver-frame _ _ _ _ _ _ _ _ _)
+    ∙ deliver-frame _ _ _ _ _ _ _ _)
 
 same-length-7 : tie.Need-same-length-7
 same-length-7 c = search needs
@@ -106,31 +106,31 @@ same-length-9 : tie.Need-same-length-9
 same-length-9 c = search needs
 
 returns-4 : tie.Need-returns-4
-returns-4 c = let a = c .before .before .before .before .before .before .before .before .before .before .before .before .before .before .before .before .before .before .args in
+returns-4 c = let a = c .before .before .before .before .before .before .before .before .before .before .before .before .before .before .before .before .before .args in
     rw (c .before .before .before .before .before .before .before .before .before .event4 .given .1)
     (ap (λ (h : Happening). happening (h .reply) (h .bench) (h .sent) (h .held) (h .messages) (a .rows .now) (a .out .now) (h .written)) (c .before .before .before .before .repeat-event .ensures)
-    ∙ repeat-frame _ _ _ _ _ _ _ _ _)
+    ∙ repeat-frame _ _ _ _ _ _ _ _)
 
 same-length-10 : tie.Need-same-length-10
 same-length-10 c = search needs
 
 returns-5 : tie.Need-returns-5
-returns-5 c = let a = c .before .before .before .before .before .before .before .before .before .before .before .before .before .before .args in
+returns-5 c = let a = c .before .before .before .before .before .before .before .before .before .before .before .before .before .args in
     rw (c .before .before .before .before .before .event5 .given .1)
     (ap (λ (h : Happening). happening (h .reply) (h .bench) (a .sent .now) (a .held .now) (h .messages) (a .rows .now) (a .out .now) (h .written)) (c .before .before .lose-event .ensures)
-    ∙ lose-frame _ _ _ _ _ _ _ _ _)
+    ∙ lose-frame _ _ _ _ _ _ _ _)
 
 returns-6 : tie.Need-returns-6
-returns-6 c = let a = c .before .before .before .before .before .before .before .before .before .before .before .args in
+returns-6 c = let a = c .before .before .before .before .before .before .before .before .before .before .args in
     rw (c .before .before .event6 .given .1)
     (ap (λ (h : Happening). happening (h .reply) (h .bench) (a .sent .now) (a .held .now) (a .messages .now) (a .rows .now) (a .out .now) (h .written)) (c .cut-event .ensures)
-    ∙ cut-frame _ _ _ _ _ _ _ _ _)
+    ∙ cut-frame _ _ _ _ _ _ _ _)
 
 returns-7 : tie.Need-returns-7
-returns-7 c = let a = c .before .before .before .before .before .before .before .before .before .before .before .args in
+returns-7 c = let a = c .before .before .before .before .before .before .before .before .before .before .args in
     rw (c .before .before .event7 .given .1)
     (ap (λ (h : Happening). happening (h .reply) (h .bench) (a .sent .now) (a .held .now) (a .messages .now) (a .rows .now) (a .out .now) (h .written)) (c .restore-event .ensures)
-    ∙ restore-frame _ _ _ _ _ _ _ _ _)
+    ∙ restore-frame _ _ _ _ _ _ _ _)
 
 same-length-11 : tie.Need-same-length-11
 same-length-11 c = search needs
@@ -145,10 +145,10 @@ same-length-14 : tie.Need-same-length-14
 same-length-14 c = search needs
 
 returns-8 : tie.Need-returns-8
-returns-8 c = let a = c .before .before .before .before .before .before .before .before .before .before .before .before .before .before .before .before .before .before .before .args in
+returns-8 c = let a = c .before .before .before .before .before .before .before .before .before .before .before .before .before .before .before .before .before .before .args in
     rw (c .before .before .before .before .before .before .before .before .before .before .event8 .given .1)
     (ap (λ (h : Happening). happening (h .reply) (h .bench) (h .sent) (h .held) (a .messages .now) (h .rows) (h .out) (h .written)) (c .before .before .before .before .report-event .ensures)
-    ∙ report-frame _ _ _ _ _ _ _ _ _)
+    ∙ report-frame _ _ _ _ _ _ _ _)
 
 same-length-15 : tie.Need-same-length-15
 same-length-15 c = search needs
@@ -160,10 +160,10 @@ same-length-17 : tie.Need-same-length-17
 same-length-17 c = search needs
 
 returns-9 : tie.Need-returns-9
-returns-9 c = let a = c .before .before .before .before .before .before .before .before .before .before .before .before .before .before .before .before .args in
+returns-9 c = let a = c .before .before .before .before .before .before .before .before .before .before .before .before .before .before .before .args in
     rw (c .before .before .before .before .before .before .before .event9 .given .1)
     (ap (λ (h : Happening). happening (h .reply) (h .bench) (h .sent) (h .held) (a .messages .now) (a .rows .now) (h .out) (h .written)) (c .before .before .path-event .ensures)
-    ∙ path-frame _ _ _ _ _ _ _ _ _ _)
+    ∙ path-frame _ _ _ _ _ _ _ _ _)
 
 pub happen-spec : {M : Type 1} → statement M
 happen-spec =

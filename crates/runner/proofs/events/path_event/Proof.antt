@@ -21,7 +21,7 @@ unfolding replyOf rowsAfter textOf
 returns c = turned-down _ _ _ _ (path-step _ _ _) _ (c .before .way-number .ensures ∙ ap (λ (o : Said Way). o .number) (c .before .before .path .ensures)) (c .if1 .taken)
 
 path-text-requires : tie.Need-path-text-requires
-path-text-requires c κs = (c .before .before .before .before .before .before .before .before .before .pre, way-fits _ _ _ (c .before .before .before .path .result) (c .before .before .before .path .ensures))
+path-text-requires c κs = (c .before .before .before .before .before .before .before .before .pre, way-fits _ _ _ (c .before .before .before .path .result) (c .before .before .before .path .ensures))
 
 same-length : tie.Need-same-length
 same-length c = search needs

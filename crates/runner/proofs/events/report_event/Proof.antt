@@ -43,7 +43,7 @@ returns-2 c = let rows = ap (λ (o : Reported). o .rows) (c .before .before .bef
     rw rows
     (accepted _ _ _ _ (report-step _ _) _ _ _ (c .before .before .before .before .before .before .before .number-of .ensures ∙ ap (λ (o : Reported). o .reply) (c .before .before .before .before .before .before .before .before .before .before .report .ensures .0)) (c .before .before .before .before .before .before .if1 .left)
     (rw (← rows, c .count-of .ensures)
-    (counted (c .before .before .before .report2 .result) _ _ _ _ ready (c .before .before .before .before .before .before .before .before .before .before .before .before .before .before .before .before .before .before .pre .1) (c .before .before .before .report2 .ensures))))
+    (counted (c .before .before .before .report2 .result) _ _ _ _ ready (c .before .before .before .before .before .before .before .before .before .before .before .before .before .before .before .before .before .pre .1) (c .before .before .before .report2 .ensures))))
 
 pub report-event-spec : {M : Type 1} → statement M
 report-event-spec =

@@ -31,7 +31,7 @@ returns-2 c = λ e.
     let counts = both-true _ _ (sym (c .before .both2 .ensures) ∙ all .1) in
     record {
       stage = eqb-true _ 3 (kind .0);
-      events = leb-true _ 61380 (counts .0);
+      events = leb-true _ 61200 (counts .0);
       offset = omega (arith, leb-true (c .before .before .before .before .before .before .before .args .r .offset) (61440 - c .before .before .before .before .before .before .before .args .left) (counts .1), c .before .before .before .before .before .before .if1 .left);
     }
 

@@ -8,7 +8,7 @@ use Rattle.runner.proofs.lists.list_in_room.Statement.{statement}
 use Rattle.runner.proofs.lists.list_in_room.Tie as tie
 
 sub-list-room : tie.Need-sub-list-room
-sub-list-room c = omega (arith, c .before .before .before .before .before .before .before .before .pre .1 .1)
+sub-list-room c = omega (arith, c .before .before .before .before .before .before .before .pre .1 .1)
 
 list-room-requires : tie.Need-list-room-requires
 list-room-requires c κs = search needs
@@ -17,14 +17,14 @@ mul-past : tie.Need-mul-past
 mul-past c = omega (arith, c .list-room .ensures)
 
 slice-relend-prefix-list-on : tie.Need-slice-relend-prefix-list-on
-slice-relend-prefix-list-on c = omega (arith, c .before .before .before .before .list-room .ensures, c .before .before .before .before .before .before .before .before .before .before .before .before .before .pre .1 .0)
+slice-relend-prefix-list-on c = omega (arith, c .before .before .before .before .list-room .ensures, c .before .before .before .before .before .before .before .before .before .before .before .before .pre .1 .0)
 
 slice-aggregate-list-on : tie.Need-slice-aggregate-list-on
-slice-aggregate-list-on c = sym (length-take-le (3 * c .before .before .before .before .before .list-room .result) (c .before .before .before .before .before .before .before .before .before .before .before .before .before .before .args .ways .now) (omega (arith, c .before .before .before .before .before .list-room .ensures, c .before .before .before .before .before .before .before .before .before .before .before .before .before .before .pre .1 .0)))
+slice-aggregate-list-on c = sym (length-take-le (3 * c .before .before .before .before .before .list-room .result) (c .before .before .before .before .before .before .before .before .before .before .before .before .before .args .ways .now) (omega (arith, c .before .before .before .before .before .list-room .ensures, c .before .before .before .before .before .before .before .before .before .before .before .before .before .pre .1 .0)))
 
 list-on-requires : tie.Need-list-on-requires
-list-on-requires c κs = let long = length-take-le (3 * c .before .before .before .before .before .list-room .result) (c .before .before .before .before .before .before .before .before .before .before .before .before .before .before .args .ways .now) (omega (arith, c .before .before .before .before .before .list-room .ensures, c .before .before .before .before .before .before .before .before .before .before .before .before .before .before .pre .1 .0)) in
-    (c .before .before .before .before .before .before .before .before .before .before .before .before .before .before .pre .0, (omega (arith, long, c .before .before .before .before .before .list-room .ensures), omega (arith, long, c .before .before .before .before .before .list-room .ensures, c .before .before .before .before .before .before .before .before .before .before .before .before .before .before .pre .1 .1)))
+list-on-requires c κs = let long = length-take-le (3 * c .before .before .before .before .before .list-room .result) (c .before .before .before .before .before .before .before .before .before .before .before .before .before .args .ways .now) (omega (arith, c .before .before .before .before .before .list-room .ensures, c .before .before .before .before .before .before .before .before .before .before .before .before .before .pre .1 .0)) in
+    (c .before .before .before .before .before .before .before .before .before .before .before .before .before .pre .0, (omega (arith, long, c .before .before .before .before .before .list-room .ensures), omega (arith, long, c .before .before .before .before .before .list-room .ensures, c .before .before .before .before .before .before .before .before .before .before .before .before .before .pre .1 .1)))
 
 same-length : tie.Need-same-length
 same-length c = search needs

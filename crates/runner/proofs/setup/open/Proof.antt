@@ -2,7 +2,7 @@
 use mathlib.Core.Path.{ap}
 use borrow.Author.Tests.{eq-eqb, ne-eqb}
 use borrow.Author.Needs.{needs}
-use Rattle.bench.specs.Changes.{Started}
+use Rattle.bench.specs.Changes.{Rewritten}
 use Rattle.runner.specs.Turns.{openedAs, opened}
 use Rattle.runner.proofs.setup.open.Statement.{statement}
 use Rattle.runner.proofs.setup.open.Tie as tie
@@ -16,12 +16,9 @@ same-length c = search needs
 same-length-2 : tie.Need-same-length-2
 same-length-2 c = search needs
 
-same-length-3 : tie.Need-same-length-3
-same-length-3 c = search needs
-
 returns : tie.Need-returns
 unfolding opened
-returns c = rw (eq-eqb _ 2 (c .before .before .before .before .before .before .before .before .before .before .before .if1 .taken)) (ap (λ (o : Started). openedAs (o .bench) (o .tables) (o .sent) (o .held)) (c .before .before .before .before .before .before .before .fresh .ensures .0))
+returns c = rw (eq-eqb _ 2 (c .before .before .before .before .before .before .before .before .if1 .taken)) (ap (λ (o : Rewritten). openedAs (o .bench) (o .sent) (o .held)) (c .before .before .before .before .before .fresh .ensures .0))
 
 returns-2 : tie.Need-returns-2
 unfolding opened
@@ -29,4 +26,9 @@ returns-2 c = rw (ne-eqb _ 2 (c .if1 .left))
 
 pub open-spec : {M : Type 1} → statement M
 open-spec =
-    tie.close (tie.spec fresh-requires same-length same-length-2 same-length-3 returns returns-2)
+    tie.close (tie.spec
+    fresh-requires
+    same-length
+    same-length-2
+    returns
+    returns-2)

@@ -18,9 +18,6 @@ both-requires-4 c κs = search needs
 both-requires-5 : tie.Need-both-requires-5
 both-requires-5 c κs = search needs
 
-both-requires-6 : tie.Need-both-requires-6
-both-requires-6 c κs = search needs
-
 returns : tie.Need-returns
 returns c = cc
 
@@ -33,5 +30,4 @@ buffers-long-spec =
     both-requires-3
     both-requires-4
     both-requires-5
-    both-requires-6
     returns)

@@ -17,7 +17,7 @@ same-length c = search needs
 
 returns : tie.Need-returns
 unfolding lastTurn
-returns c = ap (λ (l : Line). turn (c .before .before .before .before .before .args .number) false 0 (l .count) (c .before .before .before .before .before .args .r) (buffers [] [] [] [] [] [] (l .out))) (c .before .before .last-line .ensures)
+returns c = ap (λ (l : Line). turn (c .before .before .before .before .before .args .number) false 0 (l .count) (c .before .before .before .before .before .args .r) (buffers [] [] [] [] [] (l .out))) (c .before .before .last-line .ensures)
 
 pub ended-spec : {M : Type 1} → statement M
 ended-spec = tie.close (tie.spec last-line-requires same-length returns)

@@ -18,7 +18,7 @@ enum-known-field-2 : tie.Need-enum-known-field-2
 enum-known-field-2 c = search needs
 
 with-link-requires : tie.Need-with-link-requires
-with-link-requires c κs = rw (c .before .field2 .given .1) at (c .before .before .before .before .before .before .before .before .before .before .before .before .pre .1)
+with-link-requires c κs = rw (c .before .field2 .given .1) at (c .before .before .before .before .before .before .before .before .before .before .before .pre .1)
 
 set-up-requires-2 : tie.Need-set-up-requires-2
 set-up-requires-2 c κs = search needs
@@ -27,10 +27,10 @@ enum-told : tie.Need-enum-told
 enum-told c = search needs
 
 store-row-requires : tie.Need-store-row-requires
-store-row-requires c κs = (rw (c .before .enum-told .given .1) at (c .before .before .before .before .before .before .before .before .before .before .before .before .pre .1), c .before .before .before .before .before .before .before .before .before .before .before .before .pre .0 .3)
+store-row-requires c κs = (rw (c .before .enum-told .given .1) at (c .before .before .before .before .before .before .before .before .before .before .before .pre .1), c .before .before .before .before .before .before .before .before .before .before .before .pre .0 .3)
 
 with-view-requires : tie.Need-with-view-requires
-with-view-requires c κs = rw (c .before .before .before .before .enum-told .given .1) at (c .before .before .before .before .before .before .before .before .before .before .before .before .before .before .before .pre .1)
+with-view-requires c κs = rw (c .before .before .before .before .enum-told .given .1) at (c .before .before .before .before .before .before .before .before .before .before .before .before .before .before .pre .1)
 
 set-up-requires-3 : tie.Need-set-up-requires-3
 set-up-requires-3 c κs = search needs
@@ -74,12 +74,9 @@ same-length-6 c = search needs
 same-length-7 : tie.Need-same-length-7
 same-length-7 c = search needs
 
-same-length-8 : tie.Need-same-length-8
-same-length-8 c = search needs
-
 returns-4 : tie.Need-returns-4
 unfolding fieldTurn
-returns-4 c = rw (c .before .before .before .before .before .before .before .before .before .before .before .before .before .before .before .before .before .before .before .before .before .field3 .given .1) (c .before .before .before .before .before .before .before .before .before .before .before .before .event-step .ensures)
+returns-4 c = rw (c .before .before .before .before .before .before .before .before .before .before .before .before .before .before .before .before .before .before .field3 .given .1) (c .before .before .before .before .before .before .before .before .before .before .event-step .ensures)
 
 pub field-step-spec : {M : Type 1} → statement M
 field-step-spec =
@@ -107,5 +104,4 @@ field-step-spec =
     same-length-5
     same-length-6
     same-length-7
-    same-length-8
     returns-4)

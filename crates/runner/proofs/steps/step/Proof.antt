@@ -1,14 +1,16 @@
 -- `steps::step` meets its contract: turned down, or the field that was read or the plan's end. Assumes nothing.
 use Prim.Native.Nat.{_<_}
 use native.Mathlib.Omega.{arith}
-use mathlib.Core.Bool.{true, _&&_}
+use mathlib.Core.Bool.{Bool, _&&_}
 use mathlib.Core.Path.{_≡_, sym, _∙_}
 use borrow.Author.Tests.{not-true, not-false}
 use borrow.Author.Needs.{needs}
+use lib.ListN.{length}
+use lib.Dec.{leb}
 use Rattle.plan.specs.Fields.{byte}
 use Rattle.runner.specs.Turns.{runnerInRange}
 use Rattle.runner.specs.Buffers.{Buffers, buffers, buffersLong}
-use Rattle.runner.proofs.StepTurns.{StepTold, step-told, ended-on, field-fits, field-used, stop-turn, field-turn, step-out, step-read}
+use Rattle.runner.proofs.StepTurns.{step-told, ended-on, field-fits, field-used, stop-turn, field-turn, step-out, step-read}
 use Rattle.runner.proofs.steps.step.Statement.{statement}
 use Rattle.runner.proofs.steps.step.Tie as tie
 
@@ -16,22 +18,21 @@ use Rattle.runner.proofs.steps.step.Tie as tie
 abbrev BuffersOf : tie.Start → Buffers
 BuffersOf s =
     let a = s .args in
-    buffers (a .costs .now) (a .tables .now) (a .sent .now) (a .held .now) (a .messages .now) (a .rows .now) (a .out .now)
+    buffers (a .costs .now) (a .sent .now) (a .held .now) (a .messages .now) (a .rows .now) (a .out .now)
 
--- the checks
+-- the entry check, by its parts
 tested :
-    (c : tie.After-both) →
-    let s = c .before .before .before .before .before .before .before .before .before .before .before in c .both .result ≡ (runnerInRange (s .args .r) && buffersLong (BuffersOf s))
+    (s : tie.Start) {b r l : Bool} →
+    r ≡ runnerInRange (s .args .r) →
+    l
+    ≡ (leb 1024 (length (s .args .costs .now))
+    && (leb 1024 (length (s .args .sent .now))
+    && (leb 1024 (length (s .args .held .now))
+    && (leb 320 (length (s .args .messages .now)) && (leb 32 (length (s .args .rows .now)) && leb 544 (length (s .args .out .now))))))) →
+    b ≡ (r && l) →
+    b ≡ (runnerInRange (s .args .r) && buffersLong (BuffersOf s))
 unfolding buffersLong
-tested c = rw (c .before .runner-in-range .ensures, c .before .before .buffers-long .ensures) at (c .both .ensures)
-
-passes :
-    (c : tie.Else1) →
-    let s = c .before .before .before .before .before .before .before .before .before .before .before .before in (runnerInRange (s .args .r) && buffersLong (BuffersOf s)) ≡ true
-passes c = sym (tested (c .before)) ∙ not-false _ (c .if1 .left)
-
-told : (c : tie.Else1) → let s = c .before .before .before .before .before .before .before .before .before .before .before .before in StepTold (s .args .r) (BuffersOf s)
-told c = step-told _ _ (passes c)
+tested s counts long both = rw (counts, long) at both
 
 buffers-long-requires : tie.Need-buffers-long-requires
 buffers-long-requires c κs = search needs
@@ -43,7 +44,7 @@ both-requires : tie.Need-both-requires
 both-requires c κs = search needs
 
 returns : tie.Need-returns
-returns c = step-out _ _ _ (sym (tested (c .before)) ∙ not-true _ (c .if1 .taken))
+returns c = step-out _ _ _ (sym (tested (c .before .before .before .before .before .before .before .before .before .before .before) (c .before .before .runner-in-range .ensures) (c .before .before .before .buffers-long .ensures) (c .before .both .ensures)) ∙ not-true _ (c .if1 .taken))
 
 read-field-requires : tie.Need-read-field-requires
 read-field-requires c κs = search needs
@@ -58,25 +59,25 @@ stop-number-requires : tie.Need-stop-number-requires
 stop-number-requires c κs = search needs
 
 ended-requires : tie.Need-ended-requires
-ended-requires c κs = told (c .before .before .before .before .before .before) .out
+ended-requires c κs = step-told _ _ (sym (tested (c .before .before .before .before .before .before .before .before .before .before .before .before .before .before .before .before .before) (c .before .before .before .before .before .before .before .before .runner-in-range .ensures) (c .before .before .before .before .before .before .before .before .before .buffers-long .ensures) (c .before .before .before .before .before .before .before .both .ensures)) ∙ not-false _ (c .before .before .before .before .before .before .if1 .left)) .out
 
 same-length : tie.Need-same-length
 same-length c = search needs
 
 returns-2 : tie.Need-returns-2
 returns-2 c =
-    let s = c .before .before .before .before .before .before .before .before .before .before .before .before .before .before .before .before .before .before .before .before .before in
+    let s = c .before .before .before .before .before .before .before .before .before .before .before .before .before .before .before .before .before .before .before .before in
     ended-on _ _ (s .args .r) (BuffersOf s) (c .before .before .ended .ensures)
     ∙ stop-turn (s .args .rest .now) (s .args .r) (BuffersOf s) (c .before .before .before .before .before .before .before .read-field .result) _ (c .before .before .before .before .stop-number .ensures) (c .before .before .before .before .before .enum-told .given .1)
-    ∙ step-read _ _ _ (passes (c .before .before .before .before .before .before .before .before .before)) _ (c .before .before .before .before .before .before .before .read-field .ensures)
+    ∙ step-read _ _ _ (sym (tested (c .before .before .before .before .before .before .before .before .before .before .before .before .before .before .before .before .before .before .before .before) (c .before .before .before .before .before .before .before .before .before .before .before .runner-in-range .ensures) (c .before .before .before .before .before .before .before .before .before .before .before .before .buffers-long .ensures) (c .before .before .before .before .before .before .before .before .before .before .both .ensures)) ∙ not-false _ (c .before .before .before .before .before .before .before .before .before .if1 .left)) _ (c .before .before .before .before .before .before .before .read-field .ensures)
 
 field-step-requires : tie.Need-field-step-requires
 field-step-requires c κs =
-    let s = c .before .before .before .before .before .before .before .before .before .before .before .before .before .before .before .before .before .before .before .before .before .before .before .before in
-    let t = told (c .before .before .before .before .before .before .before .before .before .before .before .before) in
-    let same = sym (c .before .before .before .before .before .before .before .before .before .before .read-field .ensures) ∙ c .before .before .before .before .before .before .before .before .read .given .1 in
-    let first : byte (s .args .rest .now) 1 < 256 = omega (arith, c .before .before .before .before .before .before .before .before .before .before .before .before .before .before .before .before .before .before .before .before .before .before .before .shared-slice-known .given 1) in
-    let second : byte (s .args .rest .now) 2 < 256 = omega (arith, c .before .before .before .before .before .before .before .before .before .before .before .before .before .before .before .before .before .before .before .before .before .before .before .shared-slice-known .given 2) in
+    let s = c .before .before .before .before .before .before .before .before .before .before .before .before .before .before .before .before .before .before .before .before .before .before in
+    let t = step-told _ _ (sym (tested (c .before .before .before .before .before .before .before .before .before .before .before .before .before .before .before .before .before .before .before .before .before .before) (c .before .before .before .before .before .before .before .before .before .before .before .before .before .runner-in-range .ensures) (c .before .before .before .before .before .before .before .before .before .before .before .before .before .before .buffers-long .ensures) (c .before .before .before .before .before .before .before .before .before .before .before .before .both .ensures)) ∙ not-false _ (c .before .before .before .before .before .before .before .before .before .before .before .if1 .left)) in
+    let same = sym (c .before .before .before .before .before .before .before .before .before .read-field .ensures) ∙ c .before .before .before .before .before .before .before .read .given .1 in
+    let first : byte (s .args .rest .now) 1 < 256 = omega (arith, c .before .before .before .before .before .before .before .before .before .before .before .before .before .before .before .before .before .before .before .before .before .shared-slice-known .given 1) in
+    let second : byte (s .args .rest .now) 2 < 256 = omega (arith, c .before .before .before .before .before .before .before .before .before .before .before .before .before .before .before .before .before .before .before .before .before .shared-slice-known .given 2) in
     ((t .offset, t .events, field-used _ (s .args .r) same first second, t .costs, t .rows, t .out), field-fits _ (s .args .r) same)
 
 same-length-2 : tie.Need-same-length-2
@@ -97,15 +98,12 @@ same-length-6 c = search needs
 same-length-7 : tie.Need-same-length-7
 same-length-7 c = search needs
 
-same-length-8 : tie.Need-same-length-8
-same-length-8 c = search needs
-
 returns-3 : tie.Need-returns-3
 returns-3 c =
-    let s = c .before .before .before .before .before .before .before .before .before .before .before .before .before .before .before .before .before .before .before .before .before .before .before .before .before .before .before .before .before .before .before .before .before .before .before .before .before .before .before in
-    c .before .before .before .before .before .before .before .before .before .before .before .before .before .before .field-step .ensures
-    ∙ field-turn (s .args .rest .now) (s .args .r) (BuffersOf s) (c .before .before .before .before .before .before .before .before .before .before .before .before .before .before .before .before .before .before .before .before .before .before .before .before .before .read-field .result) (c .before .before .before .before .before .before .before .before .before .before .before .before .before .before .before .before .before .before .before .before .before .before .before .read .given .1)
-    ∙ step-read _ _ _ (passes (c .before .before .before .before .before .before .before .before .before .before .before .before .before .before .before .before .before .before .before .before .before .before .before .before .before .before .before)) _ (c .before .before .before .before .before .before .before .before .before .before .before .before .before .before .before .before .before .before .before .before .before .before .before .before .before .read-field .ensures)
+    let s = c .before .before .before .before .before .before .before .before .before .before .before .before .before .before .before .before .before .before .before .before .before .before .before .before .before .before .before .before .before .before .before .before .before .before .before in
+    c .before .before .before .before .before .before .before .before .before .before .before .before .field-step .ensures
+    ∙ field-turn (s .args .rest .now) (s .args .r) (BuffersOf s) (c .before .before .before .before .before .before .before .before .before .before .before .before .before .before .before .before .before .before .before .before .before .before .read-field .result) (c .before .before .before .before .before .before .before .before .before .before .before .before .before .before .before .before .before .before .before .before .read .given .1)
+    ∙ step-read _ _ _ (sym (tested (c .before .before .before .before .before .before .before .before .before .before .before .before .before .before .before .before .before .before .before .before .before .before .before .before .before .before .before .before .before .before .before .before .before .before .before) (c .before .before .before .before .before .before .before .before .before .before .before .before .before .before .before .before .before .before .before .before .before .before .before .before .before .before .runner-in-range .ensures) (c .before .before .before .before .before .before .before .before .before .before .before .before .before .before .before .before .before .before .before .before .before .before .before .before .before .before .before .buffers-long .ensures) (c .before .before .before .before .before .before .before .before .before .before .before .before .before .before .before .before .before .before .before .before .before .before .before .before .before .both .ensures)) ∙ not-false _ (c .before .before .before .before .before .before .before .before .before .before .before .before .before .before .before .before .before .before .before .before .before .before .before .before .if1 .left)) _ (c .before .before .before .before .before .before .before .before .before .before .before .before .before .before .before .before .before .before .before .before .before .before .read-field .ensures)
 
 pub step-spec : {M : Type 1} → statement M
 step-spec =
@@ -129,5 +127,4 @@ step-spec =
     same-length-5
     same-length-6
     same-length-7
-    same-length-8
     returns-3)

@@ -1,12 +1,12 @@
--- `starts::fill_view` meets its contract. The block that was lent from inside the tables comes back in its place. Assumes nothing.
+-- `tables::fill_view` meets its contract. The block that was lent from inside the tables comes back in its place. Assumes nothing.
 use Prim.Native.Nat.{_*_}
 use native.Mathlib.Nat.{add-sub-cancel-left}
 use mathlib.Core.Path.{ap}
 use borrow.Author.Needs.{needs}
 use Rattle.distances.specs.Call.{Outcome}
-use Rattle.bench.specs.Changes.{filledView}
-use Rattle.bench.proofs.starts.fill_view.Statement.{statement}
-use Rattle.bench.proofs.starts.fill_view.Tie as tie
+use Rattle.bench.specs.Steps.{filledView}
+use Rattle.bench.proofs.tables.fill_view.Statement.{statement}
+use Rattle.bench.proofs.tables.fill_view.Tie as tie
 
 mul-row : tie.Need-mul-row
 mul-row c = search needs

@@ -1,0 +1,34 @@
+-- `walks::port_of` meets its contract: the bridge's view is computed, then the port found. Assumes nothing.
+use native.Mathlib.Omega.{arith}
+use borrow.Author.Needs.{needs}
+use Rattle.bench.proofs.ChoiceSteps.{view-low}
+use Rattle.bench.proofs.TableSteps.{tables-filled}
+use Rattle.bench.proofs.walks.port_of.Statement.{statement}
+use Rattle.bench.proofs.walks.port_of.Tie as tie
+
+element-copy-out-view : tie.Need-element-copy-out-view
+element-copy-out-view c = omega (arith, c .before .before .before .before .before .pre .0 .ready .fewBridges, c .before .before .before .before .before .pre .1 .0)
+
+cast-view : tie.Need-cast-view
+cast-view c = search needs
+
+need-view-requires : tie.Need-need-view-requires
+need-view-requires c κs = (view-low (c .before .before .before .before .before .before .before .before .pre .0) (c .before .before .before .before .before .before .before .before .args .bridge) (c .before .before .before .before .before .before .before .before .pre .1 .0), c .before .before .before .before .before .before .before .before .pre .0 .ready .costsLong, c .before .before .before .before .before .before .before .before .pre .1 .2)
+
+port-at-requires : tie.Need-port-at-requires
+port-at-requires c κs =
+    let kept = c .before .before .before .before .before .need-view .ensures .0 in
+    (c .before .before .before .before .before .before .before .before .before .before .before .before .before .before .pre .0, ((c .before .before .before .before .before .before .before .before .before .before .before .before .before .before .pre .1 .0, c .before .before .before .before .before .before .before .before .before .before .before .before .before .before .pre .1 .1, omega (arith, kept .0 .long)), tables-filled _ _ _ _ (kept .0) _ (view-low (c .before .before .before .before .before .before .before .before .before .before .before .before .before .before .pre .0) (c .before .before .before .before .before .before .before .before .before .before .before .before .before .before .args .bridge) (c .before .before .before .before .before .before .before .before .before .before .before .before .before .before .pre .1 .0)) (kept .1)))
+
+same-length : tie.Need-same-length
+same-length c = search needs
+
+same-length-2 : tie.Need-same-length-2
+same-length-2 c = search needs
+
+returns : tie.Need-returns
+returns c = (c .port-at .ensures, c .before .before .before .before .before .before .need-view .ensures .0 .0)
+
+pub port-of-spec : {M : Type 1} → statement M
+port-of-spec =
+    tie.close (tie.spec element-copy-out-view cast-view need-view-requires port-at-requires same-length same-length-2 returns)

@@ -1,0 +1,66 @@
+// The distances of the views, a block of 256 numbers for each, in tables that belong to a call or to a list of calls: each view is computed
+// at its first use, and `known` says which are there.
+use crate::Bench;
+ghost use mathlib.Core.Path.{_≡_};
+ghost use mathlib.Core.Bool.{true, false};
+ghost use Prim.Native.Nat.{ℕ, _≤_, _<_};
+ghost use lib.ListN.{length, getD};
+ghost use Rattle.bench.specs.Steps.{filledView, Tables, Ready};
+
+fn fill_view(
+    bridges: usize,
+    links: usize,
+    ends: &[u8],
+    costs: &[u32],
+    tables: &mut [u32],
+    view: usize,
+)
+    requires { ⌜ (view < 32) × (1024 ≤ length (now costs)) × (8192 ≤ length (now tables)) ⌝ }
+    ensures { λ r. ⌜ now (tables .exit) ≡ filledView bridges links (now (ends .entry)) (now (costs .entry)) view (now (tables .entry)) ⌝ }
+{
+    let row = 32 * view;
+    let row_past = row + 32;
+    let block = 256 * view;
+    let block_past = block + 256;
+    distances::distances(
+        bridges,
+        links,
+        ends,
+        &costs[row..row_past],
+        &mut tables[block..block_past],
+    );
+}
+
+// A view's distances, unless they are there.
+pub(crate) fn need_view(
+    bench: Bench,
+    costs: &[u32],
+    view: usize,
+    tables: &mut [u32],
+    known: &mut [bool],
+)
+    requires { ⌜ (view < 32) × (1024 ≤ length (now costs)) × Tables bench (now costs) (now tables) (now known) ⌝ }
+    ensures { λ r. ⌜ Tables bench (now (costs .entry)) (now (tables .exit)) (now (known .exit)) × (getD (now (known .exit)) view false ≡ true) ⌝ }
+    ensures { λ r. ⌜ ((t : ℕ) → getD (now (known .entry)) t false ≡ true → getD (now (known .exit)) t false ≡ true) ⌝ }
+{
+    if known[view] {
+        return;
+    }
+    let ends = bench.ends;
+    fill_view(bench.bridges, bench.links, &ends, costs, tables, view);
+    known[view] = true;
+}
+
+// The views that the bridges are on.
+pub(crate) fn need_views(bench: Bench, costs: &[u32], tables: &mut [u32], known: &mut [bool])
+    requires { ⌜ Ready bench (now costs) × Tables bench (now costs) (now tables) (now known) ⌝ }
+    ensures { λ r. ⌜ Tables bench (now (costs .entry)) (now (tables .exit)) (now (known .exit)) ⌝ }
+    ensures { λ r. ⌜ ((y : ℕ) → y < bench .bridges → getD (now (known .exit)) (getD (bench .view) y 0) false ≡ true) ⌝ }
+{
+    let mut y = 0;
+    while y < bench.bridges {
+        let view = bench.view[y] as usize;
+        need_view(bench, costs, view, tables, known);
+        y += 1;
+    }
+}

@@ -1,0 +1,61 @@
+//! Networks that no fresh one leads to, each handed to every call of layer 3 as compiled, against reference/.
+
+use bench_tests::count::Met;
+use bench_tests::flaw::{Flaw, FLAWS};
+use bench_tests::list_expected::run_both;
+use bench_tests::list_random::random_list;
+use bench_tests::model::Call;
+use bench_tests::network_event::EVENTS;
+use bench_tests::network_random::{random_call, random_map};
+use bench_tests::network_run::{pairs_of, Run};
+use bench_tests::random::Random;
+
+/// How many calls are made on copies of a network.
+const CALLS: usize = 40;
+
+/// Every report, port and path.
+fn questions(bridges: usize) -> impl Iterator<Item = Call> {
+    let pairs = pairs_of(bridges).flat_map(|(bridge, dest)| [Call::Port(bridge, dest), Call::Path(bridge, dest)]);
+    (0..bridges).map(Call::Report).chain(pairs)
+}
+
+/// One network: every question, calls of every kind, each on a copy, and a list of calls.
+fn one_network(random: &mut Random, flaw: Option<Flaw>) -> Result<Met, String> {
+    let map = random_map(random);
+    let mut run = Run::handed_in(random, &map)?;
+    run.model.flaw = flaw;
+    for call in questions(map.bridge_count()) {
+        run.call(call)?;
+    }
+    let mut met = run.met.clone();
+    for _ in 0..CALLS {
+        let mut copy = run.copy();
+        copy.call(random_call(random, run.network()))?;
+        met.add(&copy.met);
+    }
+    let (mut model, mut list) = random_list(random, &mut run)?;
+    let stop = run_both(&mut model, &mut list, &mut Met::default())?;
+    met.note(format!("list to {stop:?}"));
+    Ok(met)
+}
+
+#[test]
+fn every_call_on_networks_handed_in() {
+    let mut met = Met::default();
+    for seed in 180_000_000..180_001_500 {
+        met.add(&one_network(&mut Random::new(seed), None).unwrap_or_else(|difference| panic!("seed {seed}: {difference}")));
+    }
+    let limits = ["Any limits", "Loose limits", "Near limits"];
+    let stops = ["list to End", "list to Room", "list to Report", "list to Refused", "list to NoEvent"];
+    met.only("handed in", &[&EVENTS[..], &["clearing"], &limits, &stops].concat(), 50);
+}
+
+/// One network is enough to notice most of the flaws.
+#[test]
+fn networks_handed_in_notice_flaws() {
+    for flaw in FLAWS {
+        let noticed = (0..100).filter(|&seed| one_network(&mut Random::new(190_000_000 + seed), Some(flaw)).is_err()).count();
+        println!("{flaw:?}: noticed in {noticed} of 100 networks");
+        assert!(noticed >= 8, "{flaw:?}: noticed in {noticed} of 100 networks");
+    }
+}

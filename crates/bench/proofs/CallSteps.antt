@@ -1,14 +1,13 @@
--- What `stepBy`, `runBy` and `freshBy` are, call by call, for whoever makes the calls in another form. Assumes nothing.
+-- What `stepBy` and `runBy` are, call by call, for whoever makes the calls in another form. Assumes nothing.
 use Prim.Native.Nat.{ℕ}
 use mathlib.Core.Path.{_≡_, refl}
 use mathlib.Core.List.{List, [], _∷_}
 use Rattle.bench.specs.Calls.{Call, change, update, cut, restore, send, deliver, repeat, lose, port, report, path}
 use Rattle.bench.specs.State.{State, state}
-use Rattle.bench.specs.Changes.{Changed, Rewritten, cutOf, restoreOf, updateOf, freshOf}
+use Rattle.bench.specs.Changes.{Changed, Rewritten, cutOf, restoreOf, updateOf}
 use Rattle.bench.specs.Flights.{Flown, sendOf, loseOf}
 use Rattle.bench.specs.Deliveries.{Delivered, deliverOf, repeatOf}
-use Rattle.bench.specs.Whole.{stepBy, runBy, freshBy}
-use Rattle.bench.specs.declared.Bench.{Bench}
+use Rattle.bench.specs.Whole.{stepBy, runBy}
 
 -- the state with what a call on the bench alone has made of it
 abbrev pub withChanged : State → Changed → State
@@ -84,10 +83,3 @@ module _ (s : State) where
   pub run-next : (c : Call) (cs : List Call) → runBy s (c ∷ cs) ≡ runBy (stepBy s c) cs
   unfolding runBy
   run-next c cs = refl
-
-pub fresh-leaves :
-    (b : Bench) (costs sent held messages : List ℕ) →
-    let o = freshOf b costs sent held in
-    freshBy b costs sent held messages ≡ state (o .bench) costs (o .sent) (o .held) messages
-unfolding freshBy
-fresh-leaves b costs sent held messages = refl

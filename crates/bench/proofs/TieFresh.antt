@@ -1,26 +1,96 @@
 -- What an accepted `fresh` leaves: the fresh network stands in it. Assumes nothing.
 use Prim.Native.Nat.{ℕ, _*_, _≤_, _<_}
 use native.Mathlib.Omega.{arith}
-use mathlib.Core.Path.{_≡_, refl, sym, _∙_}
+use mathlib.Core.Path.{_≡_, refl, sym, _∙_, ap}
 use mathlib.Core.Bool.{Bool, true, false, cond, _&&_}
 use mathlib.Core.List.{List}
 use borrow.Author.Tests.{leb-true, le-leb}
 use lib.ListN.{length, getD, replicate, getD-replicate}
 use lib.Dec.{leb}
+use Rattle.distances.specs.Call.{distancesOf}
+use Rattle.distances.specs.Table.{cell}
+use Rattle.distances.specs.View.{NONE}
 use Rattle.distances.proofs.Booleans.{both-true, true-both}
 use Rattle.agreement.specs.Record.{freshRecord}
 use Rattle.agreement.specs.Ranges.{recordInRange}
 use Rattle.agreement.specs.declared.EndRecord.{EndRecord}
-use Rattle.agreement.specs.Call.{lentOffer}
+use Rattle.agreement.specs.Call.{Lent, lent, lentOffer}
 use Rattle.agreement.proofs.InRange.{fresh-record-passes}
 use Rattle.bench.specs.Net.{fresh, distanceIn, offerIn}
-use Rattle.bench.specs.State.{State, state, lentView, messagesFrom}
+use Rattle.bench.specs.State.{State, state, part, lentView, distanceTable, messagesFrom}
 use Rattle.bench.specs.Ranges.{graphInRange, costsInRange, limitsLong}
 use Rattle.bench.specs.Changes.{Limits, limits, startedEnds, freshBench, rewritten, freshOf}
 use Rattle.bench.specs.Whole.{Represents, Typed, freshBy, planIn}
 use Rattle.bench.specs.declared.Bench.{Bench}
 use Rattle.bench.proofs.TieRanges.{LastingOf, StateReady, lasting-told, graph-kept, costs-kept, few, cost-at, view-in-range, lent-in-range, lent-offer-in, ready}
 use Rattle.bench.proofs.TieStarted.{Begun, begun-all}
+
+-- the limits of a fresh network stand in the two tables
+pub record FreshLimits (b : Bench) (costs sents helds : List ℕ) : Type 0 where
+  pub sentLong : 1024 ≤ length sents
+  pub heldLong : 1024 ≤ length helds
+  pub sent : (e d : ℕ) → e < 2 * b .links → d < b .bridges → cell sents e d ≡ lentOffer (lentView b costs 0) e d
+  pub held : (e d : ℕ) → e < 2 * b .links → d < b .bridges → cell helds e d ≡ NONE
+
+-- so does the fresh network, beside a fresh bench
+module _
+    (b : Bench)
+    (costs sent held messages : List ℕ)
+    (lasting : LastingOf b costs)
+    (limits : FreshLimits b costs sent held)
+    (room : 320 ≤ length messages) where
+  small : (b .bridges ≤ 16) × (b .links ≤ 32) × (2 * b .links ≤ length (b .ends))
+  small = few b costs lasting
+
+  abbrev freshState : State
+  freshState = state (freshBench b) costs sent held messages
+
+  bridge-fresh : (x y : ℕ) → y < b .bridges → getD (replicate 16 x) y 0 ≡ x
+  bridge-fresh x y h = getD-replicate 16 y x 0 (omega (arith, small .0))
+
+  end-fresh : (P : EndRecord → Type 0) → P freshRecord → (e : ℕ) → e < 2 * b .links → P (getD (replicate 64 freshRecord) e freshRecord)
+  end-fresh P new e h = rw (getD-replicate 64 e freshRecord freshRecord (omega (arith, small .1))) new
+
+  ready-after : StateReady freshState
+  ready-after =
+      record {
+        lasting = lasting;
+        sentLong = limits .sentLong;
+        heldLong = limits .heldLong;
+        count = omega arith;
+        view = λ y h. rw (bridge-fresh 0 y h) (lasting .viewsLeast);
+        records = end-fresh (λ (x : EndRecord). recordInRange (b .views) x ≡ true) (fresh-record-passes (b .views));
+        messagesLong = room;
+        message = λ p h. absurd (omega arith);
+      }
+
+  typed-after : Typed (freshBench b)
+  typed-after =
+      record {
+        views = refl;
+        numbers = refl;
+        records = refl;
+        cuts = refl;
+        number = λ y h. rw (bridge-fresh 1 y h) (omega arith);
+        received = end-fresh (λ (x : EndRecord). x .received < 65536) (omega arith);
+        discarded = end-fresh (λ (x : EndRecord). x .discarded < 65536) (omega arith);
+      }
+
+  pub fresh-stands : Represents freshState (fresh (planIn b costs))
+  unfolding fresh messagesFrom
+  fresh-stands =
+      record {
+        inRange = ready freshState ready-after;
+        typed = typed-after;
+        plan = refl;
+        view = λ y h. sym (bridge-fresh 0 y h);
+        number = λ y h. sym (bridge-fresh 1 y h);
+        cut = λ l h. sym (getD-replicate 32 l false false (omega (arith, small .1)));
+        ends = λ e h. sym (getD-replicate 64 e freshRecord freshRecord (omega (arith, small .1)));
+        sent = λ e d h k. sym (limits .sent e d h k ∙ lent-offer-in b costs lasting 0 (lasting .viewsLeast) e d h k);
+        held = λ e d h k. sym (limits .held e d h k);
+        messages = refl;
+      }
 
 module _ (b : Bench) (costs sent held : List ℕ) where
   abbrev freshReady : Bool
@@ -57,7 +127,7 @@ module _ (b : Bench) (costs sent held : List ℕ) where
       }
 
   -- where that is so, it is accepted
-  pub fresh-accepts : LastingOf b costs → 1024 ≤ length sent → 1024 ≤ length held → freshOf b costs sent held .reply ≡ 0
+  fresh-accepts : LastingOf b costs → 1024 ≤ length sent → 1024 ≤ length held → freshOf b costs sent held .reply ≡ 0
   unfolding freshOf limitsLong
   fresh-accepts lasting first second =
       rw (true-both (graph-kept b costs lasting)
@@ -80,59 +150,26 @@ module _ (b : Bench) (costs sent held : List ℕ) where
         (2 * b .links)
         (omega arith)
 
-    offer-after : (e d : ℕ) → e < 2 * b .links → d < b .bridges → lentOffer (lentView b costs 0) e d ≡ offerIn (planIn b costs) 0 e d
-    offer-after = lent-offer-in b costs (told .lasting) 0 (told .lasting .viewsLeast)
+    fresh-limits : FreshLimits b costs (begun .sent) (begun .held)
+    fresh-limits =
+        record {
+          sentLong = rw (limits-after .sentLong) (told .sentLong);
+          heldLong = rw (limits-after .heldLong) (told .heldLong);
+          sent = limits-after .sent;
+          held = limits-after .held;
+        }
 
-    module _ (messages : List ℕ) (room : 320 ≤ length messages) where
-      abbrev freshState : State
-      freshState = state (freshBench b) costs (begun .sent) (begun .held) messages
-
-      bridge-fresh : (x y : ℕ) → y < b .bridges → getD (replicate 16 x) y 0 ≡ x
-      bridge-fresh x y h = getD-replicate 16 y x 0 (omega (arith, counts .0))
-
-      end-fresh : (P : EndRecord → Type 0) → P freshRecord → (e : ℕ) → e < 2 * b .links → P (getD (replicate 64 freshRecord) e freshRecord)
-      end-fresh P new e h = rw (getD-replicate 64 e freshRecord freshRecord (omega (arith, counts .1))) new
-
-      ready-after : StateReady freshState
-      ready-after =
-          record {
-            lasting = told .lasting;
-            sentLong = rw (limits-after .sentLong) (told .sentLong);
-            heldLong = rw (limits-after .heldLong) (told .heldLong);
-            count = omega arith;
-            view = λ y h. rw (bridge-fresh 0 y h) (told .lasting .viewsLeast);
-            records = end-fresh (λ (x : EndRecord). recordInRange (b .views) x ≡ true) (fresh-record-passes (b .views));
-            messagesLong = room;
-            message = λ p h. absurd (omega arith);
-          }
-
-      typed-after : Typed (freshBench b)
-      typed-after =
-          record {
-            views = refl;
-            numbers = refl;
-            records = refl;
-            cuts = refl;
-            number = λ y h. rw (bridge-fresh 1 y h) (omega arith);
-            received = end-fresh (λ (x : EndRecord). x .received < 65536) (omega arith);
-            discarded = end-fresh (λ (x : EndRecord). x .discarded < 65536) (omega arith);
-          }
-
-      stands : Represents freshState (fresh (planIn b costs))
-      unfolding fresh messagesFrom
-      stands =
-          record {
-            inRange = ready freshState ready-after;
-            typed = typed-after;
-            plan = refl;
-            view = λ y h. sym (bridge-fresh 0 y h);
-            number = λ y h. sym (bridge-fresh 1 y h);
-            cut = λ l h. sym (getD-replicate 32 l false false (omega (arith, counts .1)));
-            ends = λ e h. sym (getD-replicate 64 e freshRecord freshRecord (omega (arith, counts .1)));
-            sent = λ e d h k. sym (limits-after .sent e d h k ∙ offer-after e d h k);
-            held = λ e d h k. sym (limits-after .held e d h k);
-            messages = refl;
-          }
+  -- what an accepted one leaves
+  pub fresh-opens :
+      LastingOf b costs →
+      1024 ≤ length sent →
+      1024 ≤ length held →
+      let o = freshOf b costs sent held in
+      (o .bench ≡ freshBench b) × FreshLimits b costs (o .sent) (o .held)
+  unfolding freshOf
+  fresh-opens lasting first second =
+      rw (fresh-passes (fresh-accepts lasting first second))
+      (refl, fresh-limits (record { lasting = lasting; sentLong = first; heldLong = second }))
 
   pub fresh-represents :
       (messages : List ℕ) →
@@ -140,4 +177,35 @@ module _ (b : Bench) (costs sent held : List ℕ) where
       320 ≤ length messages →
       Represents (freshBy b costs sent held messages) (fresh (planIn b costs))
   unfolding freshBy freshOf
-  fresh-represents messages e room = rw (fresh-passes e) (stands (fresh-told (fresh-passes e)) messages room)
+  fresh-represents messages e room =
+      let told = fresh-told (fresh-passes e) in
+      rw (fresh-passes e) (fresh-stands b costs (begun .sent) (begun .held) messages (told .lasting) (fresh-limits told) room)
+
+-- the view by the costs of its row
+row-same :
+    (bridges links : ℕ) (ends costs more : List ℕ) →
+    part 32 0 costs ≡ part 32 0 more →
+    lent bridges links ends (part 32 0 costs) (distanceTable bridges links ends costs 0)
+    ≡ lent bridges links ends (part 32 0 more) (distanceTable bridges links ends more 0)
+unfolding distanceTable
+row-same bridges links ends costs more = ap (λ (x : List ℕ). lent bridges links ends x (distancesOf bridges links ends x (replicate 256 0) .table))
+
+-- another bench over the same graph, and other costs with the same first row
+module _
+    (b c : Bench)
+    (costs more : List ℕ)
+    (bridges : b .bridges ≡ c .bridges)
+    (links : b .links ≡ c .links)
+    (ends : b .ends ≡ c .ends)
+    (row : part 32 0 costs ≡ part 32 0 more) where
+  lent-same : lentView b costs 0 ≡ lentView c more 0
+  lent-same = rw (bridges, links, ends) (row-same (c .bridges) (c .links) (c .ends) costs more row)
+
+  pub limits-same : (sent held : List ℕ) → FreshLimits b costs sent held → FreshLimits c more sent held
+  limits-same sent held l =
+      record {
+        sentLong = l .sentLong;
+        heldLong = l .heldLong;
+        sent = λ e d he hd. l .sent e d (rw links he) (rw bridges hd) ∙ ap (λ (v : Lent). lentOffer v e d) lent-same;
+        held = λ e d he hd. l .held e d (rw links he) (rw bridges hd);
+      }

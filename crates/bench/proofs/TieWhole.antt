@@ -1,10 +1,11 @@
 -- Demand 3 for whoever makes the calls one after the other: the network stands in the state after `fresh`, and after each call.
 -- Assumes nothing.
 use mathlib.Core.List.{List, [], _∷_}
-use Rattle.bench.specs.Net.{Network, fresh}
+use Rattle.bench.specs.Net.{Network, Plan, PlanInRange, fresh}
 use Rattle.bench.specs.Calls.{Call, change, send, deliver, repeat, lose, port, report, path, step, run}
+use Rattle.bench.specs.Demand3.{Holds}
 use Rattle.bench.specs.State.{State}
-use Rattle.bench.specs.Whole.{Represents, WholeLists, planIn, freshBy, stepBy, runBy}
+use Rattle.bench.specs.Whole.{Represents, Answers, WholeLists, planIn, freshBy, stepBy, runBy}
 use Rattle.bench.proofs.Theorem.{demand3}
 use Rattle.bench.proofs.TieRanges.{plan-in-range}
 use Rattle.bench.proofs.TieSteps.{change-represents, port-represents, report-represents, path-represents}
@@ -40,3 +41,11 @@ whole-lists b costs sent held messages done room cs =
     stood =
         run-represents cs (freshBy b costs sent held messages) (fresh (planIn b costs))
         (fresh-represents b costs sent held messages done room)
+
+-- whoever goes on from any state in which the fresh network stands has it too
+pub whole-from :
+    (s : State) (p : Plan) →
+    PlanInRange p →
+    Represents s (fresh p) →
+    (cs : List Call) → Holds p cs × Represents (runBy s cs) (run (fresh p) cs) × Answers (runBy s cs) (run (fresh p) cs)
+whole-from s p ok stands cs = let stood = run-represents cs s (fresh p) stands in (demand3 p ok cs, stood, answers _ _ stood)

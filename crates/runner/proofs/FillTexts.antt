@@ -11,6 +11,7 @@ use lib.Dec.{eqb, leb}
 use Rattle.distances.proofs.Booleans.{both-true, not-both}
 use Rattle.bench.specs.Paths as paths
 use Rattle.bench.specs.State.{State}
+use Rattle.bench.specs.Changes.{Rewritten}
 use Rattle.bench.specs.Answers.{reportOf, pathOf}
 use Rattle.bench.proofs.AnswerRanges.{report-few}
 use Rattle.plan.specs.Reading.{readReply}
@@ -21,9 +22,9 @@ use Rattle.plan.specs.declared.Read.{Read}
 use Rattle.plan.proofs.Laws.{field-size}
 use Rattle.text.specs.Lines.{endText, refusedText}
 use Rattle.text.proofs.Laws.{length-reportText, length-deliveredText, length-stopsText, length-endText, length-refusedText}
-use Rattle.runner.specs.Buffers.{Buffers, buffersLong, buffersWith, progressOf}
+use Rattle.runner.specs.Buffers.{Buffers, buffers, buffersLong, stateOn, buffersWith, progressOf}
 use Rattle.runner.specs.Events.{replyOf, rowsAfter, textOf, wayText, stateAfter}
-use Rattle.runner.specs.Turns.{Turn, turn, lastTurn, lastText, setupTurn, withBridges, withLink, withView, withRow, buffersWithCosts, opened, eventTurn, fieldTurn, readTurn, runnerInRange, stepOf}
+use Rattle.runner.specs.Turns.{Turn, turn, lastTurn, lastText, setupTurn, withBridges, withLink, withView, withRow, opened, viewTurn, eventTurn, fieldTurn, readTurn, runnerInRange, stepOf}
 use Rattle.runner.specs.Fills.{buffersWithOut}
 use Rattle.runner.specs.declared.Runner.{Runner}
 
@@ -68,38 +69,42 @@ pub record Texts (most : ℕ) (f : List ℕ → Turn) : Type 0 where
   pub short : length text ≤ 544
   pub is : (out : List ℕ) → 544 ≤ length out → f out ≡ turn reply going used (length text) runner (buffersWithOut (sets out 0 text) after)
 
-event-texts : (s : State) (e : Event) (used most : ℕ) (r : Runner) (k : Buffers) → used ≤ most → Texts most (λ out. eventTurn s e used r (buffersWithOut out k))
-unfolding eventTurn
-event-texts s e used most r k low = go (eqb (replyOf s (k .rows) e) 0) refl
-  where
-    go : (b : Bool) → eqb (replyOf s (k .rows) e) 0 ≡ b → Texts most (λ out. eventTurn s e used r (buffersWithOut out k))
-    go true q =
-        record {
-          reply = 0;
-          going = true;
-          used = used;
-          runner = record { bench = stateAfter s e .bench; stage = 3; events = r .events + 1; offset = r .offset + used };
-          after = buffersWith (stateAfter s e) (rowsAfter s (k .rows) e) [] k;
-          text = textOf s (k .rows) e;
-          fits = low;
-          short = text-short s (k .rows) e (eqb-true _ 0 q);
-          is = λ out long. rw q;
-        }
-    go false q =
-        record {
-          reply = replyOf s (k .rows) e;
-          going = false;
-          used = 0;
-          runner = record { bench = s .bench; stage = 3; events = r .events; offset = r .offset };
-          after = buffersWith s (k .rows) [] k;
-          text = refusedText (replyOf s (k .rows) e) (r .offset);
-          fits = omega arith;
-          short = length-refusedText (replyOf s (k .rows) e) (r .offset);
-          is = λ out long. rw q;
-        }
+module _ (e : Event) (used most : ℕ) (r : Runner) (k : Buffers) where
+  abbrev now : State
+  now = stateOn (r .bench) k
+
+  event-texts : used ≤ most → Texts most (λ out. eventTurn e used r (buffersWithOut out k))
+  unfolding eventTurn lastTurn
+  event-texts low = go (eqb (replyOf now (k .rows) e) 0) refl
+    where
+      go : (b : Bool) → eqb (replyOf now (k .rows) e) 0 ≡ b → Texts most (λ out. eventTurn e used r (buffersWithOut out k))
+      go true q =
+          record {
+            reply = 0;
+            going = true;
+            used = used;
+            runner = record { bench = stateAfter now e .bench; stage = 3; events = r .events + 1; offset = r .offset + used };
+            after = buffersWith (stateAfter now e) (rowsAfter now (k .rows) e) [] k;
+            text = textOf now (k .rows) e;
+            fits = low;
+            short = text-short now (k .rows) e (eqb-true _ 0 q);
+            is = λ out long. rw q;
+          }
+      go false q =
+          record {
+            reply = replyOf now (k .rows) e;
+            going = false;
+            used = 0;
+            runner = r;
+            after = k;
+            text = refusedText (replyOf now (k .rows) e) (r .offset);
+            fits = omega arith;
+            short = length-refusedText (replyOf now (k .rows) e) (r .offset);
+            is = λ out long. rw q;
+          }
 
 field-texts : (rest : List ℕ) (f : Field) (used most : ℕ) (r : Runner) (k : Buffers) → used ≤ most → Texts most (λ out. fieldTurn rest f used r (buffersWithOut out k))
-unfolding fieldTurn setupTurn opened
+unfolding fieldTurn setupTurn viewTurn
 field-texts rest (Field.Bridges n) used most r k low =
     record {
       reply = 0;
@@ -125,18 +130,20 @@ field-texts rest (Field.Link x y) used most r k low =
       is = λ out long. refl;
     }
 field-texts rest Field.View used most r k low =
+    let costs : List ℕ = withRow rest (r .bench) (k .costs) in
+    let network : Rewritten = opened (withView (r .bench)) costs (k .sent) (k .held) in
     record {
       reply = 0;
       going = true;
       used = used;
-      runner = record { bench = withView (r .bench); stage = 2; events = r .events; offset = r .offset + used };
-      after = buffersWithCosts (withRow rest (r .bench) (k .costs)) k;
+      runner = record { bench = network .bench; stage = 2; events = r .events; offset = r .offset + used };
+      after = buffers costs (network .sent) (network .held) (k .messages) (k .rows) (k .out);
       text = [];
       fits = low;
       short = omega arith;
       is = λ out long. refl;
     }
-field-texts rest (Field.Event e) used most r k low = event-texts (opened r k) e used most r k low
+field-texts rest (Field.Event e) used most r k low = event-texts e used most r k low
 
 -- the other buffers are long enough
 abbrev othersLong : Buffers → Bool

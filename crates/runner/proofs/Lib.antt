@@ -6,6 +6,7 @@ pub mod StepTurns
 pub mod RunSteps
 pub mod RunFuel
 pub mod RunEvents
+pub mod RunFresh
 pub mod RunSetup
 pub mod RunWhole
 pub mod FillTexts

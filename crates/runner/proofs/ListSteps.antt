@@ -23,7 +23,6 @@ use Rattle.runner.specs.Events.{replyOf, rowsAfter, textOf, wayText, sta
 use Rattle.runner.specs.Turns.{Turn, turn, eventTurn, fieldTurn, readTurn, runnerInRange, stepOf}
 use Rattle.runner.specs.Fills.{stepOn, stepsOn}
 use Rattle.runner.specs.Lists.{wayIn, eventText}
-use Rattle.runner.proofs.RunEvents.{opened-on}
 use Rattle.runner.proofs.FillTexts.{text-short}
 use Rattle.runner.proofs.FillTurns.{buffersBehind, next}
 
@@ -134,9 +133,9 @@ module _ (rest : List ℕ) (k : ℕ) (t : Turn) (roomy : Roomy rest (suc k) t) w
 
   module _ (e : Event) (used : ℕ) (read : readReply (drop (t .used) rest) (lists.progressOf (t .runner .bench)) ≡ Read.Field (Field.Event e) used) (ok : isMade (stateAt t) e ≡ true) where
     -- the event is the step's
-    step-is-event : next rest t ≡ eventTurn (stateAt t) e used (t .runner) (buffersBehind rest t)
+    step-is-event : next rest t ≡ eventTurn e used (t .runner) (buffersBehind rest t)
     unfolding stepOf readTurn fieldTurn
-    step-is-event = rw (in-range, long, progress-same, read, opened-on (t .runner) (buffersBehind rest t) (roomy .stage))
+    step-is-event = rw (in-range, long, progress-same, read)
 
     pub event-short : length (textOf (stateAt t) (t .buffers .rows) e) ≤ 544
     event-short = text-short (stateAt t) (t .buffers .rows) e (made-reply (stateAt t) (t .buffers .rows) e ok)

@@ -1,10 +1,9 @@
 -- From the first event on: the state at the end is what the calls make of the state now. Assumes nothing.
 use Prim.Native.Nat.{ℕ, zero, suc}
 use native.Mathlib.Omega.{arith}
-use mathlib.Core.Path.{_≡_, refl, sym, subst, _∙_}
+use mathlib.Core.Path.{_≡_, refl, sym, _∙_}
 use mathlib.Core.Bool.{Bool, true, false, cond}
 use mathlib.Core.List.{List, [], _∷_, _++_}
-use borrow.Author.Tests.{ne-eqb}
 use lib.ListN.{drop}
 use lib.Dec.{eqb}
 use Rattle.bench.specs.Calls.{Call}
@@ -19,7 +18,7 @@ use Rattle.plan.specs.declared.Read.{Read}
 use Rattle.plan.proofs.Laws.{Told, field-told}
 use Rattle.runner.specs.Buffers.{Buffers, stateOn, progressOf}
 use Rattle.runner.specs.Events.{replyOf}
-use Rattle.runner.specs.Turns.{Turn, lastTurn, eventTurn, fieldTurn, opened, stepOf}
+use Rattle.runner.specs.Turns.{Turn, lastTurn, eventTurn, fieldTurn, stepOf}
 use Rattle.runner.specs.Whole.{Place, place, stateAt, callRead, calls, leaves}
 use Rattle.runner.specs.declared.Runner.{Runner}
 use Rattle.runner.proofs.RunSteps.{Step, refused, ended, carried, step-is}
@@ -40,20 +39,27 @@ endAfter fuel rest t = cond (t .going) (leaves fuel (t .runner) (t .buffers) (dr
 abbrev pub Follows : ℕ → Type 0
 Follows fuel = (r : Runner) (k : Buffers) (rest : List ℕ) → r .stage ≡ 3 → Ran (stateOn (r .bench) k) (leaves fuel r k rest) (calls fuel r k rest)
 
-pub event-ran :
-    (fuel : ℕ) → Follows fuel → (s : State) (e : Event) (used : ℕ) (r : Runner) (k : Buffers) (rest : List ℕ) →
-    Ran s (endAfter fuel rest (eventTurn s e used r k)) (callsAfter fuel rest (callOf e ∷ []) (eventTurn s e used r k))
-unfolding eventTurn
-event-ran fuel follows s e used r k rest = go (eqb (replyOf s (k .rows) e) 0) refl
-  where
-    go : (b : Bool) → eqb (replyOf s (k .rows) e) 0 ≡ b → Ran s (endAfter fuel rest (eventTurn s e used r k)) (callsAfter fuel rest (callOf e ∷ []) (eventTurn s e used r k))
-    go true q = let n = follows _ _ (drop used rest) refl in rw q (record { state = n .state ∙ sym (run-next s (callOf e) _); stage = n .stage })
-    go false q = rw q (record { state = sym (run-none s); stage = refl })
+-- an event is carried out, or ends the plan
+abbrev pub accepts : Runner → Buffers → Event → Bool
+accepts r k e = eqb (replyOf (stateOn (r .bench) k) (k .rows) e) 0
 
--- at stage 3 none but an event is read, and the network stands already
-pub opened-on : (r : Runner) (k : Buffers) → r .stage ≡ 3 → opened r k ≡ stateOn (r .bench) k
-unfolding opened
-opened-on r k e = rw (ne-eqb (r .stage) 2 (omega arith))
+module _ (fuel : ℕ) (e : Event) (used : ℕ) (r : Runner) (k : Buffers) (rest : List ℕ) where
+  abbrev pub end : Place
+  end = endAfter fuel rest (eventTurn e used r k)
+
+  abbrev pub made : List Call
+  made = callsAfter fuel rest (callOf e ∷ []) (eventTurn e used r k)
+
+  pub event-ran : Follows fuel → accepts r k e ≡ true → Ran (stateOn (r .bench) k) end made
+  unfolding eventTurn
+  event-ran follows q =
+      let n = follows _ _ (drop used rest) refl in
+      rw q (record { state = n .state ∙ sym (run-next (stateOn (r .bench) k) (callOf e) _); stage = n .stage })
+
+  -- refused, it leaves network and runner as they were
+  pub event-stopped : accepts r k e ≡ false → (stateAt end ≡ stateOn (r .bench) k) × (end .runner .stage ≡ r .stage) × (made ≡ [])
+  unfolding eventTurn lastTurn
+  event-stopped q = rw q (refl, refl, refl)
 
 pub follows : (fuel : ℕ) → Follows fuel
 unfolding calls leaves lastTurn fieldTurn
@@ -70,5 +76,10 @@ follows (suc fuel) r k rest h = go (follows fuel) (step-is r k rest)
         field (Field.Bridges n) d e told = absurd (omega arith)
         field (Field.Link x y) d e told = absurd (omega arith)
         field Field.View d e told = absurd (omega arith)
-        field (Field.Event v) d e told =
-            rw (e, d) (subst (λ (s : State). Ran s (endAfter fuel rest (eventTurn (opened r k) v used r k)) (callsAfter fuel rest (callOf v ∷ []) (eventTurn (opened r k) v used r k))) (opened-on r k h) (event-ran fuel next (opened r k) v used r k rest))
+        field (Field.Event v) d e told = rw (e, d) (event v (accepts r k v) refl)
+          where
+            event : (v : Event) (b : Bool) → accepts r k v ≡ b → Ran (stateOn (r .bench) k) (end fuel v used r k rest) (made fuel v used r k rest)
+            event v true q = event-ran fuel v used r k rest next q
+            event v false q =
+                let left = event-stopped fuel v used r k rest q in
+                record { state = rw (left .2) (left .0 ∙ sym (run-none (stateOn (r .bench) k))); stage = left .1 ∙ h }

@@ -7,35 +7,34 @@ use mathlib.Core.Bool.{Bool, true, false, false≢true}
 use mathlib.Core.List.{List, _++_, append-nil}
 use lib.ListN.{length, take, drop, length-drop}
 use lib.Dec.{eqb}
-use Rattle.bench.specs.State.{State}
 use Rattle.distances.proofs.Booleans.{not-both}
 use Rattle.plan.specs.Reading.{readReply}
 use Rattle.plan.specs.declared.Event.{Event}
 use Rattle.plan.specs.declared.Field.{Field}
 use Rattle.plan.proofs.Laws.{field-size}
-use Rattle.runner.specs.Buffers.{Buffers, progressOf}
+use Rattle.runner.specs.Buffers.{Buffers, stateOn, progressOf}
 use Rattle.runner.specs.Events.{replyOf}
-use Rattle.runner.specs.Turns.{lastTurn, setupTurn, eventTurn, fieldTurn, stepOf}
+use Rattle.runner.specs.Turns.{lastTurn, setupTurn, viewTurn, eventTurn, fieldTurn, stepOf}
 use Rattle.runner.specs.Plans.{prints}
 use Rattle.runner.specs.Whole.{setupRead, calls, leaves, setsUp, Same, FuelEnough}
 use Rattle.runner.specs.declared.Runner.{Runner}
 use Rattle.runner.proofs.RunSteps.{Step, refused, ended, carried, step-is}
 
 -- the bytes of a field that goes on are those that were read
-event-used : (s : State) (e : Event) (used : ℕ) (r : Runner) (k : Buffers) → eventTurn s e used r k .going ≡ true → eventTurn s e used r k .used ≡ used
-unfolding eventTurn
-event-used s e used r k = go (eqb (replyOf s (k .rows) e) 0) refl
+event-used : (e : Event) (used : ℕ) (r : Runner) (k : Buffers) → eventTurn e used r k .going ≡ true → eventTurn e used r k .used ≡ used
+unfolding eventTurn lastTurn
+event-used e used r k = go (eqb (replyOf (stateOn (r .bench) k) (k .rows) e) 0) refl
   where
-    go : (b : Bool) → eqb (replyOf s (k .rows) e) 0 ≡ b → eventTurn s e used r k .going ≡ true → eventTurn s e used r k .used ≡ used
+    go : (b : Bool) → eqb (replyOf (stateOn (r .bench) k) (k .rows) e) 0 ≡ b → eventTurn e used r k .going ≡ true → eventTurn e used r k .used ≡ used
     go true q h = rw q
     go false q h = absurd (false≢true (rw q at h))
 
 field-used : (rest : List ℕ) (f : Field) (used : ℕ) (r : Runner) (k : Buffers) → fieldTurn rest f used r k .going ≡ true → fieldTurn rest f used r k .used ≡ used
-unfolding fieldTurn setupTurn
+unfolding fieldTurn setupTurn viewTurn
 field-used rest (Field.Bridges n) used r k e = refl
 field-used rest (Field.Link x y) used r k e = refl
 field-used rest Field.View used r k e = refl
-field-used rest (Field.Event v) used r k e = event-used _ v used r k e
+field-used rest (Field.Event v) used r k e = event-used v used r k e
 
 pub uses : (r : Runner) (k : Buffers) (rest : List ℕ) → stepOf r k rest .going ≡ true → length (drop (stepOf r k rest .used) rest) < length rest
 unfolding lastTurn

@@ -1,5 +1,5 @@
--- The setup of a plan: after any of its fields the bridge count, the ends of the links and the costs of the views are in range, so that
--- `fresh` accepts what stands where the first event comes. Assumes nothing.
+-- The setup of a plan: after any of its fields the bridge count, the ends of the links and the costs of the views are in range.
+-- Assumes nothing.
 use Prim.Native.Nat.{ℕ, _+_, _*_, _≤_, _<_}
 use native.Mathlib.Nat.{not-suc-le-zero}
 use native.Mathlib.Omega.{arith}
@@ -7,16 +7,15 @@ use mathlib.Core.Path.{_≡_, refl, _∙_}
 use mathlib.Core.Bool.{Bool, true, false}
 use mathlib.Core.List.{List, _++_}
 use borrow.Author.Tests.{eqb-true, eqb-false}
-use lib.ListN.{length, getD, set, take, length-set, length-replicate, List·getD-append}
+use lib.ListN.{length, getD, set, take, drop, length-set, length-append, length-drop, length-replicate, List·getD-append}
 use lib.Seq.{getD-take, getD-set-same, getD-set-other, getD-append-add, length-take-le}
 use lib.Dec.{eqb}
 use Rattle.distances.specs.Call.{graphPasses}
 use Rattle.distances.proofs.Ranges.{graph-made, costs-made}
 use Rattle.bench.specs.State.{part}
-use Rattle.bench.specs.Changes.{freshOf}
+use Rattle.bench.specs.Changes.{freshBench}
 use Rattle.bench.specs.declared.Bench.{Bench}
 use Rattle.bench.proofs.TieRanges.{part-at, part-length, LastingOf}
-use Rattle.bench.proofs.TieFresh.{fresh-accepts}
 use Rattle.plan.specs.Fields.{costIn}
 use Rattle.plan.specs.Reading.{costsReply}
 use Rattle.plan.proofs.CostRows.{row-length, row-cost}
@@ -43,6 +42,21 @@ row-new rest b costs l long most h =
     past (take (32 * b .views) costs) _ (32 * b .views) l (length-take-le (32 * b .views) costs (omega arith))
     ∙ List·getD-append (costsReply rest (b .links) row .row) _ 0 l (omega (arith, row-length rest (b .links) row))
     ∙ row-cost rest (b .links) row most (omega arith) l h
+
+pub row-kept : (rest : List ℕ) (b : Bench) (costs : List ℕ) → b .views < 32 → 1024 ≤ length costs → length (withRow rest b costs) ≡ length costs
+unfolding withRow
+row-kept rest b costs few long =
+    let row : List ℕ = part 32 (b .views) costs in
+    let size = part-length 32 (b .views) costs (omega arith) in
+    rw (
+      length-append (take (32 * b .views) costs) (costsReply rest (b .links) row .row ++ drop 32 (drop (32 * b .views) costs)),
+      length-append (costsReply rest (b .links) row .row) (drop 32 (drop (32 * b .views) costs)),
+      length-take-le (32 * b .views) costs (omega arith),
+      row-length rest (b .links) row,
+      size,
+      length-drop 32 (drop (32 * b .views) costs),
+      length-drop (32 * b .views) costs,
+    ) (omega arith)
 
 -- the ends of a link are two bridges
 pub record Joins (bridges a b : ℕ) : Type 0 where
@@ -155,6 +169,23 @@ module _ (stage : ℕ) (b : Bench) (costs : List ℕ) (s : Begun stage b costs) 
           let low : t < b .views = omega (arith, eqb-false t (b .views) q) in
           rw (row-old rest b costs (32 * t + l) (omega (arith, s .linksMost)) (omega (arith, told .room))) (s .cost t l low g)
 
+  -- `fresh` keeps them
+  pub fresh-begun : Begun stage (freshBench b) costs
+  fresh-begun =
+      record {
+        early = s .early;
+        least = s .least;
+        most = s .most;
+        unlinked = s .unlinked;
+        linksMost = s .linksMost;
+        unviewed = s .unviewed;
+        viewed = s .viewed;
+        viewsMost = s .viewsMost;
+        endsLong = s .endsLong;
+        joins = s .joins;
+        cost = s .cost;
+      }
+
   -- the ranges of the graph
   graph-passes : stage ≡ 2 → graphPasses (b .bridges) (b .links) (b .ends) ≡ true
   graph-passes e =
@@ -170,7 +201,7 @@ module _ (stage : ℕ) (b : Bench) (costs : List ℕ) (s : Begun stage b costs) 
       (omega (arith, s .linksMost, s .endsLong))
 
   -- what no call changes
-  lasts : stage ≡ 2 → 1024 ≤ length costs → LastingOf b costs
+  pub lasts : stage ≡ 2 → 1024 ≤ length costs → LastingOf b costs
   lasts e long =
       record {
         viewsLeast = s .viewed (omega arith);
@@ -183,8 +214,3 @@ module _ (stage : ℕ) (b : Bench) (costs : List ℕ) (s : Begun stage b costs) 
             costs-made (b .links) (part 32 t costs) (omega (arith, part-length 32 t costs (omega arith)))
             (λ l g. rw (part-at 32 t costs l (omega arith)) (s .cost t l h g));
       }
-
-  -- so `fresh` accepts them
-  pub begun-accepted : (sent held : List ℕ) → stage ≡ 2 → 1024 ≤ length costs → 1024 ≤ length sent → 1024 ≤ length held →
-      freshOf b costs sent held .reply ≡ 0
-  begun-accepted sent held e long = fresh-accepts b costs sent held (lasts e long)

@@ -1,35 +1,37 @@
--- Demand 3 for whoever hands over a plan: the setup leads to a network that `fresh` accepts, and the events are its calls.
+-- Demand 3 for whoever hands over a plan: the setup leads to a fresh network, and the events are its calls.
 -- Assumes nothing.
 use Prim.Native.Nat.{ℕ, zero, suc, _≤_}
 use native.Mathlib.Omega.{arith}
-use mathlib.Core.Path.{_≡_, refl, ap, _∙_}
+use mathlib.Core.Path.{_≡_, refl, subst}
 use mathlib.Core.Logic.{_⊎_, inl, inr}
-use mathlib.Core.Bool.{true}
+use mathlib.Core.Bool.{Bool, true, false}
 use mathlib.Core.List.{List, [], _∷_}
-use borrow.Author.Tests.{leb-true, eq-eqb}
+use borrow.Author.Tests.{leb-true}
 use lib.ListN.{length, drop}
 use lib.Dec.{leb}
 use Rattle.distances.proofs.Booleans.{both-true}
 use Rattle.bench.specs.Calls.{Call}
-use Rattle.bench.specs.Changes.{freshOf}
 use Rattle.bench.specs.Lists.{callOf}
-use Rattle.bench.specs.State.{State}
-use Rattle.bench.specs.Whole.{runBy}
-use Rattle.bench.proofs.CallSteps.{fresh-leaves}
-use Rattle.bench.proofs.TieWhole.{whole-lists}
+use Rattle.bench.specs.Net as net
+use Rattle.bench.specs.Whole.{runBy, Represents, planIn}
+use Rattle.bench.specs.declared.Bench.{Bench}
+use Rattle.bench.proofs.TieFresh.{fresh-stands}
+use Rattle.bench.proofs.TieRanges.{LastingOf, plan-in-range}
+use Rattle.bench.proofs.TieWhole.{whole-from}
 use Rattle.plan.specs.Reading.{readReply}
 use Rattle.plan.specs.declared.Event.{Event}
 use Rattle.plan.specs.declared.Field.{Field}
 use Rattle.plan.specs.declared.Read.{Read}
 use Rattle.plan.proofs.Laws.{Told, field-told}
-use Rattle.runner.specs.Buffers.{Buffers, buffersLong, progressOf}
-use Rattle.runner.specs.Turns.{lastTurn, setupTurn, eventTurn, fieldTurn, opened, stepOf}
+use Rattle.runner.specs.Buffers.{Buffers, buffersLong, stateOn, progressOf}
+use Rattle.runner.specs.Turns.{lastTurn, setupTurn, viewTurn, fieldTurn, stepOf}
 use Rattle.runner.specs.Plans.{firstRunner, firstBuffers}
-use Rattle.runner.specs.Whole.{Place, place, stateAt, freshAt, calls, leaves, setsUp, NoEvent, RunsFrom, PlanRuns}
+use Rattle.runner.specs.Whole.{Place, place, stateAt, planAt, calls, leaves, setsUp, NoEvent, RunsFrom, PlanRuns}
 use Rattle.runner.specs.declared.Runner.{Runner}
 use Rattle.runner.proofs.RunSteps.{Step, refused, ended, carried, step-is}
-use Rattle.runner.proofs.RunEvents.{endAfter, callsAfter, event-ran, follows}
-use Rattle.runner.proofs.RunSetup.{Begun, begun-first, bridges-begun, link-begun, view-begun, begun-accepted}
+use Rattle.runner.proofs.RunEvents.{accepts, end, made, event-ran, event-stopped, follows}
+use Rattle.runner.proofs.RunSetup.{Begun, row-kept, begun-first, bridges-begun, link-begun, lasts}
+use Rattle.runner.proofs.RunFresh.{Standing, view-stands}
 
 -- buffers that are long enough
 record Long (k : Buffers) : Type 0 where
@@ -52,64 +54,74 @@ long-told k e =
       messages = leb-true _ _ (five .0);
     }
 
-opened-fresh : (r : Runner) (k : Buffers) → r .stage ≡ 2 → opened r k ≡ freshAt (place r k)
-unfolding opened
-opened-fresh r k e = rw (eq-eqb (r .stage) 2 e, fresh-leaves)
-
--- an event came, and all but demand 3 itself
+-- events were carried out, and all but demand 3 itself
 record Opens (p : Place) (end : Place) (cs : List Call) : Type 0 where
   stage : end .runner .stage ≡ 3
-  accepted : freshOf (p .runner .bench) (p .buffers .costs) (p .buffers .sent) (p .buffers .held) .reply ≡ 0
-  room : 320 ≤ length (p .buffers .messages)
-  ran : stateAt end ≡ runBy (freshAt p) cs
+  inRange : net.PlanInRange (planAt p)
+  fresh : Represents (stateAt p) (net.fresh (planAt p))
+  ran : stateAt end ≡ runBy (stateAt p) cs
 
 abbrev Outcome : Place → Place → List Call → Type 0
 Outcome p end cs = NoEvent end cs ⊎ Opens p end cs
 
 abbrev SetUp : Runner → Buffers → Type 0
-SetUp r k = Begun (r .stage) (r .bench) (k .costs)
+SetUp r k = Standing (r .stage) (r .bench) (k .costs) (k .sent) (k .held)
 
 -- the first event
-first-event : (fuel : ℕ) (v : Event) (used : ℕ) (r : Runner) (k : Buffers) (rest : List ℕ) → SetUp r k → 2 ≤ r .stage → Long k →
-    Opens (place r k) (endAfter fuel rest (eventTurn (opened r k) v used r k)) (callsAfter fuel rest (callOf v ∷ []) (eventTurn (opened r k) v used r k))
-first-event fuel v used r k rest s ready long =
-    let two : r .stage ≡ 2 = omega (arith, s .early) in
-    let e = event-ran fuel (follows fuel) (opened r k) v used r k rest in
-    record {
-      accepted = begun-accepted _ _ _ s (k .sent) (k .held) two (long .costs) (long .sent) (long .held);
-      room = long .messages;
-      stage = e .stage;
-      ran = e .state ∙ ap (λ (x : State). runBy x (callsAfter fuel rest (callOf v ∷ []) (eventTurn (opened r k) v used r k))) (opened-fresh r k two);
-    }
+module _ (fuel : ℕ) (v : Event) (used : ℕ) (r : Runner) (k : Buffers) (rest : List ℕ) (s : SetUp r k) (ready : 2 ≤ r .stage) (long : Long k) where
+  two : r .stage ≡ 2
+  two = omega (arith, s .begun .early, ready)
+
+  lasting : LastingOf (r .bench) (k .costs)
+  lasting = lasts (r .stage) (r .bench) (k .costs) (s .begun) two (long .costs)
+
+  stands : Represents (stateAt (place r k)) (net.fresh (planAt (place r k)))
+  stands =
+      let was = s .stood two in
+      subst (λ (b : Bench). Represents (stateOn b k) (net.fresh (planIn b (k .costs)))) (was .bench)
+      (fresh-stands (r .bench) (k .costs) (k .sent) (k .held) (k .messages) lasting (was .limits) (long .messages))
+
+  first-event : Outcome (place r k) (end fuel v used r k rest) (made fuel v used r k rest)
+  first-event = go (accepts r k v) refl
+    where
+      go : (b : Bool) → accepts r k v ≡ b → Outcome (place r k) (end fuel v used r k rest) (made fuel v used r k rest)
+      go true q =
+          let e = event-ran fuel v used r k rest (follows fuel) q in
+          inr (record { stage = e .stage; inRange = plan-in-range (r .bench) (k .costs) lasting; fresh = stands; ran = e .state })
+      go false q =
+          let left = event-stopped fuel v used r k rest q in
+          inl (record { stage = omega (arith, left .1, two); none = left .2 })
 
 set-up : (fuel : ℕ) (r : Runner) (k : Buffers) (rest : List ℕ) → SetUp r k → Outcome (setsUp fuel r k rest) (leaves fuel r k rest) (calls fuel r k rest)
-unfolding setsUp leaves calls lastTurn fieldTurn setupTurn
-set-up zero r k rest s = inl (record { stage = omega (arith, s .early); none = refl })
+unfolding setsUp leaves calls lastTurn fieldTurn setupTurn viewTurn
+set-up zero r k rest s = inl (record { stage = omega (arith, s .begun .early); none = refl })
 set-up (suc fuel) r k rest s = go (set-up fuel) (step-is r k rest)
   where
     go : ((r : Runner) (k : Buffers) (rest : List ℕ) → SetUp r k → Outcome (setsUp fuel r k rest) (leaves fuel r k rest) (calls fuel r k rest)) → Step r k rest →
         Outcome (setsUp (suc fuel) r k rest) (leaves (suc fuel) r k rest) (calls (suc fuel) r k rest)
-    go next (refused e) = inl (rw e (record { stage = omega (arith, s .early); none = refl }))
-    go next (ended number d e) = inl (rw e (record { stage = omega (arith, s .early); none = refl }))
+    go next (refused e) = inl (rw e (record { stage = omega (arith, s .begun .early); none = refl }))
+    go next (ended number d e) = inl (rw e (record { stage = omega (arith, s .begun .early); none = refl }))
     go next (carried f used long d e) = field f d e (field-told rest (progressOf r) d)
       where
+        -- before the first view
+        early : {b : Bench} → Begun 1 b (k .costs) → Standing 1 b (k .costs) (k .sent) (k .held)
+        early now = record { begun = now; stood = λ h. absurd (omega arith) }
+
         field : (f : Field) → readReply rest (progressOf r) ≡ Read.Field f used → stepOf r k rest ≡ fieldTurn rest f used r k → Told rest (progressOf r) f →
             Outcome (setsUp (suc fuel) r k rest) (leaves (suc fuel) r k rest) (calls (suc fuel) r k rest)
-        field (Field.Bridges n) d e told = rw (e, d) (next _ _ (drop used rest) (bridges-begun _ _ _ s n (told .opening) (told .least) (told .most)))
+        field (Field.Bridges n) d e told = rw (e, d) (next _ _ (drop used rest) (early (bridges-begun _ _ _ (s .begun) n (told .opening) (told .least) (told .most))))
         field (Field.Link x y) d e told =
-            rw (e, d) (next _ _ (drop used rest) (link-begun _ _ _ s x y (told .counted) (told .room) (record { first = told .first; second = told .second; differ = told .differ })))
-        field Field.View d e told = rw (e, d) (next _ _ (drop used rest) (view-begun _ _ _ s rest told (long-told k long .costs)))
-        field (Field.Event v) d e told = rw (e, d) (inr (first-event fuel v used r k rest s told (long-told k long)))
+            rw (e, d) (next _ _ (drop used rest) (early (link-begun _ _ _ (s .begun) x y (told .counted) (told .room) (record { first = told .first; second = told .second; differ = told .differ }))))
+        field Field.View d e told =
+            let room = long-told k long in
+            rw (e, d) (next _ _ (drop used rest) (view-stands _ _ _ _ _ s rest told (room .costs) (rw (row-kept rest (r .bench) (k .costs) (told .room) (room .costs)) (room .costs)) (room .sent) (room .held)))
+        field (Field.Event v) d e told = rw (e, d) (first-event fuel v used r k rest s told (long-told k long))
 
 pub plan-runs : PlanRuns
-plan-runs plan = go _ _ _ (set-up (suc (length plan)) firstRunner firstBuffers plan begun-first)
+plan-runs plan = go _ _ _ (set-up (suc (length plan)) firstRunner firstBuffers plan (record { begun = begun-first; stood = λ h. absurd (omega arith) }))
   where
     go : (p end : Place) (cs : List Call) → Outcome p end cs → NoEvent end cs ⊎ RunsFrom p end cs
     go p end cs (inl n) = inl n
     go p end cs (inr o) =
-        inr (record {
-          stage = o .stage;
-          accepted = o .accepted;
-          ran = o .ran;
-          meets = whole-lists (p .runner .bench) (p .buffers .costs) (p .buffers .sent) (p .buffers .held) (p .buffers .messages) (o .accepted) (o .room) cs;
-        })
+        let all = whole-from (stateAt p) (planAt p) (o .inRange) (o .fresh) cs in
+        inr (record { stage = o .stage; fresh = o .fresh; ran = o .ran; holds = all .0; stands = rw (o .ran) (all .1); answers = rw (o .ran) (all .2) })

@@ -8,8 +8,8 @@ use borrow.Author.Tests.{leb-true, eq-eqb, ne-eqb}
 use lib.ListN.{length}
 use lib.Dec.{eqb, leb}
 use Rattle.distances.proofs.Booleans.{both-true}
-use Rattle.bench.specs.State.{State, state}
-use Rattle.bench.specs.Changes.{freshOf}
+use Rattle.bench.specs.State.{State}
+use Rattle.bench.specs.Changes.{Rewritten, rewritten}
 use Rattle.bench.specs.Lists.{callOf}
 use Rattle.bench.specs.declared.Bench.{Bench}
 use Rattle.bench.proofs.CallSteps.{step-lasting}
@@ -21,7 +21,7 @@ use Rattle.plan.specs.declared.Read.{Read}
 use Rattle.plan.proofs.Laws.{Told, field-size, field-told}
 use Rattle.runner.specs.Buffers.{Buffers, buffers, buffersLong, stateOn, progressOf}
 use Rattle.runner.specs.Events.{Happening, happenedOf, replyOf}
-use Rattle.runner.specs.Turns.{Turn, turn, lastTurn, lastText, setupTurn, Opened, openedAs, opened, openedOf, eventTurn, fieldTurn, readTurn, stepOf, stopNumber, runnerInRange, fieldFits}
+use Rattle.runner.specs.Turns.{Turn, turn, lastTurn, lastText, setupTurn, opened, openedAs, viewTurn, eventTurn, fieldTurn, readTurn, stepOf, stopNumber, runnerInRange, fieldFits}
 use Rattle.runner.specs.declared.Runner.{Runner}
 use Rattle.runner.proofs.StepRefused.{refused-state, refused-rows}
 
@@ -48,29 +48,12 @@ ended-on number text r k e =
 
 -- ---- events
 
--- the state that stands when the network was opened
-pub opened-state :
-    (r : Runner) (k : Buffers) {b : Bench} {sent held : List ℕ} →
-    openedAs b sent held ≡ openedOf r (buffers (k .costs) (k .sent) (k .held) [] [] []) →
-    state b (k .costs) sent held (k .messages) ≡ opened r k
-unfolding opened
-opened-state r k {b} {sent} {held} = go (eqb (r .stage) 2)
-  where
-    go :
-        (z : Bool) →
-        openedAs b sent held
-        ≡ (let o = freshOf (r .bench) (k .costs) (k .sent) (k .held) in
-        let s = cond z (state (o .bench) (k .costs) (o .sent) (o .held) []) (state (r .bench) (k .costs) (k .sent) (k .held) []) in
-        openedAs (s .bench) (s .sent) (s .held)) →
-        state b (k .costs) sent held (k .messages)
-        ≡ (let o = freshOf (r .bench) (k .costs) (k .sent) (k .held) in
-        cond z (state (o .bench) (k .costs) (o .sent) (o .held) (k .messages)) (stateOn (r .bench) k))
-    go true e = ap (λ (o : Opened). state (o .bench) (k .costs) (o .sent) (o .held) (k .messages)) e
-    go false e = ap (λ (o : Opened). state (o .bench) (k .costs) (o .sent) (o .held) (k .messages)) e
-
 -- what happened, carried into a turn
-module _ (s : State) (e : Event) (used : ℕ) (r : Runner) (k : Buffers) (h : Happening) (same : h ≡ happenedOf s (k .rows) (k .out) e) where
-  same-reply : h .reply ≡ replyOf s (k .rows) e
+module _ (e : Event) (used : ℕ) (r : Runner) (k : Buffers) (h : Happening) (same : h ≡ happenedOf (stateOn (r .bench) k) (k .rows) (k .out) e) where
+  abbrev now : State
+  now = stateOn (r .bench) k
+
+  same-reply : h .reply ≡ replyOf now (k .rows) e
   unfolding happenedOf
   same-reply = ap (λ (x : Happening). x .reply) same
 
@@ -78,21 +61,31 @@ module _ (s : State) (e : Event) (used : ℕ) (r : Runner) (k : Buffers) (h : Ha
       h .reply ≡ 0 →
       turn 0 true used (h .written)
       (record { bench = h .bench; stage = 3; events = r .events + 1; offset = r .offset + used })
-      (buffers (s .costs) (h .sent) (h .held) (h .messages) (h .rows) (h .out))
-      ≡ eventTurn s e used r k
+      (buffers (k .costs) (h .sent) (h .held) (h .messages) (h .rows) (h .out))
+      ≡ eventTurn e used r k
   unfolding happenedOf eventTurn
-  accepted-turn none = rw (same, eq-eqb _ 0 (sym same-reply ∙ none), step-lasting s (callOf e))
+  accepted-turn none = rw (same, eq-eqb _ 0 (sym same-reply ∙ none), step-lasting now (callOf e))
 
   pub refused-turn :
       (h .reply ≡ 0 → ⊥) →
-      lastTurn (h .reply) (lastText (h .reply) (r .events) (r .offset))
-      (record { bench = h .bench; stage = 3; events = r .events; offset = r .offset })
-      (buffers (s .costs) (h .sent) (h .held) (h .messages) (h .rows) (h .out))
-      ≡ eventTurn s e used r k
+      lastTurn (h .reply) (lastText (h .reply) (r .events) (r .offset)) r
+      (buffers (k .costs) (h .sent) (h .held) (h .messages) (h .rows) (h .out))
+      ≡ eventTurn e used r k
   unfolding happenedOf eventTurn lastTurn lastText
   refused-turn some =
-      let other : replyOf s (k .rows) e ≡ 0 → ⊥ = λ z. some (same-reply ∙ z) in
-      rw (same, ne-eqb _ 0 other, refused-state s (k .rows) e other, refused-rows s (k .rows) e other)
+      let other : replyOf now (k .rows) e ≡ 0 → ⊥ = λ z. some (same-reply ∙ z) in
+      rw (same, ne-eqb _ 0 other, refused-state now (k .rows) e other, refused-rows now (k .rows) e other)
+
+-- ---- a view
+
+-- what was opened, carried into a turn
+pub view-turn :
+    (used : ℕ) (r : Runner) (k : Buffers) (b : Bench) (costs : List ℕ) {bench : Bench} {sent held : List ℕ} →
+    rewritten 0 bench sent held ≡ openedAs (opened b costs (k .sent) (k .held)) →
+    setupTurn used bench 2 r (buffers costs sent held (k .messages) (k .rows) (k .out)) ≡ viewTurn used b costs r k
+unfolding viewTurn
+view-turn used r k b costs e =
+    ap (λ (o : Rewritten). setupTurn used (o .bench) 2 r (buffers costs (o .sent) (o .held) (k .messages) (k .rows) (k .out))) e
 
 -- ---- what a step's checks tell
 

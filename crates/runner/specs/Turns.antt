@@ -4,8 +4,8 @@ use mathlib.Core.Bool.{Bool, true, false, cond, _&&_}
 use mathlib.Core.List.{List, [], _∷_, _++_}
 use lib.ListN.{length, set, take, drop}
 use lib.Dec.{eqb, leb}
-use Rattle.bench.specs.State.{State, state, part}
-use Rattle.bench.specs.Changes.{freshOf}
+use Rattle.bench.specs.State.{State, part}
+use Rattle.bench.specs.Changes.{Rewritten, rewritten, freshOf}
 use Rattle.bench.specs.declared.Bench.{Bench}
 use Rattle.plan.specs.Reading.{readReply, costsReply}
 use Rattle.plan.specs.declared.Event.{Event}
@@ -88,34 +88,33 @@ withRow rest b costs =
     take (32 * b .views) costs
     ++ (costsReply rest (b .links) (part 32 (b .views) costs) .row ++ drop 32 (drop (32 * b .views) costs))
 
-abbrev pub buffersWithCosts : List ℕ → Buffers → Buffers
-buffersWithCosts costs k = buffers costs (k .sent) (k .held) (k .messages) (k .rows) (k .out)
+-- "A fresh network": it is made with the first view, which is all that it needs
+unfoldable pub opened : Bench → List ℕ → List ℕ → List ℕ → Rewritten
+opened b costs sent held = cond (eqb (b .views) 1) (freshOf b costs sent held) (rewritten 0 b sent held)
 
--- the network is fresh before the first event
-unfoldable pub opened : Runner → Buffers → State
-opened r k =
-    let o = freshOf (r .bench) (k .costs) (k .sent) (k .held) in
-    cond (eqb (r .stage) 2) (state (o .bench) (k .costs) (o .sent) (o .held) (k .messages)) (stateOn (r .bench) k)
+-- the plan goes on after a view of so many bytes: b and costs have the view
+unfoldable pub viewTurn : ℕ → Bench → List ℕ → Runner → Buffers → Turn
+viewTurn used b costs r k =
+    let o : Rewritten = opened b costs (k .sent) (k .held) in
+    setupTurn used (o .bench) 2 r (buffers costs (o .sent) (o .held) (k .messages) (k .rows) (k .out))
 
--- an event carried out on a state: accepted, it is counted and printed; refused, it ends the plan
-unfoldable pub eventTurn : State → Event → ℕ → Runner → Buffers → Turn
-eventTurn s e used r k =
+-- an event: accepted, it is counted and printed; refused, it ends the plan and leaves runner, network, messages and rows as they were
+unfoldable pub eventTurn : Event → ℕ → Runner → Buffers → Turn
+eventTurn e used r k =
+    let s : State = stateOn (r .bench) k in
     let reply : ℕ = replyOf s (k .rows) e in
     cond (eqb reply 0)
     (turn 0 true used (length (textOf s (k .rows) e))
     (record { bench = stateAfter s e .bench; stage = 3; events = r .events + 1; offset = r .offset + used })
     (buffersWith (stateAfter s e) (rowsAfter s (k .rows) e) (textOf s (k .rows) e) k))
-    (turn reply false 0 (length (refusedText reply (r .offset)))
-    (record { bench = s .bench; stage = 3; events = r .events; offset = r .offset })
-    (buffersWith s (k .rows) (refusedText reply (r .offset)) k))
+    (lastTurn reply (refusedText reply (r .offset)) r k)
 
 -- the field
 unfoldable pub fieldTurn : List ℕ → Field → ℕ → Runner → Buffers → Turn
 fieldTurn rest (Field.Bridges n) used r k = setupTurn used (withBridges (r .bench) n) 1 r k
 fieldTurn rest (Field.Link x y) used r k = setupTurn used (withLink (r .bench) x y) 1 r k
-fieldTurn rest Field.View used r k =
-    setupTurn used (withView (r .bench)) 2 r (buffersWithCosts (withRow rest (r .bench) (k .costs)) k)
-fieldTurn rest (Field.Event e) used r k = eventTurn (opened r k) e used r k
+fieldTurn rest Field.View used r k = viewTurn used (withView (r .bench)) (withRow rest (r .bench) (k .costs)) r k
+fieldTurn rest (Field.Event e) used r k = eventTurn e used r k
 
 -- the plan's last line: its proper end where the number is 0, else the refusal
 unfoldable pub lastText : ℕ → ℕ → ℕ → List ℕ
@@ -151,17 +150,9 @@ pub record SetUp : Type 0 where
 abbrev pub setUp : Bench → List ℕ → SetUp
 setUp bench costs = record { bench = bench; costs = costs }
 
--- the network that stands before an event: fresh before the first
-pub record Opened : Type 0 where
-  pub bench : Bench
-  pub sent : List ℕ
-  pub held : List ℕ
-
-abbrev pub openedAs : Bench → List ℕ → List ℕ → Opened
-openedAs bench sent held = record { bench = bench; sent = sent; held = held }
-
-abbrev pub openedOf : Runner → Buffers → Opened
-openedOf r k = let s : State = opened r k in openedAs (s .bench) (s .sent) (s .held)
+-- the bench and the limits that stand, whatever `fresh` replied
+abbrev pub openedAs : Rewritten → Rewritten
+openedAs o = rewritten 0 (o .bench) (o .sent) (o .held)
 
 -- what the reader has told of a field
 abbrev pub fieldFits : Bench → Field → Type 0

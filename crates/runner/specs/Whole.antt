@@ -6,11 +6,13 @@ use mathlib.Core.Logic.{_⊎_}
 use mathlib.Core.Bool.{Bool, true, false, cond, _&&_}
 use mathlib.Core.List.{List, [], _∷_, _++_}
 use lib.ListN.{length, drop}
-use Rattle.bench.specs.Calls.{Call}
-use Rattle.bench.specs.Changes.{freshOf}
+use Rattle.bench.specs.Net.{Plan}
+use Rattle.bench.specs.Net as net
+use Rattle.bench.specs.Calls.{Call, run}
+use Rattle.bench.specs.Demand3.{Holds}
 use Rattle.bench.specs.Lists.{callOf}
 use Rattle.bench.specs.State.{State}
-use Rattle.bench.specs.Whole.{runBy, freshBy, Meets}
+use Rattle.bench.specs.Whole.{runBy, Represents, Answers, planIn}
 use Rattle.plan.specs.Reading.{readReply}
 use Rattle.plan.specs.declared.Field.{Field}
 use Rattle.plan.specs.declared.Read.{Read}
@@ -53,9 +55,9 @@ place r k = record { runner = r; buffers = k }
 abbrev pub stateAt : Place → State
 stateAt p = stateOn (p .runner .bench) (p .buffers)
 
--- what `fresh` leaves of what was set up
-abbrev pub freshAt : Place → State
-freshAt p = freshBy (p .runner .bench) (p .buffers .costs) (p .buffers .sent) (p .buffers .held) (p .buffers .messages)
+-- the plan of the network that was set up
+abbrev pub planAt : Place → Plan
+planAt p = planIn (p .runner .bench) (p .buffers .costs)
 
 -- where the plan ends
 unfoldable pub leaves : ℕ → Runner → Buffers → List ℕ → Place
@@ -81,18 +83,20 @@ planStart plan = setsUp (suc (length plan)) firstRunner firstBuffers plan
 abbrev pub planEnd : List ℕ → Place
 planEnd plan = leaves (suc (length plan)) firstRunner firstBuffers plan
 
--- no event came: none was carried out or refused
+-- no event was carried out
 pub record NoEvent (end : Place) (cs : List Call) : Type 0 where
   pub stage : end .runner .stage < 3
   pub none : cs ≡ []
 
--- an event came: `fresh` accepts what was set up, and the state at the end is what the calls make of the fresh one; therefore demand 3
--- holds of the calls, and the network of Demand3 is the one that stands in the state at the end
+-- events were carried out: the fresh network stood before the first, and the state at the end is what the calls make of that state; therefore
+-- demand 3 holds of the calls, and the network of Demand3 is the one that stands in the state at the end, and the one that answers are about
 pub record RunsFrom (p : Place) (end : Place) (cs : List Call) : Type 0 where
   pub stage : end .runner .stage ≡ 3
-  pub accepted : freshOf (p .runner .bench) (p .buffers .costs) (p .buffers .sent) (p .buffers .held) .reply ≡ 0
-  pub ran : stateAt end ≡ runBy (freshAt p) cs
-  pub meets : Meets (p .runner .bench) (p .buffers .costs) (p .buffers .sent) (p .buffers .held) (p .buffers .messages) cs
+  pub fresh : Represents (stateAt p) (net.fresh (planAt p))
+  pub ran : stateAt end ≡ runBy (stateAt p) cs
+  pub holds : Holds (planAt p) cs
+  pub stands : Represents (stateAt end) (run (net.fresh (planAt p)) cs)
+  pub answers : Answers (stateAt end) (run (net.fresh (planAt p)) cs)
 
 abbrev pub PlanRuns : Type 0
 PlanRuns =

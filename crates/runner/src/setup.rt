@@ -1,12 +1,10 @@
 // Setup fields: the bridge count, links, views.
-use crate::Runner;
 use bench::Bench;
 ghost use mathlib.Core.Path.{_≡_};
-ghost use mathlib.Core.List.{[]};
 ghost use Prim.Native.Nat.{_≤_, _<_};
 ghost use lib.ListN.{length};
-ghost use Rattle.runner.specs.Buffers.{buffers};
-ghost use Rattle.runner.specs.Turns.{withBridges, withLink, withView, withRow, openedAs, openedOf};
+ghost use Rattle.bench.specs.Changes.{rewritten};
+ghost use Rattle.runner.specs.Turns.{withBridges, withLink, withView, withRow, opened, openedAs};
 
 pub(crate) fn with_bridges(bench: Bench, count: u8) -> Bench
     ensures { λ r. ⌜ r ≡ withBridges bench count ⌝ }
@@ -47,12 +45,11 @@ pub(crate) fn store_row(rest: &[u8], bench: Bench, costs: &mut [u32])
     plan::fields::read_costs(rest, bench.links, &mut costs[row..past]);
 }
 
-// The network is fresh before the first event.
-pub(crate) fn open(r: Runner, costs: &[u32], sent: &mut [u32], held: &mut [u32]) -> Bench
-    ensures { λ b. ⌜ openedAs b (now (sent .exit)) (now (held .exit)) ≡ openedOf r (buffers (now (costs .entry)) (now (sent .entry)) (now (held .entry)) [] [] []) ⌝ }
+// The network is fresh with the first view.
+pub(crate) fn open(bench: Bench, costs: &[u32], sent: &mut [u32], held: &mut [u32]) -> Bench
+    ensures { λ b. ⌜ rewritten 0 b (now (sent .exit)) (now (held .exit)) ≡ openedAs (opened bench (now (costs .entry)) (now (sent .entry)) (now (held .entry))) ⌝ }
 {
-    let bench = r.bench;
-    if r.stage == 2 {
+    if bench.views == 1 {
         let started = bench::changes::fresh(bench, costs, sent, held);
         started.bench
     } else {

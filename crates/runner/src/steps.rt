@@ -126,7 +126,7 @@ fn event_step(
     requires { ⌜ (r .offset ≤ 61440) × (r .events ≤ 61440) × (used ≤ 65538) × (32 ≤ length (now rows)) × (544 ≤ length (now out)) ⌝ }
     ensures { λ s. ⌜ turn (s .reply) (s .going) (s .used) (s .written) (s .runner) (buffers (now (costs .entry)) (now (sent .exit)) (now (held .exit)) (now (messages .exit)) (now (rows .exit)) (now (out .exit))) ≡ fieldTurn [] (Field.Event event) used r (buffers (now (costs .entry)) (now (sent .entry)) (now (held .entry)) (now (messages .entry)) (now (rows .entry)) (now (out .entry))) ⌝ }
 {
-    let bench = setup::open(r, costs, sent, held);
+    let bench = r.bench;
     let happened = happen(bench, costs, sent, held, messages, rows, out, event);
     let after = happened.bench;
     let number = happened.reply;
@@ -145,13 +145,7 @@ fn event_step(
             reply: 0,
         };
     }
-    let runner = Runner {
-        bench: after,
-        stage: 3,
-        events: r.events,
-        offset: r.offset,
-    };
-    ended(runner, number, out)
+    ended(r, number, out)
 }
 
 fn field_step(
@@ -176,7 +170,8 @@ fn field_step(
         Field::Link(first, second) => set_up(r, setup::with_link(bench, first, second), 1, used),
         Field::View => {
             setup::store_row(rest, bench, costs);
-            set_up(r, setup::with_view(bench), 2, used)
+            let viewed = setup::with_view(bench);
+            set_up(r, setup::open(viewed, costs, sent, held), 2, used)
         }
         Field::Event(event) => event_step(r, costs, sent, held, messages, rows, out, event, used),
     }

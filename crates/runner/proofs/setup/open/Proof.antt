@@ -1,4 +1,4 @@
--- `setup::open` meets its contract: fresh where no event was yet, else as it is. Assumes nothing.
+-- `setup::open` meets its contract: fresh with the first view, else as it is. Assumes nothing.
 use mathlib.Core.Path.{ap}
 use borrow.Author.Tests.{eq-eqb, ne-eqb}
 use borrow.Author.Needs.{needs}
@@ -18,11 +18,11 @@ same-length-2 c = search needs
 
 returns : tie.Need-returns
 unfolding opened
-returns c = rw (eq-eqb _ 2 (c .before .before .before .before .before .before .before .before .if1 .taken)) (ap (λ (o : Rewritten). openedAs (o .bench) (o .sent) (o .held)) (c .before .before .before .before .before .fresh .ensures .0))
+returns c = rw (eq-eqb _ 1 (c .before .before .before .before .before .before .before .before .if1 .taken)) (ap (λ (o : Rewritten). openedAs o) (c .before .before .before .before .before .fresh .ensures .0))
 
 returns-2 : tie.Need-returns-2
 unfolding opened
-returns-2 c = rw (ne-eqb _ 2 (c .if1 .left))
+returns-2 c = rw (ne-eqb _ 1 (c .if1 .left))
 
 pub open-spec : {M : Type 1} → statement M
 open-spec =

@@ -1,7 +1,9 @@
 -- `steps::field_step` meets its contract: each setup on all of the buffers, or an event. Assumes nothing.
+use mathlib.Core.Path.{_∙_}
 use borrow.Author.Needs.{needs}
+use Rattle.runner.specs.Buffers.{buffers}
 use Rattle.runner.specs.Turns.{fieldTurn}
-use Rattle.runner.proofs.StepTurns.{setup-on}
+use Rattle.runner.proofs.StepTurns.{setup-on, view-turn}
 use Rattle.runner.proofs.steps.field_step.Statement.{statement}
 use Rattle.runner.proofs.steps.field_step.Tie as tie
 
@@ -33,7 +35,7 @@ with-view-requires : tie.Need-with-view-requires
 with-view-requires c κs = rw (c .before .before .before .before .enum-told .given .1) at (c .before .before .before .before .before .before .before .before .before .before .before .before .before .before .pre .1)
 
 set-up-requires-3 : tie.Need-set-up-requires-3
-set-up-requires-3 c κs = search needs
+set-up-requires-3 c κs = (c .before .before .before .before .before .before .before .before .before .before .before .before .before .before .before .before .before .before .before .before .before .before .before .pre .0 .0, c .before .before .before .before .before .before .before .before .before .before .before .before .before .before .before .before .before .before .before .before .before .before .before .pre .0 .2)
 
 enum-known-field-3 : tie.Need-enum-known-field-3
 enum-known-field-3 c = search needs
@@ -54,7 +56,14 @@ same-length c = search needs
 
 returns-3 : tie.Need-returns-3
 unfolding fieldTurn
-returns-3 c = rw (c .before .before .before .before .before .before .enum-told .given .1, ← c .before .with-view .ensures, c .before .before .before .before .store-row .ensures) (setup-on _ _ _ _ _ (c .set-up3 .ensures))
+returns-3 c =
+    let a = c .before .before .before .before .before .before .before .before .before .before .before .before .before .before .before .before .before .before .before .before .before .before .before .before .args in
+    rw (c .before .before .before .before .before .before .before .before .before .before .before .before .before .before .enum-told .given .1, ← c .before .before .before .before .before .before .before .before .before .with-view .ensures, ← c .before .before .before .before .before .before .before .before .before .before .before .before .store-row .ensures)
+    (setup-on _ _ _ _ _ (c .set-up3 .ensures)
+    ∙ view-turn (a .used) (a .r) (buffers (a .costs .now) (a .sent .now) (a .held .now) (a .messages .now) (a .rows .now) (a .out .now)) _ _ (c .before .before .before .before .before .«open» .ensures))
+
+open-requires : tie.Need-open-requires
+open-requires c κs = search needs
 
 same-length-2 : tie.Need-same-length-2
 same-length-2 c = search needs
@@ -78,6 +87,12 @@ returns-4 : tie.Need-returns-4
 unfolding fieldTurn
 returns-4 c = rw (c .before .before .before .before .before .before .before .before .before .before .before .before .before .before .before .before .before .before .field3 .given .1) (c .before .before .before .before .before .before .before .before .before .before .event-step .ensures)
 
+same-length-8 : tie.Need-same-length-8
+same-length-8 c = search needs
+
+same-length-9 : tie.Need-same-length-9
+same-length-9 c = search needs
+
 pub field-step-spec : {M : Type 1} → statement M
 field-step-spec =
     tie.close
@@ -91,17 +106,20 @@ field-step-spec =
     enum-told
     store-row-requires
     with-view-requires
+    open-requires
     set-up-requires-3
     enum-known-field-3
     event-step-requires
     returns
     returns-2
     same-length
-    returns-3
     same-length-2
     same-length-3
+    returns-3
     same-length-4
     same-length-5
     same-length-6
     same-length-7
+    same-length-8
+    same-length-9
     returns-4)

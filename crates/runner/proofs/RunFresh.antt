@@ -1,0 +1,97 @@
+-- From the first view on the fresh network stands in what is set up. Assumes nothing.
+use Prim.Native.Nat.{ℕ, _+_, _*_, _≤_}
+use native.Mathlib.Omega.{arith}
+use mathlib.Core.Path.{_≡_, refl, sym, _∙_, ap}
+use mathlib.Core.Bool.{Bool, true, false, cond}
+use mathlib.Core.List.{List}
+use borrow.Author.Tests.{eqb-true, eqb-false}
+use lib.ListN.{length, take}
+use lib.Seq.{length-take-le, take-append-le, take-take}
+use lib.Dec.{eqb}
+use Rattle.bench.specs.State.{part}
+use Rattle.bench.specs.Changes.{Rewritten, rewritten, freshBench, freshOf}
+use Rattle.bench.specs.declared.Bench.{Bench}
+use Rattle.bench.proofs.TieFresh.{FreshLimits, fresh-opens, limits-same}
+use Rattle.plan.proofs.Laws.{ViewRead}
+use Rattle.runner.specs.Turns.{withView, withRow, opened}
+use Rattle.runner.proofs.RunSetup.{Begun, view-begun, fresh-begun, lasts}
+
+-- the bench and the limits are those of a fresh network
+pub record Stands (b : Bench) (costs sent held : List ℕ) : Type 0 where
+  pub bench : freshBench b ≡ b
+  pub limits : FreshLimits b costs sent held
+
+-- after a field of the setup
+pub record Standing (stage : ℕ) (b : Bench) (costs sent held : List ℕ) : Type 0 where
+  pub begun : Begun stage b costs
+  pub stood : stage ≡ 2 → Stands b costs sent held
+
+-- a further view leaves the first one's costs
+first-row : (rest : List ℕ) (b : Bench) (costs : List ℕ) → 1 ≤ b .views → 32 * b .views ≤ length costs → part 32 0 costs ≡ part 32 0 (withRow rest b costs)
+unfolding withRow
+first-row rest b costs some long =
+    sym (take-append-le 32 (take (32 * b .views) costs) _ (omega (arith, length-take-le (32 * b .views) costs long))
+    ∙ take-take 32 (32 * b .views) costs (omega arith))
+
+module _
+    (stage : ℕ)
+    (b : Bench)
+    (costs sent held : List ℕ)
+    (s : Standing stage b costs sent held)
+    (rest : List ℕ)
+    (told : ViewRead rest (record { stage = stage; bridges = b .bridges; links = b .links; views = b .views })) where
+  abbrev rows : List ℕ
+  rows = withRow rest b costs
+
+  abbrev network : Rewritten
+  network = opened (withView b) rows sent held
+
+  pub view-stands :
+      1024 ≤ length costs →
+      1024 ≤ length rows →
+      1024 ≤ length sent →
+      1024 ≤ length held →
+      Standing 2 (network .bench) rows (network .sent) (network .held)
+  unfolding opened
+  view-stands long rowsLong sentLong heldLong = go (eqb (b .views + 1) 1) refl
+    where
+      now : Begun 2 (withView b) rows
+      now = view-begun stage b costs (s .begun) rest told long
+
+      -- the first view
+      fresh-now : (o : Rewritten) → (o .bench ≡ freshBench (withView b)) × FreshLimits (withView b) rows (o .sent) (o .held) → Standing 2 (o .bench) rows (o .sent) (o .held)
+      fresh-now o told =
+          rw (told .0)
+          (record {
+            begun = fresh-begun 2 (withView b) rows now;
+            stood = λ h. record { bench = refl; limits = limits-same (withView b) (freshBench (withView b)) rows rows refl refl refl refl (o .sent) (o .held) (told .1) };
+          })
+
+      -- a further view
+      stood-still : 1 ≤ b .views → Stands b costs sent held → Standing 2 (withView b) rows sent held
+      stood-still some was =
+          record {
+            begun = now;
+            stood = λ h.
+                record {
+                  bench = ap (λ (x : Bench). withView x) (was .bench);
+                  limits = limits-same b (withView b) costs rows refl refl refl (first-row rest b costs some (omega (arith, told .room))) sent held (was .limits);
+                };
+          }
+
+      go : (q : Bool) → eqb (b .views + 1) 1 ≡ q →
+          let o : Rewritten = cond q (freshOf (withView b) rows sent held) (rewritten 0 (withView b) sent held) in
+          Standing 2 (o .bench) rows (o .sent) (o .held)
+      go true q = fresh-now (freshOf (withView b) rows sent held) (fresh-opens (withView b) rows sent held (lasts 2 (withView b) rows now refl rowsLong) sentLong heldLong)
+      go false q =
+          let some : 1 ≤ b .views = omega (arith, eqb-false (b .views + 1) 1 q) in
+          stood-still some (s .stood (two some))
+        where
+          two : 1 ≤ b .views → stage ≡ 2
+          two some = late (eqb stage 2) refl
+            where
+              late : (c : Bool) → eqb stage 2 ≡ c → stage ≡ 2
+              late true e = eqb-true stage 2 e
+              late false e =
+                  let none : b .views ≡ 0 = s .begun .unviewed (omega (arith, s .begun .early, eqb-false stage 2 e)) in
+                  absurd (omega arith)

@@ -19,35 +19,36 @@ extern "C" {
         messages_len: usize,
         rest: *const u8,
         rest_len: usize,
-        ways: *mut u32,
-        ways_len: usize,
+        answers: *mut u32,
+        answers_len: usize,
         out: *mut u32,
         out_len: usize,
     ) -> u8;
 }
 
-/// How many numbers `ways` has for each call.
-pub const WAY: usize = 3;
+/// The most events that are made at once, and how many numbers the counts take.
+pub const MOST_EVENTS: usize = 2_048;
+pub const COUNTS: usize = 3;
 
-/// All that is lent to a list of calls: a network, whose `out` takes the counts, the bytes that are left of a plan, and room for paths.
+/// All that is lent to a list of calls: a network, whose `out` takes the counts, the bytes that are left of a plan, and room for answers.
 #[derive(Clone, Debug)]
 pub struct List {
     pub lent: Lent,
     pub rest: Buffer<u8>,
-    pub ways: Buffer,
+    pub answers: Buffer,
 }
 
 impl List {
-    /// The calls that were made and the bytes that were used, where the reply was 0.
-    pub fn counts(&self) -> [usize; 2] {
-        [0, 1].map(|k| self.lent.out.numbers()[k] as usize)
+    /// The events that were made, the bytes that they take, and the numbers that they answered with.
+    pub fn counts(&self) -> [usize; COUNTS] {
+        [0, 1, 2].map(|k| self.lent.out.numbers()[k] as usize)
     }
 
     pub fn run(&mut self) -> u8 {
-        let List { lent, rest, ways } = self;
+        let List { lent, rest, answers } = self;
         let (b, c) = (lent.bench.numbers_mut(), lent.costs.numbers());
         let (s, h, m) = (lent.sent.numbers_mut(), lent.held.numbers_mut(), lent.messages.numbers_mut());
-        let (r, w, o) = (rest.numbers(), ways.numbers_mut(), lent.out.numbers_mut());
+        let (r, a, o) = (rest.numbers(), answers.numbers_mut(), lent.out.numbers_mut());
         // SAFETY: each pointer comes with the length of its buffer, and no two buffers share memory.
         unsafe {
             bench_net_run(
@@ -63,8 +64,8 @@ impl List {
                 m.len(),
                 r.as_ptr(),
                 r.len(),
-                w.as_mut_ptr(),
-                w.len(),
+                a.as_mut_ptr(),
+                a.len(),
                 o.as_mut_ptr(),
                 o.len(),
             )

@@ -1,9 +1,10 @@
 //! Random lists of events in bytes, whole ones and spoilt ones.
 
 use crate::guard::Buffer;
-use crate::list_call::{List, WAY};
+use crate::list_call::{List, MOST_EVENTS};
 use crate::model::{Call, Model};
-use crate::network_random::{pair, random_call};
+use crate::network_call::Lent;
+use crate::network_random::{pair, random_call, random_map};
 use crate::network_run::Run;
 use crate::plan_bytes::{event_field, field};
 use crate::random::Random;
@@ -47,7 +48,35 @@ fn make_calls(random: &mut Random, run: &mut Run) -> Result<(), String> {
     Ok(())
 }
 
-/// The fields of these calls. Refused ones and reports, which end a list, are kept always, now and then, or hardly ever.
+/// An event that the network refuses.
+pub fn refused_call(random: &mut Random, model: &Model) -> Call {
+    loop {
+        let call = random_call(random, &model.network);
+        if event_field(call).is_some() && model.clone().call(call).is_err() {
+            return call;
+        }
+    }
+}
+
+/// So many events, each of them accepted. The model goes to where they lead.
+pub fn accepted_calls(random: &mut Random, model: &mut Model, count: usize) -> Vec<Call> {
+    let mut calls = Vec::new();
+    while calls.len() < count {
+        let call = random_call(random, &model.network);
+        if event_field(call).is_some() && model.call(call).is_ok() {
+            calls.push(call);
+        }
+    }
+    calls
+}
+
+/// The fields of events.
+pub fn bytes_of(calls: &[Call]) -> Vec<u8> {
+    calls.iter().copied().filter_map(event_field).flatten().collect()
+}
+
+/// The fields of these calls. Refused ones and reports, which take much room, are kept always, now and then, or hardly ever. Now and then
+/// another refused one is the last.
 fn fields_of(random: &mut Random, calls: &[Call], mut model: Model) -> Vec<Vec<u8>> {
     let [refused, reports] = [0; 2].map(|_: u8| random.pick(&[1, 50, 1_000]));
     let mut fields = Vec::new();
@@ -60,6 +89,9 @@ fn fields_of(random: &mut Random, calls: &[Call], mut model: Model) -> Vec<Vec<u
         if random.one_in(rarely) {
             fields.extend(event_field(call));
         }
+    }
+    if random.one_in(4) {
+        fields.extend(event_field(refused_call(random, &model)));
     }
     fields
 }
@@ -95,10 +127,11 @@ fn spoil(random: &mut Random, fields: &mut Vec<Vec<u8>>, links: usize) {
     }
 }
 
-/// Room for some calls, or for all, with unlike numbers in it.
-pub fn random_ways(random: &mut Random) -> Buffer {
-    let most = random.pick(&[2, 5, 50, 200, 200]);
-    let length = WAY * random.below(most) + random.below(WAY);
+/// Room for the answers of no event, of some, or of all of them, with unlike numbers in it.
+fn random_answers(random: &mut Random, rest: &[u8]) -> Buffer {
+    // an event of 4 bytes answers with up to 32 numbers
+    let most = random.pick(&[1, 4, 40, 400, 400, 8 * rest.len() + 1, 8 * rest.len() + 1]);
+    let length = random.below(most);
     Buffer::of(&random.numbers(length))
 }
 
@@ -114,5 +147,32 @@ pub fn random_list(random: &mut Random, run: &mut Run) -> Result<(Model, List), 
     if !fields.is_empty() && random.one_in(2) {
         spoil(random, &mut fields, run.map().link_count());
     }
-    Ok((model, List { lent, rest: Buffer::of(&fields.concat()), ways: random_ways(random) }))
+    Ok((model, list_of(random, lent, &fields.concat())))
+}
+
+/// The same with more events than are made at once, one of them refused.
+fn long_list(random: &mut Random, run: &Run) -> (Model, List) {
+    let mut model = run.model.clone();
+    let count = MOST_EVENTS + random.below(MOST_EVENTS);
+    let before = random.below(count);
+    let mut calls = accepted_calls(random, &mut model, before);
+    calls.push(refused_call(random, &model));
+    calls.extend(accepted_calls(random, &mut model, count - before));
+    (run.model.clone(), list_of(random, run.found.clone(), &bytes_of(&calls)))
+}
+
+/// A list on a random network, fresh or handed in, now and then a long one.
+pub fn random_start(random: &mut Random) -> Result<(Model, List), String> {
+    let map = random_map(random);
+    let start = if random.one_in(3) { Run::handed_in } else { Run::fresh };
+    let mut run = start(random, &map)?;
+    if random.one_in(50) {
+        return Ok(long_list(random, &run));
+    }
+    random_list(random, &mut run)
+}
+
+/// A list of these bytes, with any room.
+pub fn list_of(random: &mut Random, lent: Lent, rest: &[u8]) -> List {
+    List { lent, rest: Buffer::of(rest), answers: random_answers(random, rest) }
 }

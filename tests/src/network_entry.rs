@@ -68,6 +68,11 @@ pub fn is_counted(lent: &Lent, place: usize) -> bool {
     }
 }
 
+/// Do the numbers hold a bench, of whatever counts.
+pub(crate) fn holds_bench(lent: &Lent) -> bool {
+    lent.bench.numbers().len() >= BENCH && bench_fits(lent)
+}
+
 /// Each number fits its field, also past the counts.
 fn bench_fits(lent: &Lent) -> bool {
     let bench = lent.bench.numbers();

@@ -11,7 +11,7 @@ pub fn name(call: Call) -> String {
 }
 
 /// What is counted of a call.
-pub(crate) fn event(call: Call, outcome: &Outcome) -> String {
+pub fn event(call: Call, outcome: &Outcome) -> String {
     let what = match (call, outcome) {
         (_, Err(number)) => number.to_string(),
         (_, Ok(Reply::Done)) => "done".into(),

@@ -46,7 +46,7 @@ fn every_call_on_networks_handed_in() {
         met.add(&one_network(&mut Random::new(seed), None).unwrap_or_else(|difference| panic!("seed {seed}: {difference}")));
     }
     let limits = ["Any limits", "Loose limits", "Near limits"];
-    let stops = ["list to End", "list to Room", "list to Report", "list to Refused", "list to NoEvent"];
+    let stops = ["list to End", "list to NoEvent", "list to Room", "list to Refused"];
     met.only("handed in", &[&EVENTS[..], &["clearing"], &limits, &stops].concat(), 50);
 }
 

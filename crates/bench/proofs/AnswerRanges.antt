@@ -9,19 +9,20 @@ use lib.ListN.{length}
 use lib.Dec.{eqb, leb}
 use Rattle.distances.proofs.Booleans.{both-true}
 use Rattle.agreement.specs.Call.{Said, says}
-use Rattle.bench.specs.Calls as calls
-use Rattle.bench.specs.Calls.{refuse, checks}
-use Rattle.bench.specs.Ports.{Hop, stays, crosses}
-use Rattle.bench.specs.Paths.{Way, delivered, stops, follow, onward, hops}
+use Rattle.protocol.specs.Calls as calls
+use Rattle.protocol.specs.Calls.{refuse, checks}
+use Rattle.protocol.specs.Ports.{Hop, stays, crosses}
+use Rattle.protocol.specs.Paths.{Way, delivered, stops, follow, onward, hops}
 use Rattle.bench.specs.State.{State, network}
 use Rattle.bench.specs.Changes.{refusalOf, stateInRange}
 use Rattle.bench.specs.Deliveries.{refusedBy}
-use Rattle.bench.specs.Answers.{report, reported, reportOf, hopIn, pathOf}
+use Rattle.bench.specs.Answers.{WayFits, waySays, report, reported, reportOf, hopIn, pathOf}
 use Rattle.bench.specs.Steps.{Ready}
+use Rattle.bench.specs.declared.Way as code
 use Rattle.bench.proofs.EntrySettled.{reply-is}
 use Rattle.bench.proofs.FlightCalls.{refusal-none, said-same}
 use Rattle.bench.proofs.FlightRanges.{network-told}
-use Rattle.bench.proofs.PathEnds.{onward-short}
+use Rattle.protocol.proofs.PathEnds.{onward-short}
 use Rattle.bench.proofs.WalkSteps.{hop-leads, bridge-listed}
 
 -- a way that stops, at a bridge
@@ -79,3 +80,11 @@ module _ (s : State) where
       let none : k ≡ 0 = sym (reply-is (λ o. o .reply) k (λ j. report j rows) (report 0 (reported s d (s .bench .bridges) rows)) (λ j. refl) (λ z. refl)) ∙ e in
       let ready = network-told _ (s .costs) _ _ (both-true (stateInRange s) _ (refusal-none ok (network s) (calls.report d) none .0) .0) in
       ready .fewBridges
+
+-- a path's numbers are few
+pub way-fits : (s : State) (y d : ℕ) (answer : code.Way) → waySays answer ≡ pathOf s y d → WayFits answer
+way-fits s y d (code.Way.Refused k) e = tt
+way-fits s y d (code.Way.Delivered h) e = let told = path-told s y d _ (sym e) in omega (arith, told .few, told .short)
+way-fits s y d (code.Way.Stops last h) e =
+    let told = path-told s y d _ (sym e) in
+    (omega (arith, told .few, told .last), omega (arith, told .few, told .short))

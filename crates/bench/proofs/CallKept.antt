@@ -1,15 +1,18 @@
 -- A call that is answered with another number than 0 leaves the state as it was, and a report the lent rows. Assumes nothing.
 use Prim.Native.Nat.{ℕ, _<_}
 use native.Mathlib.Omega.{arith}
-use mathlib.Core.Path.{_≡_, refl, ap}
+use mathlib.Core.Path.{_≡_, refl, sym, ap, _∙_}
 use mathlib.Core.Bool.{Bool, true, false, cond, _&&_}
 use mathlib.Core.List.{List, [], _∷_}
 use lib.ListN.{length, getD}
 use lib.Dec.{eqb, leb}
 use Rattle.agreement.specs.Offer.{opposite}
-use Rattle.bench.specs.Net.{sender}
-use Rattle.bench.specs.Calls.{Call, Check, change, update, cut, restore, send, deliver, repeat, lose, refuse, checks, noMessage}
-use Rattle.bench.specs.Calls as calls
+use Rattle.agreement.specs.Call.{Said, says}
+use Rattle.agreement.specs.declared.Answer.{Answer}
+use borrow.Author.Tests.{eq-eqb}
+use Rattle.protocol.specs.Net.{sender}
+use Rattle.protocol.specs.Calls.{Call, Check, change, update, cut, restore, send, deliver, repeat, lose, refuse, checks, noMessage}
+use Rattle.protocol.specs.Calls as calls
 use Rattle.bench.specs.State.{State, network, networkOf, messageFrom}
 use Rattle.bench.specs.Ranges.{benchInRange, messagesInRange}
 use Rattle.bench.specs.Changes.{Changed, changed, Rewritten, rewritten, refusalOf, orRefused, stateInRange, updateOf, cutOf, restoreOf}
@@ -17,14 +20,14 @@ use Rattle.bench.specs.Flights.{Flown, flown, sendOf, loseOf}
 use Rattle.bench.specs.Deliveries.{Delivered, received, deliveryReady, deliveryRefused, deliverOf, repeatOf}
 use Rattle.bench.specs.Answers.{Reported, report, reportOf}
 use Rattle.bench.specs.Whole.{stepBy}
-use Rattle.bench.proofs.Accepted.{place-listed}
+use Rattle.protocol.proofs.Accepted.{place-listed}
 use Rattle.bench.proofs.CallSteps.{withChanged, withRewritten, withFlown, withDelivered}
-use Rattle.bench.proofs.EntrySettled.{reply-some}
+use Rattle.bench.proofs.EntrySettled.{reply-is, reply-some}
 use Rattle.bench.proofs.FlightCalls.{refusal-none}
 use Rattle.bench.proofs.TieChecks.{message-told}
 use Rattle.bench.proofs.TieFlights.{messages-length}
 use Rattle.bench.proofs.TieRanges.{told}
-use Rattle.bench.proofs.TieReceived.{received-taken}
+use Rattle.bench.proofs.TieReceived.{received-says}
 
 -- an accepted update, moved or not
 either-accepted : (b : Bool) (x y : Rewritten) → x .reply ≡ 0 → y .reply ≡ 0 → cond b x y .reply ≡ 0
@@ -44,6 +47,20 @@ module _ (s : State) where
 
   abbrev benchNumber : Call → ℕ
   benchNumber c = refusalOf (benchInRange (s .bench)) (networkOf (s .bench) []) c
+
+  pub cut-number : (l : ℕ) → cutOf (s .bench) l .reply ≡ benchNumber (change (cut l))
+  unfolding cutOf
+  cut-number l = reply-is (λ o. o .reply) _ (λ k. changed k (s .bench)) _ (λ j. refl) (λ z. refl)
+
+  pub restore-number : (l : ℕ) → restoreOf (s .bench) l .reply ≡ benchNumber (change (restore l))
+  unfolding restoreOf
+  restore-number l = reply-is (λ o. o .reply) _ (λ k. changed k (s .bench)) _ (λ j. refl) (λ z. refl)
+
+  pub update-number : (y t : ℕ) → updateOf s y t .reply ≡ refusalOf (stateInRange s) (network s) (change (update y t))
+  unfolding updateOf
+  update-number y t =
+      reply-is (λ o. o .reply) _ (λ k. rewritten k (s .bench) (s .sent) (s .held)) _ (λ j. refl)
+      (λ z. either-accepted (eqb (getD (s .bench .view) y 0) t) _ _ refl refl)
 
   pub cut-kept : (l : ℕ) → (cutOf (s .bench) l .reply ≡ 0 → ⊥) → stepBy s (change (cut l)) ≡ s
   unfolding stepBy cutOf
@@ -74,6 +91,14 @@ module _ (s : State) where
   abbrev flightNumber : Call → ℕ
   flightNumber c = refusalOf (benchInRange (s .bench) && messagesInRange (s .bench) (s .messages)) (networkOf (s .bench) (s .messages)) c
 
+  pub send-number : (y l : ℕ) → sendOf (s .bench) (s .messages) y l .reply ≡ flightNumber (send y l)
+  unfolding sendOf
+  send-number y l = reply-is (λ o. o .reply) _ (λ k. flown k (s .bench) (s .messages)) _ (λ j. refl) (λ z. refl)
+
+  pub lose-number : (p : ℕ) → loseOf (s .bench) (s .messages) p .reply ≡ flightNumber (lose p)
+  unfolding loseOf
+  lose-number p = reply-is (λ o. o .reply) _ (λ k. flown k (s .bench) (s .messages)) _ (λ j. refl) (λ z. refl)
+
   pub send-kept : (y l : ℕ) → (sendOf (s .bench) (s .messages) y l .reply ≡ 0 → ⊥) → stepBy s (send y l) ≡ s
   unfolding stepBy sendOf
   send-kept y l = flown-kept (flightNumber (send y l)) _ refl
@@ -85,17 +110,50 @@ module _ (s : State) where
   -- ---- deliveries
 
   -- layer 2 takes the message at a place that the table lets pass
+  placed-says :
+      (p : ℕ) (c : Call) (cs : List Check) →
+      checks (network s) c ≡ noMessage (network s) p ∷ cs →
+      refusalOf (deliveryReady s) (network s) c ≡ 0 →
+      (a : Answer) × (received s p .reply ≡ says a)
+  unfolding refuse
+  placed-says p c cs asks none =
+      let h = refusal-none (deliveryReady s) (network s) c none in
+      let low : p < s .bench .messages = rw messages-length at (place-listed (network s) p cs (rw asks at (h .1))) in
+      let inside = message-told _ _ (messageFrom (s .messages) p) (told s (h .0) .message p low) in
+      received-says s (told s (h .0)) (opposite (sender (messageFrom (s .messages) p))) (omega (arith, inside .link, inside .direction)) _ inside
+
   placed-taken :
       (p : ℕ) (c : Call) (cs : List Check) →
       checks (network s) c ≡ noMessage (network s) p ∷ cs →
       refusalOf (deliveryReady s) (network s) c ≡ 0 →
       received s p .reply .number ≡ 0
-  unfolding refuse
-  placed-taken p c cs asks none =
-      let h = refusal-none (deliveryReady s) (network s) c none in
-      let low : p < s .bench .messages = rw messages-length at (place-listed (network s) p cs (rw asks at (h .1))) in
-      let inside = message-told _ _ (messageFrom (s .messages) p) (told s (h .0) .message p low) in
-      received-taken s (told s (h .0)) (opposite (sender (messageFrom (s .messages) p))) (omega (arith, inside .link, inside .direction)) _ inside
+  placed-taken p c cs asks none = ap (λ (o : Said Answer). o .number) (placed-says p c cs asks none .1)
+
+  pub deliver-number : (p : ℕ) → deliverOf s p .reply .number ≡ refusalOf (deliveryReady s) (network s) (deliver p)
+  unfolding deliverOf checks
+  deliver-number p = reply-is (λ o. o .reply .number) _ (deliveryRefused s) _ (λ j. refl) (placed-taken p (deliver p) _ refl)
+
+  pub repeat-number : (p : ℕ) → repeatOf s p .reply .number ≡ refusalOf (deliveryReady s) (network s) (repeat p)
+  unfolding repeatOf checks
+  repeat-number p = reply-is (λ o. o .reply .number) _ (deliveryRefused s) _ (λ j. refl) (placed-taken p (repeat p) _ refl)
+
+  -- one that is accepted brings its answer
+  accepted-says : (k : ℕ) (done : Delivered) (a : Answer) → k ≡ 0 → done .reply ≡ says a → orRefused k (deliveryRefused s) done .reply ≡ says a
+  accepted-says k done a none is = rw (eq-eqb k 0 none) is
+
+  pub deliver-says : (p : ℕ) → deliverOf s p .reply .number ≡ 0 → (a : Answer) × (deliverOf s p .reply ≡ says a)
+  unfolding deliverOf checks
+  deliver-says p e =
+      let none : refusalOf (deliveryReady s) (network s) (deliver p) ≡ 0 = sym (deliver-number p) ∙ e in
+      let h = placed-says p (deliver p) _ refl none in
+      (h .0, accepted-says _ _ (h .0) none (h .1))
+
+  pub repeat-says : (p : ℕ) → repeatOf s p .reply .number ≡ 0 → (a : Answer) × (repeatOf s p .reply ≡ says a)
+  unfolding repeatOf checks
+  repeat-says p e =
+      let none : refusalOf (deliveryReady s) (network s) (repeat p) ≡ 0 = sym (repeat-number p) ∙ e in
+      let h = placed-says p (repeat p) _ refl none in
+      (h .0, accepted-says _ _ (h .0) none (h .1))
 
   delivered-kept :
       (c : Call) (done : Delivered) →
@@ -104,6 +162,24 @@ module _ (s : State) where
       (o .reply .number ≡ 0 → ⊥) →
       withDelivered s o ≡ s
   delivered-kept c done zero some = ap (withDelivered s) (reply-some (λ o. o .reply .number) _ (deliveryRefused s) done (λ j. refl) zero some)
+
+  -- and one that is refused brings none
+  refused-silent :
+      (c : Call) (done : Delivered) →
+      (refusalOf (deliveryReady s) (network s) c ≡ 0 → done .reply .number ≡ 0) →
+      let o : Delivered = orRefused (refusalOf (deliveryReady s) (network s) c) (deliveryRefused s) done in
+      (o .reply .number ≡ 0 → ⊥) →
+      o .reply .value ≡ []
+  refused-silent c done zero some =
+      ap (λ (o : Delivered). o .reply .value) (reply-some (λ o. o .reply .number) _ (deliveryRefused s) done (λ j. refl) zero some)
+
+  pub deliver-silent : (p : ℕ) → (deliverOf s p .reply .number ≡ 0 → ⊥) → deliverOf s p .reply .value ≡ []
+  unfolding deliverOf checks
+  deliver-silent p = refused-silent (deliver p) _ (placed-taken p (deliver p) _ refl)
+
+  pub repeat-silent : (p : ℕ) → (repeatOf s p .reply .number ≡ 0 → ⊥) → repeatOf s p .reply .value ≡ []
+  unfolding repeatOf checks
+  repeat-silent p = refused-silent (repeat p) _ (placed-taken p (repeat p) _ refl)
 
   pub deliver-kept : (p : ℕ) → (deliverOf s p .reply .number ≡ 0 → ⊥) → stepBy s (deliver p) ≡ s
   unfolding stepBy deliverOf checks

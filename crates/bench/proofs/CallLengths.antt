@@ -13,7 +13,7 @@ use Rattle.agreement.specs.declared.Agreement.{Agreement}
 use Rattle.agreement.specs.declared.EndRecord.{EndRecord}
 use Rattle.agreement.proofs.Limits.{withLimits-length}
 use Rattle.agreement.proofs.Outcomes.{update-accepted, update-refused, deliver-accepted, deliver-refused}
-use Rattle.bench.specs.Calls.{Call, change, update, cut, restore, send, deliver, repeat, lose, port, report, path, messageOf}
+use Rattle.protocol.specs.Calls.{Call, change, update, cut, restore, send, deliver, repeat, lose, port, report, path, messageOf}
 use Rattle.bench.specs.State.{State, network, networkOf, lentView}
 use Rattle.bench.specs.Ranges.{benchInRange, messagesInRange}
 use Rattle.bench.specs.Changes.{changed, benchWithCut, Ends, ends, ended, movedEnd, movedEnds, rewritten, movedBench, refusalOf, orRefused, stateInRange, updateOf, cutOf, restoreOf}

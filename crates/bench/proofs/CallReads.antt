@@ -2,7 +2,7 @@
 use Prim.Native.Nat.{ℕ, zero, suc}
 use mathlib.Core.Path.{_≡_, refl}
 use mathlib.Core.List.{List}
-use Rattle.bench.specs.Calls.{checks, changeChecks, noSuchBridge, noSuchView, noNumberLeft}
+use Rattle.protocol.specs.Calls.{checks, changeChecks, noSuchBridge, noSuchView, noNumberLeft}
 use Rattle.bench.specs.State.{State, state}
 use Rattle.bench.specs.Changes.{refusalOf, updateOf}
 use Rattle.bench.specs.Answers.{portIn, reportedRow, reported, reportOf, hopIn, pathOf}
@@ -16,7 +16,7 @@ module _ (s : State) (m : List ℕ) where
   unfolding updateOf refusalOf checks changeChecks noSuchBridge noSuchView noNumberLeft
   update-reads y t = refl
 
-  reported-reads : (d k : ℕ) (rows : List ℕ) → reported other d k rows ≡ reported s d k rows
+  pub reported-reads : (d k : ℕ) (rows : List ℕ) → reported other d k rows ≡ reported s d k rows
   unfolding reported reportedRow portIn
   reported-reads d zero rows = refl
   reported-reads d (suc k) rows = rw (reported-reads d k rows)

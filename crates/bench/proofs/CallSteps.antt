@@ -2,7 +2,7 @@
 use Prim.Native.Nat.{ℕ}
 use mathlib.Core.Path.{_≡_, refl}
 use mathlib.Core.List.{List, [], _∷_}
-use Rattle.bench.specs.Calls.{Call, change, update, cut, restore, send, deliver, repeat, lose, port, report, path}
+use Rattle.protocol.specs.Calls.{Call, change, update, cut, restore, send, deliver, repeat, lose, port, report, path}
 use Rattle.bench.specs.State.{State, state}
 use Rattle.bench.specs.Changes.{Changed, Rewritten, cutOf, restoreOf, updateOf}
 use Rattle.bench.specs.Flights.{Flown, sendOf, loseOf}

@@ -6,12 +6,12 @@ use mathlib.Core.Bool.{true, _&&_, false≢true}
 use mathlib.Core.List.{List, []}
 use borrow.Author.Tests.{eq-eqb, ne-eqb}
 use Rattle.distances.proofs.Booleans.{both-true}
-use Rattle.bench.specs.Net.{Network}
-use Rattle.bench.specs.Calls.{change, update, noSuchBridge, noSuchView, noNumberLeft, changeChecks, checks, refuse, accepted}
+use Rattle.protocol.specs.Net.{Network}
+use Rattle.protocol.specs.Calls.{change, update, noSuchBridge, noSuchView, noNumberLeft, changeChecks, checks, refuse, accepted}
 use Rattle.bench.specs.State.{State, network, networkOf}
 use Rattle.bench.specs.Ranges.{graphInRange, benchInRange, costsInRange, limitsLong, networkInRange}
 use Rattle.bench.specs.declared.Bench.{Bench}
-use Rattle.bench.proofs.Accepted.{UpdateListed, update-listed}
+use Rattle.protocol.proofs.Accepted.{UpdateListed, update-listed}
 use Rattle.bench.proofs.TieRanges.{LastingOf, lasting-told}
 
 module _ (b : Bench) (costs : List ℕ) (sent held : ℕ) where

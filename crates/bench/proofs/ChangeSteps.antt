@@ -1,14 +1,18 @@
 -- One turn of each loop that rewrites a bench: the next end moved, the next end started, the next view filled. Assumes nothing.
-use Prim.Native.Nat.{ℕ, _+_, _<_}
+use Prim.Native.Nat.{ℕ, _+_, _-_, _*_, _<_}
+use native.Mathlib.Nat.{add-sub-cancel-left}
 use native.Mathlib.Numerals.{add-one}
 use mathlib.Core.List.{List, map}
-use mathlib.Core.Path.{_≡_, _∙_, sym}
-use lib.ListN.{length, length-map, getD, set}
-use Rattle.agreement.specs.Call.{Lent, outcome, freshOutcome}
+use mathlib.Core.Path.{_≡_, _∙_, sym, ap}
+use lib.ListN.{length, length-map, getD, set, take, drop}
+use Rattle.agreement.specs.Call.{Lent, lent, outcome, freshOutcome}
 use Rattle.agreement.specs.Record.{freshRecord}
 use Rattle.agreement.specs.declared.EndRecord.{EndRecord}
 use Rattle.agreement.proofs.Basics.{getD-default}
-use Rattle.bench.specs.Changes.{Ends, ends, ended, movedEnd, movedEnds, Limits, limits, startedEnds}
+use Rattle.bench.specs.State.{lentView}
+use Rattle.bench.specs.Changes.{Ends, ends, ended, movedEnd, movedEnds, movedBench, Limits, limits, startedEnds}
+use Rattle.bench.specs.Steps.{IsFilled}
+use Rattle.bench.specs.declared.Bench.{Bench}
 
 -- a record is read with the array's own default
 pub moved-more :
@@ -20,6 +24,19 @@ pub moved-more :
     ends (set records e r) sent' held' ≡ movedEnds v views y t (e + 1) start
 unfolding movedEnds
 moved-more v views y t e start d {records} i h m = rw (add-one, ← i, getD-default records e freshRecord d h, ← m)
+
+-- all ends moved, by the parts of the costs and the tables that are lent
+pub moved-all :
+    (b : Bench) (costs tables : List ℕ) (y t : ℕ) (start : Ends) {records : List EndRecord} {sent held : List ℕ} →
+    IsFilled b costs tables t →
+    ends records sent held
+    ≡ movedEnds
+    (lent (b .bridges) (b .links) (b .ends) (take (32 * t + 32 - 32 * t) (drop (32 * t) costs))
+    (take (256 * t + 256 - 256 * t) (drop (256 * t) tables)))
+    (b .views) y t (2 * b .links) start →
+    movedBench b y t (ends records sent held) ≡ movedBench b y t (movedEnds (lentView b costs t) (b .views) y t (2 * b .links) start)
+moved-all b costs tables y t start filled e =
+    rw (add-sub-cancel-left (32 * t) 32, add-sub-cancel-left (256 * t) 256, filled) at (ap (movedBench b y t) e)
 
 pub started-more :
     (v : Lent) (e : ℕ) (start : Limits) {sent held sent' held' : List ℕ} {k : ℕ} {r : EndRecord} →

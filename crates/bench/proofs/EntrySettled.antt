@@ -8,8 +8,8 @@ use mathlib.Core.List.{List, _∷_}
 use borrow.Author.Tests.{ne-eqb, eqb-true}
 use lib.Dec.{eqb}
 use Rattle.distances.proofs.Booleans.{below}
-use Rattle.bench.specs.Net.{Network}
-use Rattle.bench.specs.Calls.{Call, Check, refusal, refuse, noSuchLink}
+use Rattle.protocol.specs.Net.{Network}
+use Rattle.protocol.specs.Calls.{Call, Check, refusal, refuse, noSuchLink}
 use Rattle.bench.specs.Changes.{refusalOf, orRefused}
 use Rattle.distances.proofs.Refusals.{passed}
 use Rattle.bench.proofs.TieRefusals.{refusal-out, refusal-ready}

@@ -9,7 +9,7 @@ use borrow.Author.Tests.{eqb-true}
 use lib.ListN.{length, take, drop}
 use lib.Seq.{sets}
 use lib.Dec.{eqb}
-use Rattle.bench.specs.Calls.{send, lose, deliver, checks, noMessage, linkCut, messageOf}
+use Rattle.protocol.specs.Calls.{send, lose, deliver, checks, noMessage, linkCut, messageOf}
 use Rattle.bench.specs.State.{State, network, networkOf}
 use Rattle.bench.specs.Ranges.{benchInRange, messagesInRange}
 use Rattle.bench.specs.Changes.{refusalOf}

@@ -12,8 +12,8 @@ use Rattle.agreement.specs.Record.{freshRecord}
 use Rattle.agreement.specs.Call.{Said, says, carryOutcome}
 use Rattle.agreement.specs.declared.Agreement.{Agreement}
 use Rattle.agreement.specs.declared.Answer.{Answer}
-use Rattle.bench.specs.Net.{Network}
-use Rattle.bench.specs.Calls.{Call, send, deliver, repeat, lose, refuse, accepted, checks, noSuchBridge, noSuchLink, notOnLink, linkCut, noRoom, noMessage, endOf, messageOf}
+use Rattle.protocol.specs.Net.{Network}
+use Rattle.protocol.specs.Calls.{Call, send, deliver, repeat, lose, refuse, accepted, checks, noSuchBridge, noSuchLink, notOnLink, linkCut, noRoom, noMessage, endOf, messageOf}
 use Rattle.bench.specs.State.{State, network, networkOf}
 use Rattle.bench.specs.Ranges.{messageInRange}
 use Rattle.bench.specs.Changes.{Changed, changed, refusalOf, orRefused, stateInRange}
@@ -22,9 +22,9 @@ use Rattle.bench.specs.Deliveries.{Delivered, delivered, received, deliv
 use Rattle.bench.specs.Steps.{Ready}
 use Rattle.bench.specs.declared.Bench.{Bench}
 use Rattle.agreement.proofs.Outcomes.{carry-accepted}
-use Rattle.bench.proofs.Links.{endOf-below}
+use Rattle.protocol.proofs.Links.{endOf-below}
 use Rattle.distances.proofs.Refusals.{passed}
-use Rattle.bench.proofs.Accepted.{send-listed, place-listed}
+use Rattle.protocol.proofs.Accepted.{send-listed, place-listed}
 use Rattle.bench.proofs.TieFlights.{messages-length}
 use Rattle.bench.proofs.FlightRanges.{BenchTold, bench-told, view-told, messages-told, network-bench, network-told}
 

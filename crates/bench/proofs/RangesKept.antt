@@ -14,11 +14,11 @@ use Rattle.agreement.specs.Call.{Lent}
 use Rattle.agreement.specs.declared.EndRecord.{EndRecord}
 use Rattle.agreement.proofs.RecordLaws.{holdingReceived, updated-by}
 use Rattle.agreement.proofs.InRange.{view-passes, record-same}
-use Rattle.bench.specs.Net.{Message}
+use Rattle.protocol.specs.Net.{Message}
 use Rattle.bench.specs.State.{State, state, lentView, messageFrom}
 use Rattle.bench.specs.Changes.{Ends, ends, movedEnds, movedBench}
 use Rattle.bench.specs.Flights.{numbersOf, withCount, takenOut}
-use Rattle.bench.proofs.Places.{skipped}
+use Rattle.protocol.proofs.Places.{skipped}
 use Rattle.bench.proofs.TieRanges.{StateReady, few, lent-in-range}
 use Rattle.bench.proofs.TieFlights.{taken-length, taken-message, taken-below, added-message, kept-message}
 use Rattle.bench.proofs.TieChecks.{MessageTold, message-told, told-message}

@@ -11,19 +11,16 @@ use lib.Dec.{eqb, leb}
 use Rattle.distances.proofs.Booleans.{both-true, true-both}
 use Rattle.distances.proofs.Ranges.{true-allBelow}
 use Rattle.agreement.specs.Offer.{opposite}
-use Rattle.plan.specs.declared.Event.{Event}
-use Rattle.bench.specs.Net.{sender}
-use Rattle.bench.specs.Calls.{change, update, cut, restore, send, deliver, repeat, lose, refuse, accepted, checks, messageOf}
+use Rattle.protocol.specs.Net.{sender}
+use Rattle.protocol.specs.Calls.{change, update, cut, restore, send, deliver, repeat, lose, refuse, accepted, checks, messageOf}
 use Rattle.bench.specs.State.{State, state, network, networkOf, messageFrom}
 use Rattle.bench.specs.Ranges.{graphInRange, benchInRange, costsInRange, messageInRange, messagesInRange, networkInRange}
 use Rattle.bench.specs.Changes.{changed, rewritten, movedBench, refusalOf, orRefused, stateInRange, benchWithCut, cutOf, restoreOf, updateOf}
 use Rattle.bench.specs.Flights.{Flown, flown, numbersOf, withCount, sendOf, loseOf}
 use Rattle.bench.specs.Deliveries.{deliveryReady, deliveryRefused, receivedAt, received, deliverOf, repeatOf}
-use Rattle.bench.specs.Steps.{Makes}
 use Rattle.bench.specs.Whole.{stepBy}
-use Rattle.bench.specs.Lists.{callOf, isMade, wayAfter, Made, made, eventMade}
 use Rattle.bench.specs.declared.Bench.{Bench}
-use Rattle.bench.proofs.Accepted.{SendListed, send-listed, place-listed}
+use Rattle.protocol.proofs.Accepted.{SendListed, send-listed, place-listed}
 use Rattle.bench.proofs.CallSteps.{withChanged, withRewritten, withFlown, withDelivered}
 use Rattle.bench.proofs.ChangeEntry.{update-told}
 use Rattle.bench.proofs.FlightCalls.{refusal-none, lose-told}
@@ -170,22 +167,6 @@ send-stays s y l ok = go (eqb (refusalOf (flightInRange (s .bench) (s .messages)
         true-both (true-both (h .0) (both-true (benchInRange (s .bench)) _ (both-true (stateInRange s) _ ok .0) .1)) (h .1)
     go false flight = ok
 
--- ---- for a list of calls
-
 -- what a send or a lose asks
 pub flight-of : (s : State) → deliveryReady s ≡ true → flightInRange (s .bench) (s .messages) ≡ true
 flight-of s ok = let h = both-true (stateInRange s) _ ok in true-both (network-bench _ _ _ _ (h .0)) (h .1)
-
--- an event that changes, made or not
-pub event-stays :
-    (s : State) (e : Event) (k : ℕ) {after : State} →
-    ((used : ℕ) (way : List ℕ) → made (cond (eqb k 0) used 0) after way ≡ eventMade s e used way) →
-    deliveryReady s ≡ true →
-    deliveryReady (stepBy s (callOf e)) ≡ true →
-    Makes s e k after
-unfolding eventMade
-event-stays s e k is before after = (is, rw (ap (λ (m : Made). m .state) (is 0 [])) (go (isMade s e)))
-  where
-    go : (b : Bool) → deliveryReady (cond b (made 0 (stepBy s (callOf e)) (wayAfter s e [])) (made 0 s []) .state) ≡ true
-    go true = after
-    go false = before

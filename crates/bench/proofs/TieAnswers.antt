@@ -11,20 +11,20 @@ use Rattle.distances.proofs.Booleans.{below}
 use Rattle.agreement.specs.Call.{Said, says}
 use Rattle.agreement.specs.declared.Port.{Port}
 use Rattle.agreement.proofs.PortCong.{port-cong}
-use Rattle.bench.specs.Net.{Network, Plan}
-use Rattle.bench.specs.Calls as calls
-use Rattle.bench.specs.Calls.{Call, Check, refusal, refuse, checks, noSuchBridge}
-use Rattle.bench.specs.Ports.{Hop, stays, crosses, hop}
-use Rattle.bench.specs.Ports as ports
-use Rattle.bench.specs.Paths.{Way, delivered, follow, onward, path}
+use Rattle.protocol.specs.Net.{Network, Plan}
+use Rattle.protocol.specs.Calls as calls
+use Rattle.protocol.specs.Calls.{Call, Check, refusal, refuse, checks, noSuchBridge}
+use Rattle.protocol.specs.Ports.{Hop, stays, crosses, hop}
+use Rattle.protocol.specs.Ports as ports
+use Rattle.protocol.specs.Paths.{Way, delivered, follow, onward, path}
 use Rattle.bench.specs.State.{State, network}
 use Rattle.bench.specs.Changes.{refusalOf, orRefused, stateInRange}
 use Rattle.bench.specs.Deliveries.{refusedBy}
 use Rattle.bench.specs.Answers.{portIn, portOf, hopIn, pathOf}
 use Rattle.bench.specs.Whole.{Represents}
 use Rattle.distances.proofs.Refusals.{passed}
-use Rattle.bench.proofs.Links.{across-below}
-use Rattle.bench.proofs.Hops.{port-forwards, hop-crosses}
+use Rattle.protocol.proofs.Links.{across-below}
+use Rattle.protocol.proofs.Hops.{port-forwards, hop-crosses}
 use Rattle.bench.proofs.TieRanges.{StateReady, told, network-ready, few, plan-in-range, part-at, lent-distances}
 use Rattle.bench.proofs.TieRefusals.{settled-same}
 use Rattle.bench.proofs.ChoiceSteps.{port-in}

@@ -9,8 +9,8 @@ use lib.Dec.{ltb}
 use borrow.Author.Tests.{ltb-true, lt-ltb}
 use Rattle.distances.proofs.Booleans.{both-true, true-both, below}
 use Rattle.distances.proofs.Refusals.{refusal-next}
-use Rattle.bench.specs.Net.{Network, Message}
-use Rattle.bench.specs.Calls.{Call, Change, change, update, cut, restore, send, deliver, repeat, lose, port, report, path, Check, refusal, noSuchBridge, noSuchView, noSuchLink, noNumberLeft, notOnLink, linkCut, noRoom, noMessage, already, messageAt, changeChecks, checks, refuse}
+use Rattle.protocol.specs.Net.{Network, Message}
+use Rattle.protocol.specs.Calls.{Call, Change, change, update, cut, restore, send, deliver, repeat, lose, port, report, path, Check, refusal, noSuchBridge, noSuchView, noSuchLink, noNumberLeft, notOnLink, linkCut, noRoom, noMessage, already, messageAt, changeChecks, checks, refuse}
 use Rattle.bench.specs.State.{State, network, messageFrom}
 use Rattle.bench.specs.Ranges.{messagePasses}
 use Rattle.bench.specs.Changes.{refusalOf}

@@ -6,14 +6,14 @@ use mathlib.Core.Bool.{Bool, true, false}
 use mathlib.Core.List.{List, [], _∷_}
 use lib.ListN.{length-set}
 use Rattle.distances.proofs.Booleans.{below}
-use Rattle.bench.specs.Net.{Network}
-use Rattle.bench.specs.Calls.{Check, change, cut, restore, refusal, noSuchLink, already, changeChecks, checks, refuse, withCut, changed, act, step}
+use Rattle.protocol.specs.Net.{Network}
+use Rattle.protocol.specs.Calls.{Check, change, cut, restore, refusal, noSuchLink, already, changeChecks, checks, refuse, withCut, changed, act, step}
 use Rattle.bench.specs.State.{State, state, networkOf}
 use Rattle.bench.specs.Ranges.{graphInRange, benchInRange, costsInRange, messagesInRange, networkInRange}
 use Rattle.bench.specs.Changes.{Changed, changed as leaving, refusalOf, benchWithCut, cutOf, restoreOf}
 use Rattle.bench.specs.Whole.{Represents, stepBy}
 use Rattle.distances.proofs.Refusals.{passed}
-use Rattle.bench.proofs.Accepted.{accepted-checks}
+use Rattle.protocol.proofs.Accepted.{accepted-checks}
 use Rattle.bench.proofs.TieRanges.{getD-stored, told, bench-ready, few}
 use Rattle.bench.proofs.TieRefusals.{settled-step}
 use Rattle.bench.proofs.EntrySettled.{reply-is}

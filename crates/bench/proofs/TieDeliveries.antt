@@ -5,16 +5,16 @@ use mathlib.Core.Path.{_≡_, refl}
 use mathlib.Core.List.{List, _∷_}
 use Rattle.agreement.specs.Offer.{opposite}
 use Rattle.agreement.specs.Call.{says}
-use Rattle.bench.specs.Net.{Network, sender}
-use Rattle.bench.specs.Calls.{Check, deliver, repeat, refusal, noMessage, refuse, act, step, messageAt, answerAt, checks}
-use Rattle.bench.specs.Calls as calls
+use Rattle.protocol.specs.Net.{Network, sender}
+use Rattle.protocol.specs.Calls.{Check, deliver, repeat, refusal, noMessage, refuse, act, step, messageAt, answerAt, checks}
+use Rattle.protocol.specs.Calls as calls
 use Rattle.bench.specs.State.{State, messageFrom}
 use Rattle.bench.specs.Changes.{orRefused}
 use Rattle.bench.specs.Deliveries.{Delivered, refusedBy, deliveryReady, deliveryRefused, receivedAt, received, repeatOf, deliverOf}
 use Rattle.bench.specs.Whole.{Represents, stepBy}
 use Rattle.bench.proofs.CallSteps.{withDelivered}
 use Rattle.bench.proofs.TieRanges.{told}
-use Rattle.bench.proofs.Accepted.{place-listed, accepted-checks}
+use Rattle.protocol.proofs.Accepted.{place-listed, accepted-checks}
 use Rattle.bench.proofs.TieRefusals.{settled-same, settled-step}
 use Rattle.bench.proofs.TieFlights.{messages-length}
 use Rattle.bench.proofs.TieChecks.{message-in-range, same-message-at, refusal-same}

@@ -11,11 +11,11 @@ use lib.Seq.{ext-getD, sets, getD-set-same, getD-set-other}
 use lib.Dec.{leb, ltb}
 use borrow.Author.Tests.{ltb-true, ltb-false, lt-ltb, le-leb, lt-leb}
 use Rattle.distances.proofs.Tables.{rewritten-length, rewritten-at}
-use Rattle.bench.specs.Net.{Message}
-use Rattle.bench.specs.Calls.{without, noMessageThere}
+use Rattle.protocol.specs.Net.{Message}
+use Rattle.protocol.specs.Calls.{without, noMessageThere}
 use Rattle.bench.specs.State.{messageFrom, messagesFrom}
 use Rattle.bench.specs.Flights.{numbersOf, takenOut}
-use Rattle.bench.proofs.Places.{skipped, without-at, length-without, without-below, stands-before, stands-new}
+use Rattle.protocol.proofs.Places.{skipped, without-at, length-without, without-below, stands-before, stands-new}
 
 -- ---- by places
 

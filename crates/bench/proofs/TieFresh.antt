@@ -16,7 +16,7 @@ use Rattle.agreement.specs.Ranges.{recordInRange}
 use Rattle.agreement.specs.declared.EndRecord.{EndRecord}
 use Rattle.agreement.specs.Call.{Lent, lent, lentOffer}
 use Rattle.agreement.proofs.InRange.{fresh-record-passes}
-use Rattle.bench.specs.Net.{fresh, distanceIn, offerIn}
+use Rattle.protocol.specs.Net.{fresh, distanceIn, offerIn}
 use Rattle.bench.specs.State.{State, state, part, lentView, distanceTable, messagesFrom}
 use Rattle.bench.specs.Ranges.{graphInRange, costsInRange, limitsLong}
 use Rattle.bench.specs.Changes.{Limits, limits, startedEnds, freshBench, rewritten, freshOf}

@@ -13,12 +13,12 @@ use Rattle.agreement.specs.Record.{freshRecord, updated, sentUpdated, heldUpdat
 use Rattle.agreement.specs.Call.{Lent, lentOffer}
 use Rattle.agreement.specs.declared.EndRecord.{EndRecord}
 use Rattle.agreement.proofs.RecordLaws.{holdingReceived, sent-updated-same, held-updated-same}
-use Rattle.bench.specs.Net.{Network, offerIn}
-use Rattle.bench.specs.Calls.{change, update, refuse, moved, updatedTo, changed, act, step}
+use Rattle.protocol.specs.Net.{Network, offerIn}
+use Rattle.protocol.specs.Calls.{change, update, refuse, moved, updatedTo, changed, act, step}
 use Rattle.bench.specs.State.{State, state, lentView}
 use Rattle.bench.specs.Changes.{Ends, ends, movedEnds, movedBench, Rewritten, rewritten, updateOf}
 use Rattle.bench.specs.Whole.{Represents, Typed, stepBy}
-use Rattle.bench.proofs.Accepted.{UpdateListed, update-listed}
+use Rattle.protocol.proofs.Accepted.{UpdateListed, update-listed}
 use Rattle.bench.proofs.TieRanges.{StateReady, getD-stored, told, ready, network-ready, few, offer-stands}
 use Rattle.bench.proofs.TieRefusals.{settled-step}
 use Rattle.bench.proofs.EntrySettled.{reply-is}

@@ -24,7 +24,7 @@ use Rattle.agreement.specs.Call.{lentInRange, lentOffer}
 use Rattle.agreement.proofs.Ends.{offer-same}
 use Rattle.agreement.proofs.Offers.{offer-is}
 use Rattle.agreement.proofs.InRange.{records-pass, records-told}
-use Rattle.bench.specs.Net.{Network, PlanInRange, distanceIn, offerIn}
+use Rattle.protocol.specs.Net.{Network, PlanInRange, distanceIn, offerIn}
 use Rattle.bench.specs.State.{State, part, lentView, distanceTable}
 use Rattle.bench.specs.Ranges.{graphInRange, benchInRange, costsInRange, limitsLong, messageInRange, messagesInRange, networkInRange}
 use Rattle.bench.specs.Changes.{stateInRange}

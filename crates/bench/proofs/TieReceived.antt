@@ -13,14 +13,15 @@ use Rattle.agreement.specs.Record.{freshRecord, answer, recorded, sentDelivered
 use Rattle.agreement.specs.Limits.{withLimits}
 use Rattle.agreement.specs.Ranges.{recordInRange, deliveryInRange}
 use Rattle.agreement.specs.Call.{Lent, lentOffer, lentEndInRange, deliverOutcome, outcome, says}
+use Rattle.agreement.specs.declared.Answer.{Answer}
 use Rattle.agreement.specs.declared.EndRecord.{EndRecord}
 use Rattle.agreement.proofs.Ends.{opposite-below}
 use Rattle.agreement.proofs.Limits.{withLimits-length}
 use Rattle.agreement.proofs.RecordLaws.{recorded-by, sent-delivered-same, held-delivered-same}
 use Rattle.agreement.proofs.InRange.{view-passes, recorded-passes, end-passes, delivery-passes}
 use Rattle.agreement.proofs.Outcomes.{deliver-accepted}
-use Rattle.bench.specs.Net.{Network, Message, offerIn}
-use Rattle.bench.specs.Calls as calls
+use Rattle.protocol.specs.Net.{Network, Message, offerIn}
+use Rattle.protocol.specs.Calls as calls
 use Rattle.bench.specs.State.{State, state, lentView}
 use Rattle.bench.specs.Deliveries.{withRecords, receivedAt}
 use Rattle.bench.specs.Whole.{Represents, Typed}
@@ -85,9 +86,9 @@ module _
       ≡ outcome (says (answer view old (x .agreement))) new sentNow heldNow
   outcome-is = deliver-accepted lentThere e (s .sent) (s .held) (s .bench .views) view old number (x .agreement) taken
 
-  pub received-taken : receivedAt s e (x .agreement) .reply .number ≡ 0
+  pub received-says : (a : Answer) × (receivedAt s e (x .agreement) .reply ≡ says a)
   unfolding receivedAt
-  received-taken = rw outcome-is
+  received-says = (answer view old (x .agreement), rw outcome-is)
 
   abbrev after : State
   after = state (withRecords (s .bench) (set (s .bench .records) e new)) (s .costs) sentNow heldNow (s .messages)

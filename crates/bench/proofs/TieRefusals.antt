@@ -5,8 +5,8 @@ use mathlib.Core.Bool.{Bool, true, false, cond}
 use lib.Dec.{eqb}
 use borrow.Author.Tests.{eqb-true}
 use Rattle.distances.proofs.Refusals.{First.here, first, later}
-use Rattle.bench.specs.Net.{Network}
-use Rattle.bench.specs.Calls.{Call, checks, refuse, accepted, act, step}
+use Rattle.protocol.specs.Net.{Network}
+use Rattle.protocol.specs.Calls.{Call, checks, refuse, accepted, act, step}
 use Rattle.bench.specs.State.{State}
 use Rattle.bench.specs.Changes.{refusalOf, orRefused}
 use Rattle.bench.specs.Whole.{Represents}

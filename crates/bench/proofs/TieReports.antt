@@ -10,9 +10,9 @@ use lib.Dec.{eqb, leb}
 use borrow.Author.Tests.{eqb-true, eqb-false, le-leb}
 use Rattle.distances.specs.Table.{cell}
 use Rattle.distances.proofs.Booleans.{true-both}
-use Rattle.bench.specs.Net.{Network}
-use Rattle.bench.specs.Calls.{refuse, checks, report}
-use Rattle.bench.specs.Ports.{ownDistance}
+use Rattle.protocol.specs.Net.{Network}
+use Rattle.protocol.specs.Calls.{refuse, checks, report}
+use Rattle.protocol.specs.Ports.{ownDistance}
 use Rattle.bench.specs.State.{State, network, lentView}
 use Rattle.bench.specs.Changes.{refusalOf, stateInRange}
 use Rattle.bench.specs.Answers.{Reported, report as leaving, linkNumber, reportedRow, reported, reportOf}

@@ -8,15 +8,15 @@ use mathlib.Core.List.{List, [], _∷_, _++_}
 use lib.ListN.{length}
 use lib.Seq.{sets}
 use Rattle.distances.proofs.Booleans.{true-both}
-use Rattle.bench.specs.Net.{Network, Message}
-use Rattle.bench.specs.Calls.{send, lose, accepted, act, step, endOf, messageOf, sentOver, without, withMessages, checks, refuse, noSuchBridge, noSuchLink, notOnLink, linkCut, noRoom, noMessage}
+use Rattle.protocol.specs.Net.{Network, Message}
+use Rattle.protocol.specs.Calls.{send, lose, accepted, act, step, endOf, messageOf, sentOver, without, withMessages, checks, refuse, noSuchBridge, noSuchLink, notOnLink, linkCut, noRoom, noMessage}
 use Rattle.bench.specs.State.{State, state, network, networkOf, messagesFrom}
 use Rattle.bench.specs.Ranges.{benchInRange, messagesInRange}
 use Rattle.bench.specs.Changes.{refusalOf}
 use Rattle.bench.specs.Flights.{numbersOf, takenOut, Flown, flown, sendOf, loseOf}
 use Rattle.bench.specs.Whole.{Represents, Typed, stepBy}
-use Rattle.bench.proofs.Links.{endOf-below}
-use Rattle.bench.proofs.Accepted.{SendListed, send-listed, place-listed, accepted-checks}
+use Rattle.protocol.proofs.Links.{endOf-below}
+use Rattle.protocol.proofs.Accepted.{SendListed, send-listed, place-listed, accepted-checks}
 use Rattle.bench.proofs.TieRanges.{StateReady, told, ready, bench-ready, messages-ready}
 use Rattle.bench.proofs.TieRefusals.{settled-step}
 use Rattle.bench.proofs.EntrySettled.{reply-is}

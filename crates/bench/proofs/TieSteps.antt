@@ -1,8 +1,8 @@
 -- The calls that leave the messages in flight alone: a change, or a question, which leaves everything. Assumes nothing.
 use Prim.Native.Nat.{ℕ}
 use mathlib.Core.Bool.{Bool, true, false, cond}
-use Rattle.bench.specs.Net.{Network}
-use Rattle.bench.specs.Calls.{Change, change, update, cut, restore, port, report, path, accepted, act, step}
+use Rattle.protocol.specs.Net.{Network}
+use Rattle.protocol.specs.Calls.{Change, change, update, cut, restore, port, report, path, accepted, act, step}
 use Rattle.bench.specs.State.{State}
 use Rattle.bench.specs.Whole.{Represents, stepBy}
 use Rattle.bench.proofs.TieCuts.{cut-represents, restore-represents}

@@ -1,12 +1,12 @@
 -- Demand 3 for whoever makes the calls one after the other: the network stands in the state after `fresh`, and after each call.
 -- Assumes nothing.
 use mathlib.Core.List.{List, [], _∷_}
-use Rattle.bench.specs.Net.{Network, Plan, PlanInRange, fresh}
-use Rattle.bench.specs.Calls.{Call, change, send, deliver, repeat, lose, port, report, path, step, run}
-use Rattle.bench.specs.Demand3.{Holds}
+use Rattle.protocol.specs.Net.{Network, Plan, PlanInRange, fresh}
+use Rattle.protocol.specs.Calls.{Call, change, send, deliver, repeat, lose, port, report, path, step, run}
+use Rattle.protocol.specs.Demand3.{Holds}
 use Rattle.bench.specs.State.{State}
 use Rattle.bench.specs.Whole.{Represents, Answers, WholeLists, planIn, freshBy, stepBy, runBy}
-use Rattle.bench.proofs.Theorem.{demand3}
+use Rattle.protocol.proofs.Theorem.{demand3}
 use Rattle.bench.proofs.TieRanges.{plan-in-range}
 use Rattle.bench.proofs.TieSteps.{change-represents, port-represents, report-represents, path-represents}
 use Rattle.bench.proofs.TieSends.{send-represents, lose-represents}

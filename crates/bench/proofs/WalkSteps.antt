@@ -20,10 +20,10 @@ use Rattle.agreement.specs.declared.Port.{Port}
 use Rattle.agreement.specs.declared.Port.the-variants.{Closed, Open}
 use Rattle.agreement.proofs.Forwards.{open-forwards}
 use Rattle.agreement.proofs.Outcomes.{portReady, port-accepted, port-refused}
-use Rattle.bench.specs.Net.{Network}
-use Rattle.bench.specs.Calls.{Check, refusal, noSuchBridge}
-use Rattle.bench.specs.Ports.{Hop, stays, crosses, across, hopBy}
-use Rattle.bench.specs.Paths.{delivered, stops, follow, onward}
+use Rattle.protocol.specs.Net.{Network}
+use Rattle.protocol.specs.Calls.{Check, refusal, noSuchBridge}
+use Rattle.protocol.specs.Ports.{Hop, stays, crosses, across, hopBy}
+use Rattle.protocol.specs.Paths.{delivered, stops, follow, onward}
 use Rattle.bench.specs.State.{State, lentView, part}
 use Rattle.bench.specs.Answers.{found, portIn, hopIn, reportedRow, reported}
 use Rattle.bench.specs.Steps.{Ready}

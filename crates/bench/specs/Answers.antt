@@ -9,11 +9,11 @@ use Rattle.distances.specs.Table.{cell}
 use Rattle.agreement.specs.Call.{Said, says, portOutcome}
 use Rattle.agreement.specs.declared.Port.{Port}
 use Rattle.agreement.specs.declared.Port.the-variants.{Closed, Open}
-use Rattle.bench.specs.Calls as calls
-use Rattle.bench.specs.Calls.{Call}
-use Rattle.bench.specs.Ports.{Hop, hopBy}
-use Rattle.bench.specs.Paths.{onward}
-use Rattle.bench.specs.Paths as paths
+use Rattle.protocol.specs.Calls as calls
+use Rattle.protocol.specs.Calls.{Call}
+use Rattle.protocol.specs.Ports.{Hop, hopBy}
+use Rattle.protocol.specs.Paths.{onward}
+use Rattle.protocol.specs.Paths as paths
 use Rattle.bench.specs.State.{State, network, lentView}
 use Rattle.bench.specs.Changes.{refusalOf, orRefused, stateInRange}
 use Rattle.bench.specs.Deliveries.{refusedBy}

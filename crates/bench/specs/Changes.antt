@@ -7,8 +7,8 @@ use lib.Dec.{eqb, leb}
 use Rattle.agreement.specs.Record.{freshRecord}
 use Rattle.agreement.specs.Call.{Lent, updateOutcome, freshOutcome}
 use Rattle.agreement.specs.declared.EndRecord.{EndRecord}
-use Rattle.bench.specs.Net.{Network}
-use Rattle.bench.specs.Calls.{Call, change, update, cut, restore, Check, refusal, checks}
+use Rattle.protocol.specs.Net.{Network}
+use Rattle.protocol.specs.Calls.{Call, change, update, cut, restore, Check, refusal, checks}
 use Rattle.bench.specs.State.{State, network, networkOf, lentView, part}
 use Rattle.bench.specs.Ranges.{graphInRange, benchInRange, costsInRange, limitsLong, networkInRange}
 use Rattle.bench.specs.declared.Bench.{Bench}

@@ -9,8 +9,8 @@ use Rattle.agreement.specs.Call.{Said, says, deliverOutcome}
 use Rattle.agreement.specs.declared.Agreement.{Agreement}
 use Rattle.agreement.specs.declared.Answer.{Answer}
 use Rattle.agreement.specs.declared.EndRecord.{EndRecord}
-use Rattle.bench.specs.Net.{sender}
-use Rattle.bench.specs.Calls.{Call, deliver, repeat}
+use Rattle.protocol.specs.Net.{sender}
+use Rattle.protocol.specs.Calls.{Call, deliver, repeat}
 use Rattle.bench.specs.State.{State, network, lentView, messageFrom}
 use Rattle.bench.specs.Ranges.{messagesInRange}
 use Rattle.bench.specs.Changes.{refusalOf, orRefused, stateInRange}

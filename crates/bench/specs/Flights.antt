@@ -7,8 +7,8 @@ use lib.Seq.{sets}
 use lib.Dec.{leb, ltb}
 use Rattle.distances.specs.Table.{rewritten}
 use Rattle.agreement.specs.declared.Agreement.{Agreement}
-use Rattle.bench.specs.Net.{Message}
-use Rattle.bench.specs.Calls.{Call, send, lose, messageOf}
+use Rattle.protocol.specs.Net.{Message}
+use Rattle.protocol.specs.Calls.{Call, send, lose, messageOf}
 use Rattle.bench.specs.State.{networkOf}
 use Rattle.bench.specs.Ranges.{benchInRange, messagesInRange}
 use Rattle.bench.specs.Changes.{refusalOf, orRefused}

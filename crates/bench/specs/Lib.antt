@@ -1,10 +1,3 @@
-pub mod Net
-pub mod Calls
-pub mod Ports
-pub mod Paths
-pub mod Rounds
-pub mod Demand3
-pub mod LimitViews
 pub mod State
 pub mod Ranges
 pub mod Changes
@@ -13,6 +6,4 @@ pub mod Deliveries
 pub mod Answers
 pub mod Steps
 pub mod Whole
-pub mod Lists
-pub mod Examples
-pub mod SettlingMet
+pub mod Batches

@@ -6,7 +6,7 @@ use lib.ListN.{getD, take, drop, replicate}
 use Rattle.distances.specs.View.{graphOf}
 use Rattle.distances.specs.Call.{distancesOf}
 use Rattle.agreement.specs.Call.{Lent, lent, lentRecords}
-use Rattle.bench.specs.Net.{Network, Message}
+use Rattle.protocol.specs.Net.{Network, Message}
 use Rattle.bench.specs.declared.Bench.{Bench}
 
 -- the lent buffers, beside the bench itself: a row of 32 costs for each view, the two limit tables, and 5 numbers for each message in

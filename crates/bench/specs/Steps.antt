@@ -11,19 +11,19 @@ use Rattle.distances.specs.Call.{distancesOf}
 use Rattle.agreement.specs.Call.{Lent, lentGraph}
 use Rattle.agreement.specs.Choice.{choiceBelow}
 use Rattle.agreement.specs.declared.Choice.{Choice}
-use Rattle.plan.specs.Reading.{readReply}
-use Rattle.plan.specs.declared.Event.{Event}
-use Rattle.plan.specs.declared.Event.the-variants.{Update, Send, Deliver, Repeat, Lose, Cut, Restore, Report, Path}
-use Rattle.plan.specs.declared.Field.{Field}
-use Rattle.plan.specs.declared.Read.{Read}
 use Rattle.bench.specs.State.{State, network, lentView, part, distanceTable}
 use Rattle.bench.specs.Ranges.{networkInRange}
+use Rattle.protocol.specs.Calls.{report}
+use Rattle.bench.specs.Changes.{refusalOf, stateInRange}
+use Rattle.bench.specs.Answers.{reported}
+use Rattle.bench.specs.Batches.{Batch}
 use Rattle.bench.specs.Deliveries.{deliveryReady}
-use Rattle.bench.specs.Lists.{made, eventMade}
-use Rattle.bench.specs.Ports.{Hop, stays, crosses}
+use Rattle.protocol.specs.Ports.{Hop, stays, crosses}
 use Rattle.bench.specs.declared.Bench.{Bench}
+use Rattle.bench.specs.declared.BatchResult.{BatchResult}
+use Rattle.bench.specs.declared.Disposition.{Disposition}
+use Rattle.bench.specs.declared.Disposition.the-variants.{Complete, Refused}
 use Rattle.bench.specs.declared.Hop as code
-use Rattle.bench.specs.declared.lists.Next.{Next}
 
 -- what the entry check has told of a bench and of what is lent beside it
 pub record Ready (b : Bench) (costs : List ℕ) : Type 0 where
@@ -77,42 +77,28 @@ abbrev pub hopSays : code.Hop → Hop
 hopSays code.Hop.Stays = stays
 hopSays (code.Hop.Crosses l z) = crosses l z
 
--- what an event is to a list of calls: a report is not made in it
-abbrev pub nextOf : Event → ℕ → Next
-nextOf (Update b t) used = Next.Changes (Update b t) used
-nextOf (Send b l) used = Next.Changes (Send b l) used
-nextOf (Deliver p) used = Next.Changes (Deliver p) used
-nextOf (Repeat p) used = Next.Changes (Repeat p) used
-nextOf (Lose p) used = Next.Changes (Lose p) used
-nextOf (Cut l) used = Next.Changes (Cut l) used
-nextOf (Restore l) used = Next.Changes (Restore l) used
-nextOf (Report d) used = Next.Nothing
-nextOf (Path s d) used = Next.Asks s d used
+-- one event of a list, by the number k that its call replied
+abbrev pub resultOf : ℕ → Bench → ℕ → BatchResult
+resultOf k b answered =
+    record {
+      disposition = cond (eqb k 0) Complete (Refused k);
+      bench = b;
+      made = cond (eqb k 0) 1 0;
+      answered = cond (eqb k 0) answered 0;
+    }
 
--- and what was read
-abbrev pub nextIn : Read → Next
-nextIn (Read.Field (Field.Event e) used) = nextOf e used
-nextIn (Read.Field (Field.Bridges n) used) = Next.Nothing
-nextIn (Read.Field (Field.Link x y) used) = Next.Nothing
-nextIn (Read.Field Field.View used) = Next.Nothing
-nextIn (Read.Stop number) = Next.Nothing
+-- a report among events: its number, and the rows at the head of the lent numbers
+abbrev pub ReportsTo : State → ℕ → List ℕ → BatchResult → List ℕ → Type 0
+ReportsTo s d answers r after =
+    let k : ℕ = refusalOf (stateInRange s) (network s) (report d) in
+    (r ≡ resultOf k (s .bench) (2 * s .bench .bridges))
+    × (after ≡ cond (eqb k 0) (reported s d (s .bench .bridges) answers) answers)
 
-abbrev pub nextAt : List ℕ → ℕ → ℕ → ℕ → Next
-nextAt rest bridges links views = nextIn (readReply rest (record { stage = 3; bridges = bridges; links = links; views = views }))
-
--- an event that is neither a report nor a path
-abbrev pub IsChange : Event → Type 0
-IsChange (Update b t) = Unit {0}
-IsChange (Send b l) = Unit {0}
-IsChange (Deliver p) = Unit {0}
-IsChange (Repeat p) = Unit {0}
-IsChange (Lose p) = Unit {0}
-IsChange (Cut l) = Unit {0}
-IsChange (Restore l) = Unit {0}
-IsChange (Report d) = ⊥
-IsChange (Path s d) = ⊥
-
--- the call of such an event, answered with the number k: the three numbers for a path stay, and a state in range stays so
-abbrev pub Makes : State → Event → ℕ → State → Type 0
-Makes s e k after =
-    ((used : ℕ) (way : List ℕ) → made (cond (eqb k 0) used 0) after way ≡ eventMade s e used way) × (deliveryReady after ≡ true)
+-- what a list of one event leaves: the batch b, its answers at the head of the lent numbers; a state in range stays so
+pub record Leaves (b : Batch) (answers : List ℕ) (count : ℕ) (how : Disposition) (s : State) (answered : ℕ) (after : List ℕ) : Type 0 where
+  pub made : count ≡ b .made
+  pub disposition : how ≡ b .disposition
+  pub state : s ≡ b .state
+  pub counted : answered ≡ length (b .answers)
+  pub rest : after ≡ b .answers ++ drop answered answers
+  pub ready : deliveryReady s ≡ true

@@ -8,17 +8,17 @@ use lib.ListN.{length, getD}
 use Rattle.distances.specs.Table.{cell}
 use Rattle.agreement.specs.Record.{freshRecord}
 use Rattle.agreement.specs.Call.{says}
-use Rattle.bench.specs.Net.{Network, Plan, fresh}
-use Rattle.bench.specs.Calls.{Call, change, update, cut, restore, send, deliver, repeat, lose, port, report, path, refuse, answerAt, run}
-use Rattle.bench.specs.Ports.{ownDistance}
-use Rattle.bench.specs.Ports as ports
-use Rattle.bench.specs.Paths as paths
+use Rattle.protocol.specs.Net.{Network, Plan, fresh}
+use Rattle.protocol.specs.Calls.{Call, change, update, cut, restore, send, deliver, repeat, lose, port, report, path, refuse, answerAt, run}
+use Rattle.protocol.specs.Ports.{ownDistance}
+use Rattle.protocol.specs.Ports as ports
+use Rattle.protocol.specs.Paths as paths
 use Rattle.bench.specs.State.{State, state, network}
 use Rattle.bench.specs.Changes.{orRefused, cutOf, restoreOf, updateOf, freshOf}
 use Rattle.bench.specs.Flights.{sendOf, loseOf}
 use Rattle.bench.specs.Deliveries.{refusedBy, deliveryReady, deliverOf, repeatOf}
 use Rattle.bench.specs.Answers.{portOf, linkNumber, reportOf, pathOf}
-use Rattle.bench.specs.Demand3.{Holds}
+use Rattle.protocol.specs.Demand3.{Holds}
 use Rattle.bench.specs.declared.Bench.{Bench}
 
 -- the state that a call leaves, by the outcome that its contract names

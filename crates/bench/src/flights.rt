@@ -6,7 +6,7 @@ ghost use Prim.Native.Nat.{_+_, _*_, _≤_, _<_};
 ghost use lib.ListN.{length};
 ghost use lib.Seq.{sets};
 ghost use Rattle.distances.specs.View.{graphOf};
-ghost use Rattle.bench.specs.Calls.{endOf};
+ghost use Rattle.protocol.specs.Calls.{endOf};
 ghost use Rattle.bench.specs.Flights.{withCount, takenOut};
 
 // A message's five numbers, at place `place`.

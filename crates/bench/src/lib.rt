@@ -6,9 +6,9 @@ use agreement::EndRecord;
 use agreement::Port;
 
 pub mod answers;
+pub mod batches;
 pub mod changes;
 mod flights;
-pub mod lists;
 pub mod messages;
 mod moves;
 mod ready;
@@ -31,6 +31,19 @@ pub struct Bench {
     pub number: [u16; 16],
     pub records: [EndRecord; 64],
     pub cut: [bool; 32],
+}
+
+// An event of a plan is one call, with its numbers.
+pub enum Event {
+    Update(u8, u8),
+    Send(u8, u8),
+    Deliver(u8),
+    Repeat(u8),
+    Lose(u8),
+    Cut(u8),
+    Restore(u8),
+    Report(u8),
+    Path(u8, u8),
 }
 
 // Refused holds document 01's number, which is not 0.
@@ -72,10 +85,17 @@ pub struct Delivered {
     pub bench: Bench,
 }
 
-// After a list of calls: how many were made, and how many of the plan's bytes they take.
-pub struct Listed {
-    pub reply: Reply,
+// Why a list of events ended: all were made; document 01's number for the next one; the next one's answer has no room.
+pub enum Disposition {
+    Complete,
+    Refused(u8),
+    Full,
+}
+
+// After a list of events: how many were made, and how many numbers they answered with.
+pub struct BatchResult {
+    pub disposition: Disposition,
     pub bench: Bench,
-    pub calls: usize,
-    pub used: usize,
+    pub made: usize,
+    pub answered: usize,
 }

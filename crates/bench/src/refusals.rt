@@ -5,7 +5,7 @@ ghost use mathlib.Core.Path.{_≡_};
 ghost use mathlib.Core.List.{[]};
 ghost use Prim.Native.Nat.{_*_, _≤_, _<_};
 ghost use lib.ListN.{length, getD};
-ghost use Rattle.bench.specs.Calls.{change, update, cut, restore, send, deliver, lose, port, report, refuse};
+ghost use Rattle.protocol.specs.Calls.{change, update, cut, restore, send, deliver, lose, port, report, refuse};
 ghost use Rattle.bench.specs.State.{networkOf};
 
 pub(crate) fn update_refusal(bench: Bench, bridge: usize, view: usize) -> u8

@@ -21,8 +21,8 @@ ghost use Rattle.agreement.specs.Call.{says};
 ghost use Rattle.agreement.specs.Choice.{nextChoice, portBy};
 ghost use Rattle.distances.specs.View.{graphOf, maxCost};
 ghost use Rattle.bench.specs.State.{state};
-ghost use Rattle.bench.specs.Ports.{across};
-ghost use Rattle.bench.specs.Paths.{onward, delivered, stops};
+ghost use Rattle.protocol.specs.Ports.{across};
+ghost use Rattle.protocol.specs.Paths.{onward, delivered, stops};
 ghost use Rattle.bench.specs.Answers.{portIn, linkNumber, reported, hopIn, waySays};
 ghost use Rattle.bench.specs.Steps.{PortsReady, IsFilled, AllFilled, Tables, AreChoices, hopSays};
 
@@ -179,7 +179,7 @@ fn all_choices(
 }
 
 fn report_row(rows: &mut [u32], bridge: usize, choice: Choice)
-    requires { ⌜ (bridge < 16) × (choice .link < 32) × (32 ≤ length (now rows)) ⌝ }
+    requires { ⌜ (bridge < 16) × (choice .link < 32) × (2 * bridge + 2 ≤ length (now rows)) ⌝ }
     ensures { λ r. ⌜ now (rows .exit) ≡ set (set (now (rows .entry)) (2 * bridge) (choice .distance)) (2 * bridge + 1) (linkNumber (portBy choice)) ⌝ }
 {
     rows[2 * bridge] = choice.distance;
@@ -197,7 +197,7 @@ pub(crate) fn report_rows(
     rows: &mut [u32],
 )
     requires { ⌜ PortsReady bench (now costs) (now sent) (now held) ⌝ }
-    requires { ⌜ (dest < bench .bridges) × (32 ≤ length (now rows)) × Tables bench (now costs) (now tables) (now known) ⌝ }
+    requires { ⌜ (dest < bench .bridges) × (2 * bench .bridges ≤ length (now rows)) × Tables bench (now costs) (now tables) (now known) ⌝ }
     ensures { λ r. ⌜ now (rows .exit) ≡ reported (state bench (now (costs .entry)) (now (sent .entry)) (now (held .entry)) []) dest (bench .bridges) (now (rows .entry)) ⌝ }
     ensures { λ r. ⌜ Tables bench (now (costs .entry)) (now (tables .exit)) (now (known .exit)) ⌝ }
 {

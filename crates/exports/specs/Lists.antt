@@ -1,28 +1,44 @@
--- What the exported list of calls does, for every input: its reply and every list that it may write. It is `bench::lists::run`; a list
--- that holds no bench, and one too short for the counts, are refused first. Assumes nothing.
+-- What the exported list of calls does, for every input: its reply and every list that it may write. It is `bench::batches::run` of the
+-- events at the head of a plan's bytes; a list that holds no bench, and one too short for the counts, are refused first. Assumes nothing.
 use Prim.Native.Nat.{ℕ}
-use mathlib.Core.Bool.{_&&_}
+use mathlib.Core.Bool.{cond, _&&_}
 use mathlib.Core.List.{List, [], _∷_}
-use lib.ListN.{length}
-use lib.Dec.{leb}
+use lib.ListN.{length, getD, replicate}
+use lib.Seq.{sets}
+use lib.Dec.{eqb, leb}
 use Rattle.bench.specs.State.{state}
-use Rattle.bench.specs.Lists.{Listed, listOf}
-use Rattle.exports.specs.Call.{Told, told, ifLong, withNumbers}
-use Rattle.exports.specs.Network.{holdsBench, benchIn, low, withBench}
+use Rattle.bench.specs.Batches.{Ran, refusalIn, batchOf}
+use Rattle.bench.specs.declared.Bench.{Bench}
+use Rattle.plan.specs.Events.{Listing, listProgress, eventsReply, bytesBy}
+use Rattle.exports.specs.Call.{Told, told, ifLong}
+use Rattle.exports.specs.Network.{holdsBench, benchIn, low, stored}
 
--- how many calls were made and how many bytes were used go to `out`
-abbrev pub listedTold : List ℕ → List ℕ → Listed → Told
-listedTold xs out o =
-    told (o .reply)
-    (withBench (o .reply) (o .ran .state .bench) xs
-    ∷ withNumbers (o .reply) out (low (o .ran .calls) ∷ low (o .ran .used) ∷ [])
-    ∷ o .ran .state .sent
-    ∷ o .ran .state .held
-    ∷ o .ran .state .messages
-    ∷ o .ran .ways
+-- the new bench where an event was made, else as it was
+abbrev pub withMade : ℕ → Bench → List ℕ → List ℕ
+withMade made b xs = cond (eqb made 0) xs (stored b xs)
+
+-- how many events were made, how many bytes they take, how many numbers they answered with
+abbrev pub countsOf : ℕ → ℕ → ℕ → List ℕ
+countsOf made used answered = low made ∷ low used ∷ low answered ∷ []
+
+abbrev pub ranTold : List ℕ → List ℕ → ℕ → Ran → Told
+ranTold xs out used o =
+    told (refusalIn (o .disposition))
+    (withMade (o .made) (o .state .bench) xs
+    ∷ sets out 0 (countsOf (o .made) used (o .answered))
+    ∷ o .state .sent
+    ∷ o .state .held
+    ∷ o .state .messages
+    ∷ o .answers
     ∷ [])
 
+-- the events that are read
+abbrev pub listedIn : Bench → List ℕ → List ℕ → Listing
+listedIn b rest answers = eventsReply rest (listProgress b) (length answers) (replicate 2049 0)
+
 unfoldable pub netRunTold : List ℕ → List ℕ → List ℕ → List ℕ → List ℕ → List ℕ → List ℕ → List ℕ → Told
-netRunTold xs costs sent held messages rest ways out =
-    ifLong (holdsBench xs && leb 2 (length out)) (xs ∷ out ∷ sent ∷ held ∷ messages ∷ ways ∷ [])
-    (listedTold xs out (listOf (state (benchIn xs) costs sent held messages) rest ways))
+netRunTold xs costs sent held messages rest answers out =
+    let l : Listing = listedIn (benchIn xs) rest answers in
+    let o : Ran = batchOf (state (benchIn xs) costs sent held messages) (l .events) (getD (l .ends) 0 0) answers in
+    ifLong (holdsBench xs && leb 3 (length out)) (xs ∷ out ∷ sent ∷ held ∷ messages ∷ answers ∷ [])
+    (ranTold xs out (bytesBy (l .ends) (o .made)) o)

@@ -12,7 +12,7 @@ use Rattle.agreement.specs.Record.{freshRecord}
 use Rattle.agreement.specs.Call.{Said}
 use Rattle.agreement.specs.declared.Answer.{Answer}
 use Rattle.bench.specs.declared.Bench.{Bench}
-use Rattle.bench.specs.Paths as paths
+use Rattle.protocol.specs.Paths as paths
 use Rattle.bench.specs.State.{State, state}
 use Rattle.bench.specs.Changes.{Changed, Rewritten, freshOf, updateOf, cutOf, restoreOf}
 use Rattle.bench.specs.Flights.{Flown, sendOf, loseOf}

@@ -1,34 +1,38 @@
 // The list of calls of layer 3 over numbers, a bench as `benches` has it, as the single calls of `network` are.
 use crate::benches;
-use crate::network;
-use bench::Changed;
-use bench::Listed;
+use crate::numbers::put_three;
+use bench::BatchResult;
+use bench::batches::refusal_in;
 ghost use mathlib.Core.Path.{_≡_};
 ghost use mathlib.Core.List.{[], _∷_};
 ghost use Prim.Native.Nat.{_≤_};
 ghost use lib.ListN.{length};
-ghost use Rattle.bench.specs.Changes.{number};
-ghost use Rattle.exports.specs.Call.{told, withNumbers};
-ghost use Rattle.exports.specs.Network.{low, withBench};
-ghost use Rattle.exports.specs.Lists.{netRunTold};
+ghost use lib.Seq.{sets};
+ghost use Rattle.bench.specs.Batches.{refusalIn};
+ghost use Rattle.exports.specs.Call.{told};
+ghost use Rattle.exports.specs.Lists.{withMade, countsOf, netRunTold};
 
-// The new bench goes to `numbers`, and the counts to `out`, where the list was not refused.
-fn settle_list(listed: Listed, numbers: &mut [u32], out: &mut [u32]) -> u8
-    requires { ⌜ (388 ≤ length (now numbers)) × (2 ≤ length (now out)) ⌝ }
-    ensures { λ r. ⌜ (r ≡ number (listed .reply)) × (now (numbers .exit) ≡ withBench (number (listed .reply)) (listed .bench) (now (numbers .entry))) × (now (out .exit) ≡ withNumbers (number (listed .reply)) (now (out .entry)) (low (listed .calls) ∷ low (listed .used) ∷ [])) ⌝ }
+// The new bench goes to `numbers` where an event was made, and the counts to `out`.
+fn settle_list(ran: BatchResult, used: usize, numbers: &mut [u32], out: &mut [u32]) -> u8
+    requires { ⌜ (388 ≤ length (now numbers)) × (3 ≤ length (now out)) ⌝ }
+    ensures { λ r. ⌜ (r ≡ refusalIn (ran .disposition)) × (now (numbers .exit) ≡ withMade (ran .made) (ran .bench) (now (numbers .entry))) × (now (out .exit) ≡ sets (now (out .entry)) 0 (countsOf (ran .made) used (ran .answered))) ⌝ }
 {
-    let reply = listed.reply;
-    let bench = listed.bench;
-    let by = network::settle(Changed { reply, bench }, numbers);
-    if by == 0 {
-        out[0] = benches::low_of(listed.calls);
-        out[1] = benches::low_of(listed.used);
+    let how = ran.disposition;
+    let bench = ran.bench;
+    let made = benches::low_of(ran.made);
+    let bytes = benches::low_of(used);
+    let answered = benches::low_of(ran.answered);
+    put_three(made, bytes, answered, out);
+    if ran.made == 0 {
+        return refusal_in(how);
     }
-    by
+    benches::store(bench, numbers);
+    refusal_in(how)
 }
 
-// `bench::lists::run`: how many calls were made goes to out[0], how many bytes they take to out[1], and each path's three numbers, as
-// `bench_net_path` has them, to `ways`.
+// `bench::batches::run` of the events at the head of a plan's bytes, as many as have room for what they answer with: the number of the
+// event that was refused, else 0. How many were made goes to out[0], how many bytes they take to out[1], how many numbers they answered
+// with to out[2].
 #[no_mangle]
 pub extern "C" fn bench_net_run(
     bench: &mut [u32],
@@ -37,18 +41,23 @@ pub extern "C" fn bench_net_run(
     held: &mut [u32],
     messages: &mut [u32],
     rest: &[u8],
-    ways: &mut [u32],
+    answers: &mut [u32],
     out: &mut [u32],
 ) -> u8
-    ensures { λ r. ⌜ told r (now (bench .exit) ∷ now (out .exit) ∷ now (sent .exit) ∷ now (held .exit) ∷ now (messages .exit) ∷ now (ways .exit) ∷ []) ≡ netRunTold (now (bench .entry)) (now (costs .entry)) (now (sent .entry)) (now (held .entry)) (now (messages .entry)) (now (rest .entry)) (now (ways .entry)) (now (out .entry)) ⌝ }
+    ensures { λ r. ⌜ told r (now (bench .exit) ∷ now (out .exit) ∷ now (sent .exit) ∷ now (held .exit) ∷ now (messages .exit) ∷ now (answers .exit) ∷ []) ≡ netRunTold (now (bench .entry)) (now (costs .entry)) (now (sent .entry)) (now (held .entry)) (now (messages .entry)) (now (rest .entry)) (now (answers .entry)) (now (out .entry)) ⌝ }
 {
     if !benches::holds(bench) {
         return 17;
     }
-    if out.len() < 2 {
+    if out.len() < 3 {
         return 17;
     }
     let old = benches::load(bench);
-    let listed = bench::lists::run(old, costs, sent, held, messages, rest, ways);
-    settle_list(listed, bench, out)
+    let mut ends = [0usize; 2049];
+    let progress = plan::events::list_progress(old);
+    let events = plan::events::read_events(rest, progress, answers.len(), &mut ends);
+    let count = ends[0];
+    let ran = bench::batches::run(old, costs, sent, held, messages, events, count, answers);
+    let used = plan::events::bytes_of(&ends, ran.made);
+    settle_list(ran, used, bench, out)
 }

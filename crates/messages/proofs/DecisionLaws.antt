@@ -11,7 +11,10 @@ use Rattle.agreement.specs.declared.Answer.{Answer}
 use Rattle.bench.specs.State.{State, state}
 use Rattle.bench.specs.Flights.{Flown, flown, sendOf, loseOf}
 use Rattle.bench.specs.Deliveries.{Delivered, delivered, deliverOf, repeatOf}
+use Rattle.bench.specs.Batches.{ran, batchOf}
 use Rattle.bench.specs.declared.Bench.{Bench}
+use Rattle.bench.specs.declared.Disposition.{Disposition}
+use Rattle.bench.specs.declared.Event.{Event}
 use Rattle.messages.specs.Steps.{took, shifted}
 use Rattle.messages.proofs.Stores.{part-of-front}
 use Rattle.bench.proofs.FlightAnswers.{Put, Taken, send-left, send-put, lose-left, lose-taken, deliver-left, deliver-taken}
@@ -19,6 +22,10 @@ use Rattle.bench.proofs.FlightAnswers.{Put, Taken, send-left, send-put, lose-le
 -- the numbers lent are as many as are read
 pub lent-length : (n r : ℕ) (ns : List ℕ) → r ≡ min n 64 → length ns ≡ 320 → 5 * r ≡ length (take (5 * r) ns)
 lent-length n r ns e long = sym (length-take-le (5 * r) ns (omega (arith, e, long)))
+
+-- the front of what is left is what the bench left, where that is as long as what it was lent
+pub lent-front : (n r : ℕ) (ns after : List ℕ) → r ≡ min n 64 → length ns ≡ 320 → length after ≡ length (take (5 * r) ns) → took n (after ++ drop (5 * r) ns) ≡ after
+lent-front n r ns after e long same = take-at after (drop (5 * r) ns) (5 * min n 64) (omega (arith, e, same, lent-length n r ns e long))
 
 -- places from i up to j of n messages
 abbrev pub Within : ℕ → ℕ → ℕ → Type 0
@@ -108,9 +115,8 @@ module _ (n r : ℕ) (ns : List ℕ) (e : r ≡ min n 64) (long : length ns ≡ 
   answered : flown k b′ after ≡ sendOf b (took n ns) y l
   answered = subst (λ (i : ℕ). flown k b′ after ≡ sendOf b (take (5 * i) ns) y l) e g
 
-  -- the front of what is left is what the bench left
   front : length after ≡ length (took n ns) → took n exit ≡ after
-  front same = take-at after (drop (5 * r) ns) (5 * min n 64) (same ∙ length-take-le (5 * min n 64) ns (omega (arith, long)))
+  front same = lent-front n r ns after e long (same ∙ sym (ap (λ (i : ℕ). length (take (5 * i) ns)) e))
 
   pub send-decided : b .messages < b′ .messages → Sends n ns exit b y l k b′ (b .messages) (b′ .messages)
   send-decided more =
@@ -146,3 +152,15 @@ module _ (n r : ℕ) (ns : List ℕ) (e : r ≡ min n 64) (long : length ns ≡ 
 
       all : took n exit ≡ after
       all = front (ap length kept)
+
+-- ---- a list of events
+
+pub run-decided :
+    (n r : ℕ) (ns : List ℕ) → r ≡ min n 64 → length ns ≡ 320 → (b : Bench) (costs sent held : List ℕ) (events : List Event) (count : ℕ) (answers : List ℕ)
+    (made answered : ℕ) (how : Disposition) (b′ : Bench) (ss hs after zs : List ℕ) → length after ≡ length (take (5 * r) ns) →
+    ran made answered how (state b′ costs ss hs after) zs ≡ batchOf (state b costs sent held (take (5 * r) ns)) events count answers →
+    ran made answered how (state b′ costs ss hs (took n (after ++ drop (5 * r) ns))) zs ≡ batchOf (state b costs sent held (took n ns)) events count answers
+run-decided n r ns e long b costs sent held events count answers made answered how b′ ss hs after zs same g =
+    ap (λ (l : List ℕ). ran made answered how (state b′ costs ss hs l) zs) (lent-front n r ns after e long same)
+    ∙ g
+    ∙ ap (λ (i : ℕ). batchOf (state b costs sent held (take (5 * i) ns)) events count answers) e

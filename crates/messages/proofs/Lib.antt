@@ -1,10 +1,12 @@
 pub mod Facts
 pub mod Shared
 pub mod LocalNumbers
+pub mod RoomCall
 pub mod NumbersCall
 pub mod RemovalCall
 pub mod AppendCall
 pub mod LimitsCall
+pub mod BatchCall
 pub mod SliceLaws
 pub mod DecisionLaws
 pub mod Counted

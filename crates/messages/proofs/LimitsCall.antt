@@ -3,11 +3,11 @@
 --     Toks, AllToks                the three tokens; these and [κ]_q, the messages'        tokens, all-tokens     the one from the other
 --     Kept, Handed, Said           the costs; these, the tokens and the limit tables; the limit tables' last lists
 --     Params, All                  the parameters, where O is the rest of them, and where O is what is had of the messages, or of the numbers in their place
---     enters           Toks ∗ All  ⊢  Handed ∗ O
+--     takes, enters    Toks ∗ Params  ⊢  Handed ∗ O, and the same of All
 --     hands            Handed ∗ O  ⊢  Toks ∗ Params ∗ Kept
 --     hands-numbers, hands-messages      the same, as what a decision asks, and as what a call over the slice asks
 --     told             what the callee says of last values  ⊢  ⌜the tables' lengths⌝ ∗ Said ∗ what it says of the rest
---     leaves           Said ∗ Kept ∗ O  ⊢  All, as at exit
+--     puts, leaves     Said ∗ Kept ∗ O  ⊢  Params, as at exit, and the same of All
 -- Assumes `Given`.
 use mathlib.Core.Path.{_≡_, refl}
 use Prim.Native.Nat.{ℕ, _<_, _^_}
@@ -21,7 +21,7 @@ use base.Fml.{Lft, Share, Fml, ftrue, fsep, feq, flft}
 use prog.Wp.{Heap}
 use ghost.Atoms.{Atoms, sem}
 use contract.Lifetimes.{Lfts, Shares}
-use types.Kit.{Given, Item, mean, ‵, _⊛_, _$_, _∵_, !, qed, move, keep, drop, use1, use2, split, join, fsplit, fjoin, feqL, check, frame, done}
+use types.Kit.{Given, Item, mean, ‵, _⊛_, _$_, _∵_, !, qed, move, keep, drop, use1, use2, use3, split, join, fsplit, fjoin, feqL, check, frame, done}
 use denote.Laws.{Is}
 use denote.Plain.{uint-makes}
 use denote.Builtin.{u32, usize}
@@ -126,6 +126,19 @@ module _ {M : Type 1} (𝓤 : URA M) (H : Heap 𝓤) (A : Atoms 𝓤) (κs : Lft
           -- [the parameters; costs; Toks]
           move ! (2 ∷ 0 ∷ []) $ join ! $ frame ! $ done !
 
+      pub takes : (O : Fml) → ent 𝓤 (sep 𝓤 (mean 𝓤 H A Toks) (sem 𝓤 H A (Params (Writes κ₁ s) (Writes κ₂ e) O))) (sep 𝓤 (mean 𝓤 H A Handed) (sem 𝓤 H A O))
+      takes O =
+          qed W (Toks ∷ ‵ (Params (Writes κ₁ s) (Writes κ₂ e) O) ∷ []) ∵ move ! (1 ∷ []) $ fsplit ! $ drop ! $ fsplit ! $ move ! (1 ∷ []) $ fsplit ! $ move ! (1 ∷ []) $ fsplit ! $
+          -- [held; O; sent; costs; Toks]
+          move ! (2 ∷ 0 ∷ []) $ join ! $ move ! (2 ∷ 0 ∷ []) $ join ! $ move ! (2 ∷ 0 ∷ []) $ join ! $ frame ! $ done !
+
+      pub puts :
+          (ss es : List ℕ) (O : Fml) →
+          ent 𝓤 (sep 𝓤 (mean 𝓤 H A (Said ss es)) (sep 𝓤 (mean 𝓤 H A Kept) (sem 𝓤 H A O))) (sem 𝓤 H A (Params (finally u32 (s .name) ss) (finally u32 (e .name) es) O))
+      puts ss es O =
+          qed W (Said ss es ∷ Kept ∷ ‵ O ∷ []) ∵ split ! $ move ! (1 ∷ 3 ∷ []) $ fjoin ! $ move ! (1 ∷ 0 ∷ []) $ fjoin ! $ move ! (1 ∷ 0 ∷ []) $ fjoin ! $
+          owned ! B.the-row (Is B.the-row) (LL.makes B.the-type B′.the-plain 𝓤 H A) h _ h-is $ fjoin ! $ done !
+
       module _ (p : ℕ) (p-fits : p < 2 ^ 64) where
         -- O and the place
         abbrev Rest : Fml → Fml
@@ -136,10 +149,7 @@ module _ {M : Type 1} (𝓤 : URA M) (H : Heap 𝓤) (A : Atoms 𝓤) (κs : Lft
 
         pub enters : (O : Fml) → ent 𝓤 (sep 𝓤 (mean 𝓤 H A Toks) (sem 𝓤 H A (All (Writes κ₁ s) (Writes κ₂ e) O))) (sep 𝓤 (mean 𝓤 H A Handed) (sem 𝓤 H A O))
         enters O =
-            qed W (Toks ∷ ‵ (All (Writes κ₁ s) (Writes κ₂ e) O) ∷ []) ∵ move ! (1 ∷ []) $ fsplit ! $ drop ! $
-            fsplit ! $ move ! (1 ∷ []) $ fsplit ! $ move ! (1 ∷ []) $ fsplit ! $ move ! (1 ∷ []) $ fsplit ! $
-            -- [O; the rest; held; sent; costs; Toks]
-            move ! (3 ∷ 2 ∷ []) $ join ! $ move ! (3 ∷ 0 ∷ []) $ join ! $ move ! (3 ∷ 0 ∷ []) $ join ! $ frame ! $ keep ! (0 ∷ []) $ done !
+            qed W (Toks ∷ ‵ (All (Writes κ₁ s) (Writes κ₂ e) O) ∷ []) ∵ use2 W (Handed ⊛ ‵ (Rest O)) (takes (Rest O)) $ split ! $ frame ! $ fsplit ! $ keep ! (0 ∷ []) $ done !
 
         -- the numbers, how many messages there are, and the place
         abbrev Decided : List ℕ → Val → ℕ → Fml
@@ -174,6 +184,5 @@ module _ {M : Type 1} (𝓤 : URA M) (H : Heap 𝓤) (A : Atoms 𝓤) (κs : Lft
             (ss es : List ℕ) (O : Fml) →
             ent 𝓤 (sep 𝓤 (mean 𝓤 H A (Said ss es)) (sep 𝓤 (mean 𝓤 H A Kept) (sem 𝓤 H A O))) (sem 𝓤 H A (All (finally u32 (s .name) ss) (finally u32 (e .name) es) O))
         leaves ss es O =
-            qed W (Said ss es ∷ Kept ∷ ‵ O ∷ []) ∵ nothing ! $ owned ! usize (Is usize) (uint-makes 𝓤 H A W w64) p _ (refl, p-fits) $ fjoin ! $ move ! (3 ∷ 0 ∷ []) $ fjoin ! $
-            move ! (1 ∷ []) $ split ! $ move ! (1 ∷ 2 ∷ []) $ fjoin ! $ move ! (1 ∷ 0 ∷ []) $ fjoin ! $ move ! (1 ∷ 0 ∷ []) $ fjoin ! $
-            owned ! B.the-row (Is B.the-row) (LL.makes B.the-type B′.the-plain 𝓤 H A) h _ h-is $ fjoin ! $ done !
+            qed W (Said ss es ∷ Kept ∷ ‵ O ∷ []) ∵ nothing ! $ owned ! usize (Is usize) (uint-makes 𝓤 H A W w64) p _ (refl, p-fits) $ fjoin ! $ move ! (3 ∷ 0 ∷ []) $ fjoin ! $ move ! (1 ∷ 2 ∷ 0 ∷ []) $
+            use3 W (‵ (All (finally u32 (s .name) ss) (finally u32 (e .name) es) O)) (puts ss es (Rest O)) $ done !

@@ -1,23 +1,24 @@
 -- What the calls with plain parameters cite: 64 messages and 320 numbers are the same thing. Assumes nothing.
---     flight-in, flight-out                          64 messages are all that a call reads of them
+--     flight-all, flight-in, flight-out              64 messages are all that a call reads of them
 --     put-begins, put-turns, put-ends                the loop of `messages_in`: all is left to put, a turn, nothing is left
 --     written-begins, written-turns, written-ends    the loop of `numbers_from`: all is left to write, a turn, nothing is left
 use mathlib.Core.Path.{_≡_, sym, _∙_, ap}
 use Prim.Native.Nat.{ℕ, suc, _+_, _*_, _≤_, _<_}
 use native.Mathlib.Omega.{arith}
-use mathlib.Core.List.{List, [], _∷_, _++_, append-nil}
-use lib.ListN.{length, set, take, drop}
-use lib.Seq.{sets, take-all, drop-length, sets-eq}
+use mathlib.Core.List.{List, [], _∷_}
+use lib.ListN.{length, set}
+use lib.Seq.{sets, take-all}
 use Rattle.messages.specs.declared.Message.{Message}
 use Rattle.messages.specs.Slices.{numbersIn, flight}
 use Rattle.messages.specs.Steps.{messageOf, messageAt, messagesOf, putFrom}
 use Rattle.messages.proofs.Flight.{numbers-length, messages-count}
 use Rattle.messages.proofs.SliceLaws.{numbers-again}
+use Rattle.messages.proofs.Stores.{sets-all}
 use Rattle.messages.proofs.Shifts.{put-one, put-none, writtenFrom, written-one, written-none, written-all}
 
 -- ---- 64 messages
 
-flight-all : (ms : List Message) → length ms ≡ 64 → flight ms ≡ numbersIn ms
+pub flight-all : (ms : List Message) → length ms ≡ 64 → flight ms ≡ numbersIn ms
 flight-all ms e = ap numbersIn (take-all 64 ms (omega (arith, e)))
 
 -- the same of messages that numbers are, and of messages that are back in numbers
@@ -26,15 +27,6 @@ flight-in ns ms e f = flight-all ms e ∙ f
 
 pub flight-out : (ms : List Message) (ns : List ℕ) → length ms ≡ 64 → ns ≡ numbersIn ms → flight ms ≡ ns
 flight-out ms ns e f = flight-all ms e ∙ sym f
-
--- a store of as many as there are
-sets-all : {X : Type 0} (l vs : List X) → length vs ≡ length l → sets l 0 vs ≡ vs
-sets-all {X = X} l vs e =
-    let all : 0 + length vs ≡ length l = omega (arith, e) in
-    sets-eq vs l 0 (omega (arith, e))
-    ∙ ap (λ (n : ℕ). vs ++ drop n l) all
-    ∙ ap (λ (r : List X). vs ++ r) (drop-length l)
-    ∙ append-nil vs
 
 pub put-begins : (ns : List ℕ) (ms : List Message) → length ns ≡ 320 → length ms ≡ 64 → numbersIn (putFrom ns 0 64 ms) ≡ ns
 put-begins ns ms e f =

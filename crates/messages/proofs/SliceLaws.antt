@@ -9,8 +9,8 @@ use lib.Seq.{sets, take-all, take-take, drop-drop, getD-drop}
 use Rattle.messages.specs.declared.Message.{Message}
 use Rattle.messages.specs.Slices.{numbersIn, flight}
 use Rattle.messages.specs.Steps.{took, messagesOf, putFrom}
-use Rattle.messages.proofs.Stores.{take-sets}
-use Rattle.messages.proofs.Flight.{five-more, numbers-sets, messages-count, written-front}
+use Rattle.messages.proofs.Stores.{take-sets, sets-all}
+use Rattle.messages.proofs.Flight.{five-more, numbers-length, numbers-sets, messages-count, written-front}
 
 -- ---- messages put
 
@@ -63,6 +63,16 @@ put-flight ys ns i j order low long =
     ap numbersIn (take-sets 64 (messagesOf ns i (j - i)) ys i (omega (arith, messages-count ns i (j - i))))
     ∙ numbers-sets (messagesOf ns i (j - i)) (take 64 ys) i
     ∙ ap (sets (flight ys) (5 * i)) (numbers-again ns i (j - i) (omega arith))
+
+-- all that a call reads of the slice, put from the numbers
+pub put-all : (ys : List Message) (ns : List ℕ) → length ns ≡ 320 → flight (putFrom ns 0 (min (length ys) 64) ys) ≡ took (length ys) ns
+put-all ys ns long =
+    put-flight ys ns 0 (min (length ys) 64) (omega arith) (omega arith) (omega (arith, long))
+    ∙ ap (λ (k : ℕ). sets (flight ys) 0 (take k ns)) all
+    ∙ sets-all (flight ys) (took (length ys) ns) (omega (arith, long, length-take (5 * min (length ys) 64) ns, numbers-length (take 64 ys), length-take 64 ys))
+  where
+    all : 5 * (min (length ys) 64 - 0) ≡ 5 * min (length ys) 64
+    all = omega arith
 
 -- ---- the numbers read
 

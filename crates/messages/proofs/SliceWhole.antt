@@ -7,8 +7,8 @@ use lib.ListN.{length, take, drop}
 use lib.Seq.{length-take-le}
 use Rattle.agreement.specs.Call.{Said}
 use Rattle.agreement.specs.declared.Answer.{Answer}
-use Rattle.bench.specs.Net.{fresh}
-use Rattle.bench.specs.Calls.{Call, send, deliver, repeat, lose, run}
+use Rattle.protocol.specs.Net.{fresh}
+use Rattle.protocol.specs.Calls.{Call, send, deliver, repeat, lose, run}
 use Rattle.bench.specs.State.{state}
 use Rattle.bench.specs.Flights.{Flown, flown, sendOf, loseOf}
 use Rattle.bench.specs.Deliveries.{Delivered, delivered, deliverOf, repeatOf}

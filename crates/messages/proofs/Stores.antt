@@ -2,9 +2,9 @@
 use mathlib.Core.Path.{_≡_, refl, _∙_, ap}
 use Prim.Native.Nat.{ℕ, zero, suc, _+_, _≤_}
 use native.Mathlib.Omega.{arith}
-use mathlib.Core.List.{List, [], _∷_}
+use mathlib.Core.List.{List, [], _∷_, _++_, append-nil}
 use lib.ListN.{length, set, take, drop}
-use lib.Seq.{sets, take-set-lt, drop-set-lt, take-take, take-nil}
+use lib.Seq.{sets, sets-eq, take-set-lt, drop-set-lt, take-take, take-nil, drop-length}
 
 module _ {A : Type 0} where
   -- stores below n: they go to the first n, and the rest stays
@@ -22,3 +22,12 @@ module _ {A : Type 0} where
   part-of-front a (suc b) c [] h = ap (λ (r : List A). take a (drop (suc b) r)) (take-nil c)
   part-of-front a (suc b) zero (x ∷ xs) h = absurd (omega arith)
   part-of-front a (suc b) (suc c) (x ∷ xs) h = part-of-front a b c xs (omega arith)
+
+  -- a store of as many as there are
+  pub sets-all : (l vs : List A) → length vs ≡ length l → sets l 0 vs ≡ vs
+  sets-all l vs e =
+      let all : 0 + length vs ≡ length l = omega (arith, e) in
+      sets-eq vs l 0 (omega (arith, e))
+      ∙ ap (λ (n : ℕ). vs ++ drop n l) all
+      ∙ ap (λ (r : List A). vs ++ r) (drop-length l)
+      ∙ append-nil vs

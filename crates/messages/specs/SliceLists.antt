@@ -4,11 +4,11 @@ use Prim.Native.Nat.{ℕ, _≤_}
 use mathlib.Core.Path.{_≡_}
 use mathlib.Core.List.{List, [], _∷_}
 use lib.ListN.{length, drop}
-use Rattle.bench.specs.Net.{Network, fresh}
-use Rattle.bench.specs.Calls.{Call, run}
+use Rattle.protocol.specs.Net.{Network, fresh}
+use Rattle.protocol.specs.Calls.{Call, run}
 use Rattle.bench.specs.State.{State, state}
 use Rattle.bench.specs.Changes.{freshOf}
-use Rattle.bench.specs.Demand3.{Holds}
+use Rattle.protocol.specs.Demand3.{Holds}
 use Rattle.bench.specs.Whole.{Represents, Answers, planIn, freshBy, stepBy}
 use Rattle.bench.specs.declared.Bench.{Bench}
 use Rattle.messages.specs.declared.Message.{Message}

@@ -47,7 +47,7 @@ pub(crate) fn numbers_of(ms: &[Message], count: usize, numbers: &mut [u32])
     }
 }
 
-// The messages at places `from` up to `past`, as their numbers have them: one is appended, or none.
+// The messages at places `from` up to `past`, as their numbers have them: the one that is sent, or none; all of them after a list.
 pub(crate) fn append(ms: &mut [Message], numbers: &[u32], from: usize, past: usize)
     requires { ⌜ (past ≤ length (now ms)) × (5 * past ≤ length (now numbers)) ⌝ }
     ensures { λ _. ⌜ now (ms .exit) ≡ putFrom (now (numbers .entry)) from past (now (ms .entry)) ⌝ }

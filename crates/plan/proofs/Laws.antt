@@ -71,6 +71,17 @@ in-range-links p e =
     let more = both-true (eqb (p .bridges) 0 || leb leastBridges (p .bridges) && leb (p .bridges) mostBridges) _ counts .1 in
     leb-true (p .links) mostLinks (both-true (leb (p .links) mostLinks) _ more .0)
 
+-- nor a bridge
+in-range-bridges : (p : Progress) → progressInRange p ≡ true → p .bridges ≤ mostBridges
+unfolding progressInRange
+in-range-bridges p e =
+    let counts = both-true (leb (p .stage) 3) _ e .1 in
+    let counted = both-true (eqb (p .bridges) 0 || leb leastBridges (p .bridges) && leb (p .bridges) mostBridges) _ counts .0 in
+    ⊎-elim
+    (λ h. omega (arith, eqb-true (p .bridges) 0 h))
+    (λ h. leb-true (p .bridges) mostBridges (both-true (leb leastBridges (p .bridges)) _ h .1))
+    (one-true (eqb (p .bridges) 0) _ counted)
+
 -- a stop is no field
 stops : {n : ℕ} {f : Field} {k : ℕ} → Read.Stop n ≡ Read.Field f k → ⊥
 stops e = let z : _≡_ {A = ℕ} 0 1 = cc in omega arith
@@ -184,6 +195,15 @@ field-size rest p e =
     let t = none-applies rest p e in
     let h = header-told rest p (t .header) in
     (omega arith, omega arith, t .taken)
+
+-- and the bridges are few
+pub field-bridges : (rest : List ℕ) (p : Progress) {f : Field} {k : ℕ} → readReply rest p ≡ Read.Field f k → p .bridges ≤ mostBridges
+unfolding readReply
+field-bridges rest p {f} {k} = go (progressInRange p) refl
+  where
+    go : (b : Bool) → progressInRange p ≡ b → cond b (readOf rest p) (Read.Stop 17) ≡ Read.Field f k → p .bridges ≤ mostBridges
+    go true l e = in-range-bridges p l
+    go false l e = absurd (stops e)
 
 pub field-told : (rest : List ℕ) (p : Progress) {f : Field} {k : ℕ} → readReply rest p ≡ Read.Field f k → Told rest p f
 field-told rest p e =

@@ -1,3 +1,5 @@
 pub mod TagTable
 pub mod Laws
 pub mod CostRows
+pub mod EventLaws
+pub mod EventTurns

@@ -20,3 +20,7 @@ headerBytes = 3
 -- a link's cost in a view
 abbrev pub costBytes : ℕ
 costBytes = 4
+
+-- the events of one list of calls
+abbrev pub mostEvents : ℕ
+mostEvents = 2048

@@ -1,5 +1,8 @@
 // The plan file's reader: what stands at the head of the bytes that are left, given how far the plan has come.
+use bench::Event;
+
 mod bytes;
+pub mod events;
 pub mod fields;
 mod header;
 mod sizes;
@@ -12,18 +15,6 @@ pub struct Progress {
     pub bridges: usize,
     pub links: usize,
     pub views: usize,
-}
-
-pub enum Event {
-    Update(u8, u8),
-    Send(u8, u8),
-    Deliver(u8),
-    Repeat(u8),
-    Lose(u8),
-    Cut(u8),
-    Restore(u8),
-    Report(u8),
-    Path(u8, u8),
 }
 
 // A setup or an event. A view's costs stand in the plan after the field's header.

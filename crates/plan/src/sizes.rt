@@ -14,3 +14,6 @@ pub(crate) const HEADER_BYTES: usize = 3;
 
 // A link's cost in a view.
 pub(crate) const COST_BYTES: usize = 4;
+
+// The events of one list of calls.
+pub(crate) const MOST_EVENTS: usize = 2048;

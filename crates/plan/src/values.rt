@@ -1,5 +1,4 @@
 // The tag's own checks, and the field that is read.
-use crate::Event;
 use crate::Field;
 use crate::Progress;
 use crate::bytes::byte_at;
@@ -10,6 +9,7 @@ use crate::sizes::MAX_COST;
 use crate::sizes::MOST_BRIDGES;
 use crate::sizes::MOST_LINKS;
 use crate::sizes::MOST_VIEWS;
+use bench::Event;
 use distances::ready::both;
 ghost use mathlib.Core.Path.{_≡_};
 ghost use Prim.Native.Nat.{_≤_, _<_};

@@ -93,8 +93,7 @@ fn carry_out(plan: &[u8], out: &mut [u8]) -> Reply
     let mut costs = [0u32; 1024];
     let mut sent = [0u32; 1024];
     let mut held = [0u32; 1024];
-    let mut messages = [0u32; 320];
-    let mut rows = [0u32; 32];
+    let mut messages = runner::steps::first_messages();
     let mut r = runner::steps::first();
     let mut at = 0;
     let mut printed = 0;
@@ -106,8 +105,7 @@ fn carry_out(plan: &[u8], out: &mut [u8]) -> Reply
             &mut costs,
             &mut sent,
             &mut held,
-            &mut messages,
-            &mut rows,
+            messages,
             out,
         );
         let written = filled.written;
@@ -118,6 +116,7 @@ fn carry_out(plan: &[u8], out: &mut [u8]) -> Reply
         at += filled.used;
         going = filled.going;
         r = filled.runner;
+        messages = filled.messages;
     }
     Reply::Printed(printed)
 }

@@ -1,52 +1,63 @@
 -- What a step does whatever stands in the bytes to be printed: its text goes into the first of them, and is short. Assumes nothing.
-use Prim.Native.Nat.{ℕ, _+_, _≤_, _<_}
+use Prim.Native.Nat.{ℕ, _+_, _*_, _≤_, _<_}
 use native.Mathlib.Omega.{arith}
 use mathlib.Core.Path.{_≡_, refl}
 use mathlib.Core.Bool.{Bool, true, false, cond, _&&_}
-use mathlib.Core.List.{List, [], _∷_}
+use mathlib.Core.List.{List, []}
 use borrow.Author.Tests.{leb-true, leb-false, le-leb, lt-leb, eqb-true}
-use lib.ListN.{length}
+use lib.ListN.{length, getD}
 use lib.Seq.{sets, length-sets}
 use lib.Dec.{eqb, leb}
 use Rattle.distances.proofs.Booleans.{both-true, not-both}
-use Rattle.bench.specs.Paths as paths
 use Rattle.bench.specs.State.{State}
+use Rattle.bench.specs.Batches.{replyOf, answersOf, answerSize}
 use Rattle.bench.specs.Changes.{Rewritten}
-use Rattle.bench.specs.Answers.{reportOf, pathOf}
-use Rattle.bench.proofs.AnswerRanges.{report-few}
+use Rattle.bench.specs.declared.Event.{Event}
+use Rattle.bench.specs.declared.Event.the-variants.{Update, Send, Deliver, Repeat, Lose, Cut, Restore, Report, Path}
+use Rattle.bench.proofs.BatchRuns.{accepted-bridges, answers-length}
 use Rattle.plan.specs.Reading.{readReply}
-use Rattle.plan.specs.declared.Event.{Event}
-use Rattle.plan.specs.declared.Event.the-variants.{Update, Send, Deliver, Repeat, Lose, Cut, Restore, Report, Path}
 use Rattle.plan.specs.declared.Field.{Field}
 use Rattle.plan.specs.declared.Read.{Read}
 use Rattle.plan.proofs.Laws.{field-size}
-use Rattle.text.specs.Lines.{endText, refusedText}
+use Rattle.text.specs.Lines.{deliveredText, stopsText, endText, refusedText}
 use Rattle.text.proofs.Laws.{length-reportText, length-deliveredText, length-stopsText, length-endText, length-refusedText}
 use Rattle.runner.specs.Buffers.{Buffers, buffers, buffersLong, stateOn, buffersWith, progressOf}
-use Rattle.runner.specs.Events.{replyOf, rowsAfter, textOf, wayText, stateAfter}
+use Rattle.runner.specs.Events.{pathText, eventText, textOf, stateAfter}
 use Rattle.runner.specs.Turns.{Turn, turn, lastTurn, lastText, setupTurn, withBridges, withLink, withView, withRow, opened, viewTurn, eventTurn, fieldTurn, readTurn, runnerInRange, stepOf}
 use Rattle.runner.specs.Fills.{buffersWithOut}
 use Rattle.runner.specs.declared.Runner.{Runner}
 
 -- ---- texts are short
 
-pub way-short : (start dest : ℕ) (ways : List paths.Way) → length (wayText start dest ways) ≤ 544
-unfolding wayText
-way-short start dest [] = omega arith
-way-short start dest (paths.delivered h ∷ ws) = length-deliveredText start dest h
-way-short start dest (paths.stops b h ∷ ws) = length-stopsText start dest b h
+path-short : (start dest : ℕ) (answers : List ℕ) → length (pathText start dest answers) ≤ 66
+unfolding pathText
+path-short start dest answers = go (eqb (getD answers 0 0) 0)
+  where
+    go : (b : Bool) → length (cond b (deliveredText start dest (getD answers 2 0)) (stopsText start dest (getD answers 1 0) (getD answers 2 0))) ≤ 66
+    go true = length-deliveredText start dest (getD answers 2 0)
+    go false = length-stopsText start dest (getD answers 1 0) (getD answers 2 0)
 
-pub text-short : (s : State) (rows : List ℕ) (e : Event) → replyOf s rows e ≡ 0 → length (textOf s rows e) ≤ 544
-unfolding textOf replyOf
-text-short s rows (Update y t) none = omega arith
-text-short s rows (Send y l) none = omega arith
-text-short s rows (Deliver p) none = omega arith
-text-short s rows (Repeat p) none = omega arith
-text-short s rows (Lose p) none = omega arith
-text-short s rows (Cut l) none = omega arith
-text-short s rows (Restore l) none = omega arith
-text-short s rows (Report d) none = length-reportText d (s .bench .bridges) (reportOf s d rows .rows) (report-few s d rows none)
-text-short s rows (Path y d) none = way-short y d (pathOf s y d .value)
+pub record ShortText (s : State) (e : Event) : Type 0 where
+  pub room : length (textOf s e) ≤ 544
+  pub few : length (textOf s e) ≤ 22 * length (answersOf s e)
+
+-- a text has room among 544 bytes, and 22 for each number that its event answers with
+pub text-short : (s : State) (e : Event) → replyOf s e ≡ 0 → ShortText s e
+unfolding eventText answerSize
+text-short s (Update y t) none = record { room = omega arith; few = omega arith }
+text-short s (Send y l) none = record { room = omega arith; few = omega arith }
+text-short s (Deliver p) none = record { room = omega arith; few = omega arith }
+text-short s (Repeat p) none = record { room = omega arith; few = omega arith }
+text-short s (Lose p) none = record { room = omega arith; few = omega arith }
+text-short s (Cut l) none = record { room = omega arith; few = omega arith }
+text-short s (Restore l) none = record { room = omega arith; few = omega arith }
+text-short s (Report d) none =
+    let short = length-reportText d (s .bench .bridges) (answersOf s (Report d)) in
+    let bridges = accepted-bridges s (Report d) none in
+    record { room = omega (arith, short, bridges .1); few = omega (arith, short, bridges .0, answers-length s (Report d) none) }
+text-short s (Path y d) none =
+    let short = path-short y d (answersOf s (Path y d)) in
+    record { room = omega (arith, short); few = omega (arith, short, answers-length s (Path y d) none) }
 
 last-short : (number events offset : ℕ) → length (lastText number events offset) ≤ 544
 unfolding lastText
@@ -75,31 +86,31 @@ module _ (e : Event) (used most : ℕ) (r : Runner) (k : Buffers) where
 
   event-texts : used ≤ most → Texts most (λ out. eventTurn e used r (buffersWithOut out k))
   unfolding eventTurn lastTurn
-  event-texts low = go (eqb (replyOf now (k .rows) e) 0) refl
+  event-texts low = go (eqb (replyOf now e) 0) refl
     where
-      go : (b : Bool) → eqb (replyOf now (k .rows) e) 0 ≡ b → Texts most (λ out. eventTurn e used r (buffersWithOut out k))
+      go : (b : Bool) → eqb (replyOf now e) 0 ≡ b → Texts most (λ out. eventTurn e used r (buffersWithOut out k))
       go true q =
           record {
             reply = 0;
             going = true;
             used = used;
             runner = record { bench = stateAfter now e .bench; stage = 3; events = r .events + 1; offset = r .offset + used };
-            after = buffersWith (stateAfter now e) (rowsAfter now (k .rows) e) [] k;
-            text = textOf now (k .rows) e;
+            after = buffersWith (stateAfter now e) [] k;
+            text = textOf now e;
             fits = low;
-            short = text-short now (k .rows) e (eqb-true _ 0 q);
+            short = text-short now e (eqb-true _ 0 q) .room;
             is = λ out long. rw q;
           }
       go false q =
           record {
-            reply = replyOf now (k .rows) e;
+            reply = replyOf now e;
             going = false;
             used = 0;
             runner = r;
             after = k;
-            text = refusedText (replyOf now (k .rows) e) (r .offset);
+            text = refusedText (replyOf now e) (r .offset);
             fits = omega arith;
-            short = length-refusedText (replyOf now (k .rows) e) (r .offset);
+            short = length-refusedText (replyOf now e) (r .offset);
             is = λ out long. rw q;
           }
 
@@ -137,7 +148,7 @@ field-texts rest Field.View used most r k low =
       going = true;
       used = used;
       runner = record { bench = network .bench; stage = 2; events = r .events; offset = r .offset + used };
-      after = buffers costs (network .sent) (network .held) (k .messages) (k .rows) (k .out);
+      after = buffers costs (network .sent) (network .held) (k .messages) (k .out);
       text = [];
       fits = low;
       short = omega arith;
@@ -150,7 +161,7 @@ abbrev othersLong : Buffers → Bool
 othersLong k =
     leb 1024 (length (k .costs))
     && (leb 1024 (length (k .sent))
-    && (leb 1024 (length (k .held)) && (leb 320 (length (k .messages)) && (leb 32 (length (k .rows)) && true))))
+    && (leb 1024 (length (k .held)) && (leb 320 (length (k .messages)) && true)))
 
 pub step-texts : (r : Runner) (k : Buffers) (rest : List ℕ) → Texts (length rest) (λ out. stepOf r (buffersWithOut out k) rest)
 unfolding stepOf readTurn lastTurn buffersLong
@@ -201,7 +212,7 @@ step-texts r k rest = go (runnerInRange r && othersLong k) (readReply rest (prog
 pub step-cramped : (r : Runner) (k : Buffers) (rest : List ℕ) → length (k .out) < 544 → stepOf r k rest ≡ turn 17 false 0 0 r k
 unfolding stepOf buffersLong
 step-cramped r k rest few =
-    let last = not-both (leb 32 (length (k .rows))) _ (lt-leb 544 (length (k .out)) few) in
+    let last = lt-leb 544 (length (k .out)) few in
     let two = not-both (leb 1024 (length (k .held))) _ (not-both (leb 320 (length (k .messages))) _ last) in
     let four = not-both (leb 1024 (length (k .sent))) _ two in
     rw (not-both (runnerInRange r) _ (not-both (leb 1024 (length (k .costs))) _ four))

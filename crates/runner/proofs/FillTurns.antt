@@ -4,6 +4,7 @@ use native.Mathlib.Omega.{arith}
 use mathlib.Core.Path.{_≡_, refl, sym, ap, subst, _∙_}
 use mathlib.Core.Bool.{Bool, true, false, cond, _&&_}
 use mathlib.Core.List.{List, _++_, append-nil}
+use borrow.Author.Tests.{leb-true}
 use lib.ListN.{length, take, drop, length-append, length-drop, drop-of-length-le}
 use lib.Seq.{take-all, length-take-le}
 use lib.Dec.{leb}
@@ -179,6 +180,10 @@ one-made-kept rest t u k on same e = one-made rest t u on (rw same at e)
 pub goes-on : (t : Turn) → stepsOn t ≡ true → t .going ≡ true
 unfolding stepsOn
 goes-on t on = both-true (t .going) _ on .0
+
+pub has-room : (t : Turn) → stepsOn t ≡ true → 544 ≤ length (t .buffers .out) - t .written
+unfolding stepsOn
+has-room t on = leb-true 544 (length (t .buffers .out) - t .written) (both-true (t .going) _ on .1)
 
 pub filled : (r : Runner) (k : Buffers) (rest : List ℕ) (from t : Turn) → from ≡ stepOf r k rest → Underway from rest t → stepsOn t ≡ false → t ≡ fillOf r k rest
 unfolding fillOf

@@ -1,7 +1,4 @@
 pub mod EventSteps
-pub mod EventFrames
-pub mod EventRanges
-pub mod StepRefused
 pub mod StepTurns
 pub mod RunSteps
 pub mod RunFuel
@@ -12,7 +9,8 @@ pub mod RunWhole
 pub mod FillTexts
 pub mod FillTurns
 pub mod FillLaws
+pub mod ListOne
 pub mod ListSteps
 pub mod ListTurns
 pub mod ListTexts
-pub mod ListMade
+pub mod ListResults

@@ -1,190 +1,175 @@
--- The lines of the fields of a list, written one behind the other. Assumes nothing.
-use Prim.Native.Nat.{ℕ, suc, _+_, _-_, _*_, _≤_, _<_}
-use native.Mathlib.Nat.{sub-zero}
+-- The lines of the events of a list, written one behind the other. Assumes nothing.
+use Prim.Native.Nat.{ℕ, zero, suc, _+_, _-_, _*_, _≤_, _<_}
+use native.Mathlib.Numerals.{add-one}
 use native.Mathlib.Omega.{arith}
 use mathlib.Core.Path.{_≡_, refl, sym, ap, _∙_}
-use mathlib.Core.Logic.{⊎-elim}
+use mathlib.Core.Bool.{false}
 use mathlib.Core.List.{List, [], _∷_, _++_, append-nil, append-assoc}
-use types.Run.{OneOf}
-use denote.Enum.Declared.{tagOf}
-use lib.ListN.{length, getD, take, drop, length-drop, drop-of-length-le}
-use lib.Seq.{sets, length-sets, getD-take, take-all, drop-drop}
-use Rattle.agreement.specs.Call.{says}
-use Rattle.bench.specs.Answers.{waySays}
-use Rattle.bench.specs.declared.Way.{Way}
-use Rattle.plan.specs.Reading.{readReply}
-use Rattle.plan.specs.declared.Event.{Event}
-use Rattle.plan.specs.declared.Event.the-variants.{Update, Send, Deliver, Repeat, Lose, Cut, Restore, Report, Path}
-use Rattle.plan.specs.declared.Field.{Field}
-use Rattle.plan.specs.declared.Progress.{Progress}
-use Rattle.plan.specs.declared.Read.{Read}
-use Rattle.plan.proofs.Event as event
-use Rattle.plan.proofs.Field as field
-use Rattle.plan.proofs.Laws.{field-size}
+use borrow.Author.Tests.{ne-eqb}
+use lib.ListN.{length, getD, take, drop, length-append, length-drop, drop-of-length-le}
+use lib.Seq.{sets, length-sets, getD-take, take-all, take-append-le, drop-drop, drop-cons, length-take-le}
+use Rattle.bench.specs.Batches.{answerSize, answerSizes, refusalIn}
+use Rattle.bench.specs.declared.Disposition.{Disposition}
+use Rattle.bench.specs.declared.Event.{Event}
+use Rattle.text.specs.Lines.{refusedText}
 use Rattle.text.specs.Writing.{Put}
+use Rattle.text.proofs.Laws.{length-refusedText}
 use Rattle.text.proofs.Puts.{joined, nothing}
-use Rattle.runner.specs.Events.{wayText, Line, line, lineOf}
-use Rattle.runner.specs.Lists.{wayIn, eventText, FieldText, readText, headText, listTexts}
-use Rattle.runner.proofs.FillTexts.{way-short}
+use Rattle.runner.specs.Events.{eventText, Line, line, lineOf}
+use Rattle.runner.specs.Turns.{Turn, lastText}
+use Rattle.runner.specs.Lists.{textsOf, turned, refusedOn, endedOn, SomeNumber}
+use Rattle.runner.specs.declared.Stepped.{Stepped}
 use Rattle.runner.proofs.ListSteps.{behind-is}
 
--- ---- one field
+-- the part of a list from `at` to its end, as the code lends it
+pub rest-lent : {A : Type 0} (l : List A) (at : ℕ) → take (length l - at) (drop at l) ≡ drop at l
+rest-lent l at = take-all (length l - at) (drop at l) (omega (arith, length-drop at l))
 
--- the keys of a `match` that are left over, for an event that is no path and for a field that is no event
-eight : (x : ℕ) → OneOf (0 ∷ 1 ∷ 2 ∷ 3 ∷ 4 ∷ 5 ∷ 6 ∷ 7 ∷ []) x → x < 8
-eight x = ⊎-elim (λ h. omega arith) (⊎-elim (λ h. omega arith) (⊎-elim (λ h. omega arith) (⊎-elim (λ h. omega arith) (⊎-elim (λ h. omega arith) (⊎-elim (λ h. omega arith) (⊎-elim (λ h. omega arith) (λ h. omega arith)))))))
+-- its length, and that of a part of so many
+pub lent-room : (out : List ℕ) (end : ℕ) → end + 544 ≤ length out → 544 ≤ length (take (length out - end) (drop end out))
+lent-room out end room = rw (rest-lent out end) (omega (arith, length-drop end out))
 
-three : (x : ℕ) → OneOf (0 ∷ 1 ∷ 2 ∷ []) x → x < 3
-three x = ⊎-elim (λ h. omega arith) (⊎-elim (λ h. omega arith) (λ h. omega arith))
+pub lent-size : (answers : List ℕ) (at : ℕ) {width size : ℕ} → at + width ≤ length answers → width ≡ size → size ≤ length (take (at + width - at) (drop at answers))
+lent-size answers at {width} {size} fits same =
+    let all : at + width - at ≡ size = omega arith in
+    rw all (omega (arith, length-take-le size (drop at answers) (omega (arith, length-drop at answers))))
 
--- none but a path prints anything
-quiet-event : (e : Event) (way : List ℕ) → OneOf (0 ∷ 1 ∷ 2 ∷ 3 ∷ 4 ∷ 5 ∷ 6 ∷ 7 ∷ []) (tagOf event.the-type e) → eventText e way ≡ []
-unfolding eventText
-quiet-event (Update b t) way h = refl
-quiet-event (Send b l) way h = refl
-quiet-event (Deliver p) way h = refl
-quiet-event (Repeat p) way h = refl
-quiet-event (Lose p) way h = refl
-quiet-event (Cut l) way h = refl
-quiet-event (Restore l) way h = refl
-quiet-event (Report d) way h = refl
-quiet-event (Path y d) way h = absurd (omega (arith, eight 8 h))
+-- a list with its first numbers rewritten is as long
+pub whole-length : (a b : List ℕ) (n : ℕ) → length a ≡ n → n ≤ length b → length b ≡ length (a ++ drop n b)
+whole-length a b n same few = sym (length-append a (drop n b) ∙ omega (arith, length-drop n b))
 
-quiet-field : (f : Field) (used : ℕ) (way : List ℕ) → OneOf (0 ∷ 1 ∷ 2 ∷ []) (tagOf field.the-type f) → readText (Read.Field f used) way ≡ record { used = used; text = [] }
-unfolding readText
-quiet-field (Field.Bridges n) used way h = refl
-quiet-field (Field.Link x y) used way h = refl
-quiet-field Field.View used way h = refl
-quiet-field (Field.Event e) used way h = absurd (omega (arith, three 3 h))
-
--- what was written for it
-abbrev pub Tells : Progress → List ℕ → List ℕ → List ℕ → ℕ → ℕ → List ℕ → Type 0
-Tells p rest ways out used written after =
-    (used ≡ headText p rest ways .used) × (line written after ≡ lineOf (headText p rest ways .text) out)
-
-module _ (p : Progress) (rest ways out : List ℕ) (d : Read) (same : d ≡ readReply rest p) where
-  pub tells-stop : (n : ℕ) → d ≡ Read.Stop n → Tells p rest ways out 0 0 out
-  unfolding readText
-  tells-stop n is = rw (← same, is) (refl, refl)
-
-  module _ (f : Field) (used : ℕ) (is : d ≡ Read.Field f used) where
-    pub tells-setup : OneOf (0 ∷ 1 ∷ 2 ∷ []) (tagOf field.the-type f) → Tells p rest ways out used 0 out
-    tells-setup h = rw (← same, is, quiet-field f used (take 3 ways) h) (refl, refl)
-
-    module _ (e : Event) (is-event : f ≡ Field.Event e) where
-      pub tells-quiet : OneOf (0 ∷ 1 ∷ 2 ∷ 3 ∷ 4 ∷ 5 ∷ 6 ∷ 7 ∷ []) (tagOf event.the-type e) → Tells p rest ways out used 0 out
-      unfolding readText
-      tells-quiet h = rw (← same, is, is-event, quiet-event e (take 3 ways) h) (refl, refl)
-
-      pub tells-path :
-          (y z : ℕ) → e ≡ Path y z → (w : Way) → waySays w ≡ says (wayIn (getD ways 0 0 ∷ getD ways 1 0 ∷ getD ways 2 0 ∷ [])) →
-          (written : ℕ) (after : List ℕ) → line written after ≡ lineOf (wayText y z (waySays w .value)) out → Tells p rest ways out used written after
-      unfolding readText eventText
-      tells-path y z is-path w says-so written after put =
-          rw (← same, is, is-event, is-path, getD-take 3 ways 0 0 (omega arith), getD-take 3 ways 1 0 (omega arith), getD-take 3 ways 2 0 (omega arith)) (refl, rw says-so at put)
-
--- ---- field after field
-
--- each line is short
-event-fits : (e : Event) (way : List ℕ) → length (eventText e way) ≤ 544
-unfolding eventText
-event-fits (Update b t) way = omega arith
-event-fits (Send b l) way = omega arith
-event-fits (Deliver p) way = omega arith
-event-fits (Repeat p) way = omega arith
-event-fits (Lose p) way = omega arith
-event-fits (Cut l) way = omega arith
-event-fits (Restore l) way = omega arith
-event-fits (Report d) way = omega arith
-event-fits (Path y d) way = way-short y d (wayIn way ∷ [])
-
--- the bytes of a field are there
-pub head-fits : (p : Progress) (rest ways : List ℕ) → (headText p rest ways .used ≤ length rest) × (length (headText p rest ways .text) ≤ 544)
-unfolding readText
-head-fits p rest ways = go (readReply rest p) refl
-  where
-    go : (d : Read) → readReply rest p ≡ d → (readText d (take 3 ways) .used ≤ length rest) × (length (readText d (take 3 ways) .text) ≤ 544)
-    go (Read.Stop n) e = (omega arith, omega arith)
-    go (Read.Field (Field.Bridges n) used) e = (field-size rest p e .1, omega arith)
-    go (Read.Field (Field.Link x y) used) e = (field-size rest p e .1, omega arith)
-    go (Read.Field Field.View used) e = (field-size rest p e .1, omega arith)
-    go (Read.Field (Field.Event v) used) e = (field-size rest p e .1, event-fits v (take 3 ways))
-
-module _ (written : ℕ) (rest : List ℕ) (p : Progress) (calls : ℕ) (ways out₀ : List ℕ) where
-  -- after k fields: what is written, and what is still to be
+module _ (bridges written : ℕ) (es : List Event) (answers out₀ : List ℕ) where
+  -- after k events: what is written, and what is still to be
   pub record Telling (out : List ℕ) (end at k : ℕ) : Type 0 where
     pub text : List ℕ
     pub put : Put out₀ written text out end
-    pub whole : listTexts calls p rest ways ≡ text ++ listTexts (calls - k) p (drop at rest) (drop (3 * k) ways)
-    pub few : k ≤ calls
-    pub inside : at ≤ length rest
-    pub room : end + 544 * (calls - k) ≤ length out
-    pub numbers : 3 * calls ≤ length ways
+    pub whole : textsOf bridges es answers ≡ text ++ textsOf bridges (drop k es) (drop at answers)
+    pub few : k ≤ length es
+    pub numbers : at + answerSizes bridges (drop k es) ≤ length answers
+    pub room : end + length (textsOf bridges (drop k es) (drop at answers)) + 544 ≤ length out
 
-  pub telling-none : 3 * calls ≤ length ways → written + 544 * calls ≤ length out₀ → Telling out₀ written 0 0
-  telling-none long room =
-      record {
-        text = [];
-        put = nothing out₀ written;
-        whole = rw sub-zero;
-        few = omega arith;
-        inside = omega arith;
-        room = omega (arith, room);
-        numbers = long;
-      }
+  pub telling-none : answerSizes bridges es ≤ length answers → written + length (textsOf bridges es answers) + 544 ≤ length out₀ → Telling out₀ written 0 0
+  telling-none few room =
+      record { text = []; put = nothing out₀ written; whole = refl; few = omega arith; numbers = omega (arith, few); room = room }
 
-  module _ (out : List ℕ) (end at k : ℕ) (t : Telling out end at k) (more : k < calls) where
-    -- the field that comes next
-    abbrev here : FieldText
-    here = headText p (drop at rest) (drop (3 * k) ways)
+  module _ (out : List ℕ) (end at k : ℕ) (t : Telling out end at k) (none e : Event) (is : e ≡ getD es k none) (more : k < length es) where
+    abbrev size : ℕ
+    size = answerSize bridges e
 
-    pub telling-more : (used count : ℕ) (after : List ℕ) → Tells p (drop at rest) (drop (3 * k) ways) (drop end out) used count after → Telling (take end out ++ after) (end + count) (at + used) (k + 1)
-    unfolding listTexts
-    telling-more used count after tells =
-        let fits = head-fits p (drop at rest) (drop (3 * k) ways) in
-        let next : calls - k ≡ suc (calls - (k + 1)) = omega arith in
-        let three : 3 * k + 3 ≡ 3 * (k + 1) = omega arith in
-        let counted : count ≡ length (here .text) = ap (λ (l : Line). l .count) (tells .1) in
-        let bytes : after ≡ sets (drop end out) 0 (here .text) = ap (λ (l : Line). l .out) (tells .1) in
-        let joint : take end out ++ after ≡ sets out end (here .text) = ap (λ (l : List ℕ). take end out ++ l) bytes ∙ behind-is out (here .text) end (omega (arith, fits .1, t .room, next)) in
-        record {
-          text = t .text ++ here .text;
+    -- the line that comes next
+    abbrev here : List ℕ
+    here = eventText bridges e (take size (drop at answers))
+
+    ahead : drop k es ≡ e ∷ drop (suc k) es
+    ahead = drop-cons es k none more ∙ rw is
+
+    texts-ahead : textsOf bridges (drop k es) (drop at answers) ≡ here ++ textsOf bridges (drop (suc k) es) (drop (at + size) answers)
+    unfolding textsOf
+    texts-ahead = rw (ahead, drop-drop)
+
+    sizes-ahead : answerSizes bridges (drop k es) ≡ size + answerSizes bridges (drop (suc k) es)
+    unfolding answerSizes
+    sizes-ahead = rw ahead
+
+    long-ahead : length (textsOf bridges (drop k es) (drop at answers)) ≡ length here + length (textsOf bridges (drop (suc k) es) (drop (at + size) answers))
+    long-ahead = ap (λ (l : List ℕ). length l) texts-ahead ∙ length-append here _
+
+    pub telling-fits : {width : ℕ} → width ≡ size → (at + width ≤ length answers) × (end + 544 ≤ length out)
+    telling-fits same = (omega (arith, t .numbers, sizes-ahead), omega (arith, t .room))
+
+    telling-more : (count : ℕ) (after : List ℕ) → line count after ≡ lineOf here (drop end out) → Telling (take end out ++ after) (end + count) (at + size) (k + 1)
+    telling-more count after tells =
+        let counted : count ≡ length here = ap (λ (l : Line). l .count) tells in
+        let bytes : after ≡ sets (drop end out) 0 here = ap (λ (l : Line). l .out) tells in
+        let joint : take end out ++ after ≡ sets out end here = ap (λ (l : List ℕ). take end out ++ l) bytes ∙ behind-is out here end (omega (arith, t .room, long-ahead)) in
+        let behind : List ℕ = textsOf bridges (drop (suc k) es) (drop (at + size) answers) in
+        rw (add-one k)
+        (record {
+          text = t .text ++ here;
           put = joined (t .put) (record { bytes = joint; next = omega (arith, counted) });
-          whole = t .whole ∙ rw (next, drop-drop, drop-drop, three, ← tells .0) (sym (append-assoc (t .text) (here .text) _));
+          whole = t .whole ∙ rw texts-ahead (sym (append-assoc (t .text) here behind));
           few = omega arith;
-          inside = omega (arith, t .inside, tells .0, fits .0, length-drop at rest);
-          room = rw joint (omega (arith, t .room, counted, fits .1, next, length-sets out end (here .text)));
-          numbers = t .numbers;
-        }
+          numbers = omega (arith, t .numbers, sizes-ahead);
+          room = rw joint (omega (arith, t .room, counted, long-ahead, length-sets out end here));
+        })
 
     -- as the code lends it, and has it back
-    abbrev restLent : List ℕ
-    restLent = take (length rest - at) (drop at rest)
-
-    abbrev waysLent : List ℕ
-    waysLent = take (length ways - 3 * k) (drop (3 * k) ways)
-
-    abbrev outLent : List ℕ
-    outLent = take (length out - end) (drop end out)
-
-    pub telling-fits : (3 ≤ length waysLent) × (544 ≤ length outLent)
-    telling-fits =
-        let three : 3 ≤ length (drop (3 * k) ways) = omega (arith, length-drop (3 * k) ways, t .numbers) in
-        let room : 544 ≤ length (drop end out) = omega (arith, length-drop end out, t .room) in
-        rw (take-all (length ways - 3 * k) (drop (3 * k) ways) (omega (arith, length-drop (3 * k) ways)), take-all (length out - end) (drop end out) (omega (arith, length-drop end out))) (three, room)
-
     pub telling-next :
-        (used count : ℕ) (after : List ℕ) → Tells p restLent waysLent outLent used count after →
-        Telling (take end out ++ (after ++ drop (length out - end) (drop end out))) (end + count) (at + used) (k + 1)
-    telling-next used count after tells =
+        (width count : ℕ) (after : List ℕ) → width ≡ size →
+        line count after ≡ lineOf (eventText bridges e (take (at + width - at) (drop at answers))) (take (length out - end) (drop end out)) →
+        Telling (take end out ++ (after ++ drop (length out - end) (drop end out))) (end + count) (at + width) (k + 1)
+    telling-next width count after same tells =
         let none = drop-of-length-le (drop end out) {i = length out - end} (omega (arith, length-drop end out)) in
-        let left = take-all (length rest - at) (drop at rest) (omega (arith, length-drop at rest)) in
-        let numbers = take-all (length ways - 3 * k) (drop (3 * k) ways) (omega (arith, length-drop (3 * k) ways)) in
-        let bytes = take-all (length out - end) (drop end out) (omega (arith, length-drop end out)) in
-        rw (none, append-nil) (telling-more used count after (rw (left, numbers, bytes) at tells))
+        let all : at + width - at ≡ size = omega arith in
+        rw (none, append-nil, same) (telling-more count after (rw (all, rest-lent out end) at tells))
 
-  pub telling-all : (out : List ℕ) (end at k : ℕ) → Telling out end at k → calls ≤ k → Put out₀ written (listTexts calls p rest ways) out end
-  unfolding listTexts
+  pub telling-all : (out : List ℕ) (end at k : ℕ) → Telling out end at k → length es ≤ k → Put out₀ written (textsOf bridges es answers) out end
+  unfolding textsOf
   telling-all out end at k t past =
-      let none : calls - k ≡ 0 = omega arith in
+      let none : drop k es ≡ [] = drop-of-length-le es past in
       rw (t .whole, none, append-nil) (t .put)
+
+-- numbers behind those that the events answered with are not read
+pub texts-head : (bridges : ℕ) (es : List Event) (a b : List ℕ) → answerSizes bridges es ≤ length a → textsOf bridges es (a ++ b) ≡ textsOf bridges es a
+unfolding textsOf answerSizes
+texts-head bridges [] a b few = refl
+texts-head bridges (e ∷ es) a b few =
+    let size : ℕ = answerSize bridges e in
+    let later = texts-head bridges es (drop size a) b (omega (arith, length-drop size a)) in
+    rw (take-append-le size a b (omega arith), drop-append size a b (omega arith), later)
+  where
+    drop-append : (n : ℕ) (x y : List ℕ) → n ≤ length x → drop n (x ++ y) ≡ drop n x ++ y
+    drop-append zero x y low = refl
+    drop-append (suc n) [] y low = absurd (omega arith)
+    drop-append (suc n) (z ∷ x) y low = drop-append n x y (omega arith)
+
+-- ---- the refusal of the next event, behind what is written
+
+module _ (done : Stepped) (number : ℕ) (some : 0 < number) (out : List ℕ) (room : done .written + 544 ≤ length out) where
+  pub refused-room : 544 ≤ length (take (length out - done .written) (drop (done .written) out))
+  refused-room = lent-room out (done .written) room
+
+  module _
+      {count : ℕ}
+      {after : List ℕ}
+      (put : line count after ≡ lineOf (lastText number (done .runner .events) (done .runner .offset)) (take (length out - done .written) (drop (done .written) out))) where
+    -- the text is the refusal's
+    abbrev text : List ℕ
+    text = refusedText number (done .runner .offset)
+
+    put-text : line count after ≡ lineOf text (drop (done .written) out)
+    unfolding lastText
+    put-text = rw (ne-eqb number 0 (λ e. absurd (omega arith)), rest-lent out (done .written)) at put
+
+    pub refused-few : count ≤ 544
+    refused-few = omega (arith, ap (λ (l : Line). l .count) put-text, length-refusedText number (done .runner .offset))
+
+    pub refused-behind :
+        turned (record { runner = done .runner; messages = done .messages; going = false; used = done .used; written = done .written + count; reply = number })
+        (take (done .written) out ++ (after ++ drop (length out - done .written) (drop (done .written) out)))
+        ≡ refusedOn number (turned done out)
+    unfolding refusedOn
+    refused-behind =
+        let none = drop-of-length-le (drop (done .written) out) {i = length out - done .written} (omega (arith, length-drop (done .written) out)) in
+        let counted : count ≡ length text = ap (λ (l : Line). l .count) put-text in
+        let bytes : after ≡ sets (drop (done .written) out) 0 text = ap (λ (l : Line). l .out) put-text in
+        rw (none, append-nil, counted, bytes, behind-is out text (done .written) (omega (arith, room, length-refusedText number (done .runner .offset))))
+
+-- ---- why a list ended
+
+pub ended-none : (how : Disposition) → SomeNumber how → refusalIn how ≡ 0 → (t : Turn) → endedOn how t ≡ t
+unfolding endedOn
+ended-none Disposition.Complete some none t = refl
+ended-none (Disposition.Refused k) some none t = absurd (omega arith)
+ended-none Disposition.Full some none t = refl
+
+pub ended-refused : (how : Disposition) → (refusalIn how ≡ 0 → ⊥) → (t : Turn) → endedOn how t ≡ refusedOn (refusalIn how) t
+unfolding endedOn
+ended-refused Disposition.Complete some t = absurd (some refl)
+ended-refused (Disposition.Refused k) some t = refl
+ended-refused Disposition.Full some t = absurd (some refl)
+
+-- a number other than 0
+pub above : (k : ℕ) → (k ≡ 0 → ⊥) → 0 < k
+above zero some = absurd (some refl)
+above (suc k) some = omega arith

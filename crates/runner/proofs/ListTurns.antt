@@ -1,33 +1,35 @@
 -- A list of events is so many steps on, with their texts one behind the other. Assumes nothing.
-use Prim.Native.Nat.{ℕ, zero, suc, _+_, _*_, _≤_}
+use Prim.Native.Nat.{ℕ, zero, suc, _+_, _-_, _*_, _≤_}
 use native.Mathlib.Nat.{add-zero}
 use native.Mathlib.Omega.{arith}
 use mathlib.Core.Path.{_≡_, refl, sym, ap, subst, _∙_}
 use mathlib.Core.Bool.{true}
-use mathlib.Core.List.{List, _++_}
-use lib.ListN.{length, take, drop, length-drop}
-use lib.Seq.{sets, length-sets, length-take-le, take-at, drop-at, drop-drop}
+use mathlib.Core.List.{List, [], _∷_, _++_}
+use lib.ListN.{length, take, drop, length-drop, length-append}
+use lib.Seq.{sets, length-sets, take-at, drop-at, drop-drop}
+use Rattle.bench.specs.State.{State}
 use Rattle.bench.specs.Whole.{stepBy}
-use Rattle.bench.specs.Lists.{callOf, isMade, wayAfter, Ran, ran, runs}
-use Rattle.bench.specs.Lists as lists
+use Rattle.bench.specs.Batches.{callOf, replyOf, answersOf, answerSize, Batch, batch, happensIn, runs}
+use Rattle.bench.specs.declared.Disposition.{Disposition}
+use Rattle.bench.specs.declared.Event.{Event}
+use Rattle.bench.proofs.BatchRuns.{First, full, refused, made, first-of, answers-length, following, runs-none, runs-made, runs-unmade}
 use Rattle.bench.proofs.CallLengths.{step-kept}
 use Rattle.bench.proofs.CallSteps.{step-lasting}
-use Rattle.bench.proofs.ListLaws.{Next, stops, goes, runs-none, runs-next}
-use Rattle.bench.proofs.ListSteps.{way-length}
-use Rattle.plan.specs.Reading.{readReply}
-use Rattle.plan.specs.declared.Event.{Event}
-use Rattle.plan.specs.declared.Field.{Field}
-use Rattle.plan.specs.declared.Read.{Read}
+use Rattle.plan.specs.Events.{Placed, eventsOf, listProgress}
+use Rattle.plan.specs.declared.Progress.{Progress}
+use Rattle.plan.proofs.EventLaws.{ReadAs, lastEnd}
 use Rattle.plan.proofs.Laws.{field-size}
 use Rattle.text.specs.Writing.{Put}
 use Rattle.text.proofs.Puts.{joined}
 use Rattle.runner.specs.Buffers.{buffers}
-use Rattle.runner.specs.Events.{textOf}
+use Rattle.runner.specs.Events.{eventText, textOf}
 use Rattle.runner.specs.Turns.{Turn, turn}
-use Rattle.runner.specs.Fills.{fills}
-use Rattle.runner.specs.Lists.{readText, listTexts}
+use Rattle.runner.specs.Fills.{fills, stepOn}
+use Rattle.runner.specs.Lists.{textsOf, refusedOn, endedOn, SomeNumber}
+use Rattle.runner.proofs.FillTexts.{text-short}
 use Rattle.runner.proofs.FillTurns.{fills-more}
-use Rattle.runner.proofs.ListSteps.{stateAt, Roomy, eventOn, made-text, steps-on, event-short, step-on-event}
+use Rattle.runner.proofs.ListTexts.{above}
+use Rattle.runner.proofs.ListSteps.{stateAt, Roomy, eventOn, steps-on, step-on-event, step-on-refused}
 
 -- the reply's number after so many steps
 abbrev pub replyAfter : ℕ → ℕ → ℕ
@@ -46,35 +48,105 @@ puts-both out a b w =
     let both = joined first second in
     (both .bytes, both .next)
 
-module _ (rest : List ℕ) where
-  -- the texts of a list, and the turn with it carried out
-  abbrev pub textsOn : Turn → Ran → List ℕ
-  textsOn t r = listTexts (r .calls) (lists.progressOf (t .runner .bench)) (drop (t .used) rest) (r .ways)
+-- the steps of a list: the events that were made, and the one that was refused
+abbrev pub stepsOf : Disposition → ℕ → ℕ
+stepsOf Disposition.Complete n = n
+stepsOf (Disposition.Refused k) n = suc n
+stepsOf Disposition.Full n = n
 
-  abbrev pub listOn : Turn → Ran → Turn
-  listOn t r =
-      turn (replyAfter (r .calls) (t .reply)) true (t .used + r .used) (t .written + length (textsOn t r))
-      (record { bench = r .state .bench; stage = 3; events = t .runner .events + r .calls; offset = t .runner .offset + r .used })
-      (buffers (r .state .costs) (r .state .sent) (r .state .held) (r .state .messages) (t .buffers .rows) (sets (t .buffers .out) (t .written) (textsOn t r)))
+steps-more : (how : Disposition) (n : ℕ) → stepsOf how (suc n) ≡ suc (stepsOf how n)
+steps-more Disposition.Complete n = refl
+steps-more (Disposition.Refused k) n = refl
+steps-more Disposition.Full n = refl
+
+-- a list that ended with a refusal has its number
+pub some-number : (room : ℕ) (s : State) (es : List Event) → SomeNumber (runs room s es .disposition)
+some-number room s [] = rw runs-none tt
+some-number room s (e ∷ es) = go (some-number (room - length (answersOf s e)) (stepBy s (callOf e)) es) (happensIn room s e) refl (first-of room s e)
+  where
+    go : SomeNumber (following room s e es .disposition) → (b : Batch) → happensIn room s e ≡ b → First room s e b → SomeNumber (runs room s (e ∷ es) .disposition)
+    go later b is (full few) = rw (runs-unmade room s e es b is refl) tt
+    go later b is (refused some) = rw (runs-unmade room s e es b is refl) (above (replyOf s e) some)
+    go later b is (made none fits) = rw (runs-made room s e es is) later
+
+-- the texts of a list have 22 bytes at most for each number that its events answered with
+pub texts-few : (room : ℕ) (s : State) (es : List Event) → let b : Batch = runs room s es in length (textsOf (s .bench .bridges) (take (b .made) es) (b .answers)) ≤ 22 * length (b .answers)
+unfolding textsOf
+texts-few room s [] = rw runs-none (omega arith)
+texts-few room s (e ∷ es) = go (texts-few (room - length (answersOf s e)) (stepBy s (callOf e)) es) (happensIn room s e) refl (first-of room s e)
+  where
+    then : Batch
+    then = following room s e es
+
+    go :
+        length (textsOf (stepBy s (callOf e) .bench .bridges) (take (then .made) es) (then .answers)) ≤ 22 * length (then .answers) →
+        (b : Batch) → happensIn room s e ≡ b → First room s e b →
+        let r : Batch = runs room s (e ∷ es) in
+        length (textsOf (s .bench .bridges) (take (r .made) (e ∷ es)) (r .answers)) ≤ 22 * length (r .answers)
+    go later b is (full few) = rw (runs-unmade room s e es b is refl) (omega arith)
+    go later b is (refused some) = rw (runs-unmade room s e es b is refl) (omega arith)
+    go later b is (made none fits) =
+        let answers : List ℕ = answersOf s e in
+        let long = answers-length s e none in
+        let kept = step-kept s (callOf e) in
+        let short = text-short s e none in
+        let behind : length (textsOf (s .bench .bridges) (take (then .made) es) (then .answers)) ≤ 22 * length (then .answers) =
+        subst (λ (n : ℕ). length (textsOf n (take (then .made) es) (then .answers)) ≤ 22 * length (then .answers)) (kept .bridges) later in
+        rw (runs-made room s e es is, take-at answers (then .answers) _ long, drop-at answers (then .answers) _ long)
+        (omega (
+          arith,
+          short .few,
+          behind,
+          length-append answers (then .answers),
+          length-append (textOf s e) (textsOf (s .bench .bridges) (take (then .made) es) (then .answers)),
+        ))
+
+-- the plan's first byte of the list is at `base`, and was at `off` in the whole plan
+module _ (rest : List ℕ) (base off : ℕ) where
+  -- the texts of a list, and the turn with it carried out
+  abbrev pub textsOn : Turn → List Placed → Batch → List ℕ
+  textsOn t xs b = textsOf (t .runner .bench .bridges) (take (b .made) (eventsOf xs)) (b .answers)
+
+  abbrev pub listOn : Turn → ℕ → List Placed → Batch → Turn
+  listOn t at xs b =
+      turn (replyAfter (b .made) (t .reply)) true (base + lastEnd at (take (b .made) xs)) (t .written + length (textsOn t xs b))
+      (record { bench = b .state .bench; stage = 3; events = t .runner .events + b .made; offset = off + lastEnd at (take (b .made) xs) })
+      (buffers (b .state .costs) (b .state .sent) (b .state .held) (b .state .messages) (sets (t .buffers .out) (t .written) (textsOn t xs b)))
+
+  -- where a turn stands in the list
+  pub record At (at : ℕ) (t : Turn) : Type 0 where
+    pub used : t .used ≡ base + at
+    pub offset : t .runner .offset ≡ off + at
 
   -- no event
-  none-on : (k : ℕ) (t : Turn) (ways : List ℕ) → Roomy rest k t → t ≡ listOn t (ran 0 0 (stateAt t) ways)
-  unfolding listTexts
-  none-on k t ways roomy = rw (add-zero, add-zero, add-zero, add-zero, ← roomy .stage, ← roomy .going)
+  none-on : (more numbers : ℕ) (t : Turn) (at : ℕ) (xs : List Placed) (how : Disposition) → At at t → Roomy rest more numbers t → t ≡ listOn t at xs (batch 0 how (stateAt t) [])
+  unfolding textsOf
+  none-on more numbers t at xs how here roomy = rw (add-zero, add-zero, ← here .used, ← here .offset, ← roomy .stage, ← roomy .going)
 
-  module _ (k : ℕ) (t : Turn) (roomy : Roomy rest (suc k) t) (e : Event) (used : ℕ)
-      (read : readReply (drop (t .used) rest) (lists.progressOf (t .runner .bench)) ≡ Read.Field (Field.Event e) used)
-      (ok : isMade (stateAt t) e ≡ true) where
+  module _ (more numbers : ℕ) (t : Turn) (roomy : Roomy rest (suc more) numbers t) (at : ℕ) (here : At at t) (x : Placed)
+      (none : replyOf (stateAt t) (x .event) ≡ 0) (fits : answerSize (t .runner .bench .bridges) (x .event) ≤ numbers) (used : ℕ) (past : x .past ≡ at + used) where
+    abbrev e : Event
+    e = x .event
+
+    abbrev answers : List ℕ
+    answers = answersOf (stateAt t) e
+
+    long : length answers ≡ answerSize (t .runner .bench .bridges) e
+    long = answers-length (stateAt t) e none
+
+    at-next : At (x .past) (eventOn t e used)
+    at-next = record { used = omega (arith, here .used, past); offset = omega (arith, here .offset, past) }
+
     -- room for the events that follow
-    roomy-on : Roomy rest k (eventOn t e used)
-    roomy-on =
+    roomy-on : used ≤ length (drop (t .used) rest) → Roomy rest more (numbers - length answers) (eventOn t e used)
+    roomy-on size =
         let kept = step-kept (stateAt t) (callOf e) in
         let lasting = step-lasting (stateAt t) (callOf e) in
-        let size = field-size _ _ read in
+        let short = text-short (stateAt t) e none in
         record {
           stage = refl;
           going = refl;
-          room = omega (arith, roomy .room, event-short rest k t roomy e used read ok, length-sets (t .buffers .out) (t .written) (textOf (stateAt t) (t .buffers .rows) e));
+          room = omega (arith, roomy .room, short .few, long, fits, length-sets (t .buffers .out) (t .written) (textOf (stateAt t) e));
           events = omega (arith, roomy .events);
           offset = omega (arith, roomy .offset, roomy .used, size, length-drop (t .used) rest);
           used = omega (arith, roomy .used, size, length-drop (t .used) rest);
@@ -82,50 +154,66 @@ module _ (rest : List ℕ) where
           sent = rw (kept .sent) (roomy .sent);
           held = rw (kept .held) (roomy .held);
           messages = rw (kept .messages) (roomy .messages);
-          rows = roomy .rows;
         }
 
     -- the reader has come as far as before
-    progress-kept : lists.progressOf (eventOn t e used .runner .bench) ≡ lists.progressOf (t .runner .bench)
+    progress-kept : listProgress (eventOn t e used .runner .bench) ≡ listProgress (t .runner .bench)
     progress-kept = let kept = step-kept (stateAt t) (callOf e) in rw (kept .bridges, kept .links, kept .views)
 
-    module _ (way : List ℕ) (long : length way ≡ 3) (r : Ran) where
+    module _ (xs : List Placed) (b : Batch) where
       -- the list with this event before the others
-      abbrev whole : Ran
-      whole = ran (suc (r .calls)) (used + r .used) (r .state) (wayAfter (stateAt t) e way ++ r .ways)
+      abbrev whole : Batch
+      whole = batch (suc (b .made)) (b .disposition) (b .state) (answers ++ b .answers)
 
-      texts-on : textsOn t whole ≡ textOf (stateAt t) (t .buffers .rows) e ++ textsOn (eventOn t e used) r
-      unfolding listTexts readText
+      texts-on : textsOn t (x ∷ xs) whole ≡ textOf (stateAt t) e ++ textsOn (eventOn t e used) xs b
+      unfolding textsOf eventsOf
       texts-on =
-          let three : length (wayAfter (stateAt t) e way) ≡ 3 = way-length (stateAt t) e way ∙ long in
-          rw (read, take-at (wayAfter (stateAt t) e way) (r .ways) 3 three, drop-at (wayAfter (stateAt t) e way) (r .ways) 3 three, made-text (stateAt t) (t .buffers .rows) e way ok long, progress-kept, drop-drop)
+          let kept = step-kept (stateAt t) (callOf e) in
+          rw (take-at answers (b .answers) _ long, drop-at answers (b .answers) _ long, kept .bridges)
 
-      list-on : listOn (eventOn t e used) r ≡ listOn t whole
+      list-on : listOn (eventOn t e used) (x .past) xs b ≡ listOn t at (x ∷ xs) whole
       list-on =
-          let both = puts-both (t .buffers .out) (textOf (stateAt t) (t .buffers .rows) e) (textsOn (eventOn t e used) r) (t .written) in
-          let bytes : t .used + used + r .used ≡ t .used + (used + r .used) = omega arith in
-          let events : t .runner .events + 1 + r .calls ≡ t .runner .events + suc (r .calls) = omega arith in
-          let offset : t .runner .offset + used + r .used ≡ t .runner .offset + (used + r .used) = omega arith in
-          rw (texts-on, ← both .0, ← both .1, bytes, events, offset, reply-still (r .calls))
+          let both = puts-both (t .buffers .out) (textOf (stateAt t) e) (textsOn (eventOn t e used) xs b) (t .written) in
+          let events : t .runner .events + 1 + b .made ≡ t .runner .events + suc (b .made) = omega arith in
+          rw (texts-on, ← both .0, ← both .1, events, reply-still (b .made))
 
-  pub list-steps : (k : ℕ) (t : Turn) (ways : List ℕ) → Roomy rest k t → 3 * k ≤ length ways → let r : Ran = runs k (stateAt t) (drop (t .used) rest) ways in fills (r .calls) t rest ≡ listOn t r
-  unfolding fills
-  list-steps zero t ways roomy long = rw runs-none (none-on zero t ways roomy)
-  list-steps (suc k) t ways roomy long = go (list-steps k) (runs-next k (stateAt t) (drop (t .used) rest) ways)
+  abbrev Steps : List Placed → Type 0
+  Steps xs =
+      (t : Turn) (at numbers : ℕ) → At at t → ReadAs (listProgress (t .runner .bench)) (drop (t .used) rest) at xs → Roomy rest (length xs) numbers t →
+      let b : Batch = runs numbers (stateAt t) (eventsOf xs) in
+      fills (stepsOf (b .disposition) (b .made)) t rest ≡ endedOn (b .disposition) (listOn t at xs b)
+
+  pub list-steps : (xs : List Placed) → Steps xs
+  unfolding fills endedOn eventsOf
+  list-steps [] t at numbers here read roomy = rw runs-none (none-on 0 numbers t at [] Disposition.Complete here roomy)
+  list-steps (x ∷ xs) t at numbers here read roomy = go (list-steps xs) (happensIn numbers (stateAt t) (x .event)) refl (first-of numbers (stateAt t) (x .event))
     where
       go :
-          ((t : Turn) (ways : List ℕ) → Roomy rest k t → 3 * k ≤ length ways → let r : Ran = runs k (stateAt t) (drop (t .used) rest) ways in fills (r .calls) t rest ≡ listOn t r) →
-          Next k (stateAt t) (drop (t .used) rest) ways →
-          let r : Ran = runs (suc k) (stateAt t) (drop (t .used) rest) ways in
-          fills (r .calls) t rest ≡ listOn t r
-      go later (stops is) = rw is (none-on (suc k) t ways roomy)
-      go later (goes e used read ok is) =
-          let after = later (eventOn t e used) (drop 3 ways) (roomy-on k t roomy e used read ok) (omega (arith, long, length-drop 3 ways)) in
-          let u : Turn = eventOn t e used in
-          let r : Ran = runs k (stepBy (stateAt t) (callOf e)) (drop used (drop (t .used) rest)) (drop 3 ways) in
-          let same : runs k (stateAt u) (drop (t .used + used) rest) (drop 3 ways) ≡ r = ap (λ (l : List ℕ). runs k (stateAt u) l (drop 3 ways)) (sym (drop-drop used (t .used) rest)) in
-          rw is
-          (fills-more (r .calls) t rest (steps-on rest k t roomy)
-          ∙ ap (λ (u : Turn). fills (r .calls) u rest) (step-on-event rest k t roomy e used read ok)
-          ∙ subst (λ (x : Ran). fills (x .calls) u rest ≡ listOn u x) same after
-          ∙ list-on k t roomy e used read ok (take 3 ways) (length-take-le 3 ways (omega (arith, long))) r)
+          Steps xs → (b : Batch) → happensIn numbers (stateAt t) (x .event) ≡ b → First numbers (stateAt t) (x .event) b →
+          let r : Batch = runs numbers (stateAt t) (eventsOf (x ∷ xs)) in
+          fills (stepsOf (r .disposition) (r .made)) t rest ≡ endedOn (r .disposition) (listOn t at (x ∷ xs) r)
+      go later b is (full few) = rw (runs-unmade numbers (stateAt t) (x .event) (eventsOf xs) b is refl) (none-on _ numbers t at (x ∷ xs) Disposition.Full here roomy)
+      go later b is (refused some) =
+          let k : ℕ = replyOf (stateAt t) (x .event) in
+          rw (runs-unmade numbers (stateAt t) (x .event) (eventsOf xs) b is refl)
+          (fills-more 0 t rest (steps-on rest _ numbers t roomy)
+          ∙ step-on-refused rest _ numbers t roomy (x .event) (read .used) (read .read) some
+          ∙ ap (refusedOn k) (none-on _ numbers t at (x ∷ xs) (Disposition.Refused k) here roomy))
+      go later b is (made none fits) =
+          let s : State = stateAt t in
+          let u : Turn = eventOn t (x .event) (read .used) in
+          let then : Batch = following numbers s (x .event) (eventsOf xs) in
+          let size = field-size _ _ (read .read) in
+          let same : drop (read .used) (drop (t .used) rest) ≡ drop (t .used + read .used) rest = drop-drop (read .used) (t .used) rest in
+          let progress = progress-kept (length xs) numbers t roomy at here x none fits (read .used) (read .past) in
+          let reads : ReadAs (listProgress (u .runner .bench)) (drop (t .used + read .used) rest) (x .past) xs =
+          subst (λ (p : Progress). ReadAs p (drop (t .used + read .used) rest) (x .past) xs) (sym progress)
+          (subst (λ (l : List ℕ). ReadAs (listProgress (t .runner .bench)) l (x .past) xs) same (read .then)) in
+          rw (runs-made numbers s (x .event) (eventsOf xs) is, steps-more (then .disposition) (then .made))
+          (fills-more (stepsOf (then .disposition) (then .made)) t rest (steps-on rest _ numbers t roomy)
+          ∙ ap (λ (z : Turn). fills (stepsOf (then .disposition) (then .made)) z rest) (step-on-event rest _ numbers t roomy (x .event) (read .used) (read .read) none)
+          ∙ later u (x .past) (numbers - length (answersOf s (x .event)))
+          (at-next (length xs) numbers t roomy at here x none fits (read .used) (read .past))
+          reads
+          (roomy-on (length xs) numbers t roomy at here x none fits (read .used) (read .past) (size .1))
+          ∙ ap (endedOn (then .disposition)) (list-on (length xs) numbers t roomy at here x none fits (read .used) (read .past) xs then))

@@ -6,18 +6,17 @@ use mathlib.Core.Bool.{Bool, true, false, cond}
 use mathlib.Core.List.{List, [], _∷_, _++_}
 use lib.ListN.{drop}
 use lib.Dec.{eqb}
-use Rattle.bench.specs.Calls.{Call}
-use Rattle.bench.specs.Lists.{callOf}
+use Rattle.protocol.specs.Calls.{Call}
+use Rattle.bench.specs.Batches.{callOf, replyOf}
 use Rattle.bench.specs.State.{State}
 use Rattle.bench.specs.Whole.{runBy}
 use Rattle.bench.proofs.CallSteps.{run-none, run-next}
 use Rattle.plan.specs.Reading.{readReply}
-use Rattle.plan.specs.declared.Event.{Event}
+use Rattle.bench.specs.declared.Event.{Event}
 use Rattle.plan.specs.declared.Field.{Field}
 use Rattle.plan.specs.declared.Read.{Read}
 use Rattle.plan.proofs.Laws.{Told, field-told}
 use Rattle.runner.specs.Buffers.{Buffers, stateOn, progressOf}
-use Rattle.runner.specs.Events.{replyOf}
 use Rattle.runner.specs.Turns.{Turn, lastTurn, eventTurn, fieldTurn, stepOf}
 use Rattle.runner.specs.Whole.{Place, place, stateAt, callRead, calls, leaves}
 use Rattle.runner.specs.declared.Runner.{Runner}
@@ -41,7 +40,7 @@ Follows fuel = (r : Runner) (k : Buffers) (rest : List ℕ) → r .stage ≡ 3 �
 
 -- an event is carried out, or ends the plan
 abbrev pub accepts : Runner → Buffers → Event → Bool
-accepts r k e = eqb (replyOf (stateOn (r .bench) k) (k .rows) e) 0
+accepts r k e = eqb (replyOf (stateOn (r .bench) k) e) 0
 
 module _ (fuel : ℕ) (e : Event) (used : ℕ) (r : Runner) (k : Buffers) (rest : List ℕ) where
   abbrev pub end : Place

@@ -8,12 +8,12 @@ use mathlib.Core.List.{List, _++_, append-nil}
 use lib.ListN.{length, take, drop, length-drop}
 use lib.Dec.{eqb}
 use Rattle.distances.proofs.Booleans.{not-both}
+use Rattle.bench.specs.Batches.{replyOf}
 use Rattle.plan.specs.Reading.{readReply}
-use Rattle.plan.specs.declared.Event.{Event}
+use Rattle.bench.specs.declared.Event.{Event}
 use Rattle.plan.specs.declared.Field.{Field}
 use Rattle.plan.proofs.Laws.{field-size}
 use Rattle.runner.specs.Buffers.{Buffers, stateOn, progressOf}
-use Rattle.runner.specs.Events.{replyOf}
 use Rattle.runner.specs.Turns.{lastTurn, setupTurn, viewTurn, eventTurn, fieldTurn, stepOf}
 use Rattle.runner.specs.Plans.{prints}
 use Rattle.runner.specs.Whole.{setupRead, calls, leaves, setsUp, Same, FuelEnough}
@@ -23,9 +23,9 @@ use Rattle.runner.proofs.RunSteps.{Step, refused, ended, carried, step-
 -- the bytes of a field that goes on are those that were read
 event-used : (e : Event) (used : ℕ) (r : Runner) (k : Buffers) → eventTurn e used r k .going ≡ true → eventTurn e used r k .used ≡ used
 unfolding eventTurn lastTurn
-event-used e used r k = go (eqb (replyOf (stateOn (r .bench) k) (k .rows) e) 0) refl
+event-used e used r k = go (eqb (replyOf (stateOn (r .bench) k) e) 0) refl
   where
-    go : (b : Bool) → eqb (replyOf (stateOn (r .bench) k) (k .rows) e) 0 ≡ b → eventTurn e used r k .going ≡ true → eventTurn e used r k .used ≡ used
+    go : (b : Bool) → eqb (replyOf (stateOn (r .bench) k) e) 0 ≡ b → eventTurn e used r k .going ≡ true → eventTurn e used r k .used ≡ used
     go true q h = rw q
     go false q h = absurd (false≢true (rw q at h))
 

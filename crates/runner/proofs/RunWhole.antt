@@ -10,16 +10,16 @@ use borrow.Author.Tests.{leb-true}
 use lib.ListN.{length, drop}
 use lib.Dec.{leb}
 use Rattle.distances.proofs.Booleans.{both-true}
-use Rattle.bench.specs.Calls.{Call}
-use Rattle.bench.specs.Lists.{callOf}
-use Rattle.bench.specs.Net as net
+use Rattle.protocol.specs.Calls.{Call}
+use Rattle.bench.specs.Batches.{callOf}
+use Rattle.protocol.specs.Net as net
 use Rattle.bench.specs.Whole.{runBy, Represents, planIn}
 use Rattle.bench.specs.declared.Bench.{Bench}
 use Rattle.bench.proofs.TieFresh.{fresh-stands}
 use Rattle.bench.proofs.TieRanges.{LastingOf, plan-in-range}
 use Rattle.bench.proofs.TieWhole.{whole-from}
 use Rattle.plan.specs.Reading.{readReply}
-use Rattle.plan.specs.declared.Event.{Event}
+use Rattle.bench.specs.declared.Event.{Event}
 use Rattle.plan.specs.declared.Field.{Field}
 use Rattle.plan.specs.declared.Read.{Read}
 use Rattle.plan.proofs.Laws.{Told, field-told}

@@ -4,77 +4,80 @@ use native.Mathlib.Omega.{arith}
 use mathlib.Core.Path.{_≡_, sym, _∙_, ap}
 use mathlib.Core.Bool.{Bool, true, false, cond, _&&_}
 use mathlib.Core.List.{List, []}
-use borrow.Author.Tests.{leb-true, eq-eqb, ne-eqb}
+use borrow.Author.Tests.{leb-true, ne-eqb}
 use lib.ListN.{length}
 use lib.Dec.{eqb, leb}
 use Rattle.distances.proofs.Booleans.{both-true}
 use Rattle.bench.specs.State.{State}
 use Rattle.bench.specs.Changes.{Rewritten, rewritten}
-use Rattle.bench.specs.Lists.{callOf}
+use Rattle.bench.specs.Batches.{replyOf}
 use Rattle.bench.specs.declared.Bench.{Bench}
-use Rattle.bench.proofs.CallSteps.{step-lasting}
 use Rattle.plan.specs.Fields.{byte}
 use Rattle.plan.specs.Reading.{readReply}
-use Rattle.plan.specs.declared.Event.{Event}
+use Rattle.bench.specs.declared.Event.{Event}
 use Rattle.plan.specs.declared.Field.{Field}
 use Rattle.plan.specs.declared.Read.{Read}
 use Rattle.plan.proofs.Laws.{Told, field-size, field-told}
 use Rattle.runner.specs.Buffers.{Buffers, buffers, buffersLong, stateOn, progressOf}
-use Rattle.runner.specs.Events.{Happening, happenedOf, replyOf}
+use Rattle.runner.specs.Events.{textOf, stateAfter, Line, line, lineOf}
 use Rattle.runner.specs.Turns.{Turn, turn, lastTurn, lastText, setupTurn, opened, openedAs, viewTurn, eventTurn, fieldTurn, readTurn, stepOf, stopNumber, runnerInRange, fieldFits}
 use Rattle.runner.specs.declared.Runner.{Runner}
-use Rattle.runner.proofs.StepRefused.{refused-state, refused-rows}
 
 -- a private call is lent nothing, or the bytes to be printed alone: its turn on all of the buffers
 pub setup-on :
     (used : ℕ) (b : Bench) (stage : ℕ) (r : Runner) (k : Buffers) {reply : ℕ} {going : Bool} {taken written : ℕ} {runner : Runner} →
-    turn reply going taken written runner (buffers [] [] [] [] [] []) ≡ setupTurn used b stage r (buffers [] [] [] [] [] []) →
+    turn reply going taken written runner (buffers [] [] [] [] []) ≡ setupTurn used b stage r (buffers [] [] [] [] []) →
     turn reply going taken written runner k ≡ setupTurn used b stage r k
 unfolding setupTurn
 setup-on used b stage r k e = ap (λ (t : Turn). turn (t .reply) (t .going) (t .used) (t .written) (t .runner) k) e
 
 pub ended-on :
     (number : ℕ) (text : List ℕ) (r : Runner) (k : Buffers) {reply : ℕ} {going : Bool} {taken written : ℕ} {runner : Runner} {out : List ℕ} →
-    turn reply going taken written runner (buffers [] [] [] [] [] out) ≡ lastTurn number text r (buffers [] [] [] [] [] (k .out)) →
-    turn reply going taken written runner (buffers (k .costs) (k .sent) (k .held) (k .messages) (k .rows) out)
+    turn reply going taken written runner (buffers [] [] [] [] out) ≡ lastTurn number text r (buffers [] [] [] [] (k .out)) →
+    turn reply going taken written runner (buffers (k .costs) (k .sent) (k .held) (k .messages) out)
     ≡ lastTurn number text r k
 unfolding lastTurn
 ended-on number text r k e =
     ap
     (λ (t : Turn).
     turn (t .reply) (t .going) (t .used) (t .written) (t .runner)
-    (buffers (k .costs) (k .sent) (k .held) (k .messages) (k .rows) (t .buffers .out)))
+    (buffers (k .costs) (k .sent) (k .held) (k .messages) (t .buffers .out)))
     e
 
 -- ---- events
 
--- what happened, carried into a turn
-module _ (e : Event) (used : ℕ) (r : Runner) (k : Buffers) (h : Happening) (same : h ≡ happenedOf (stateOn (r .bench) k) (k .rows) (k .out) e) where
+module _ (e : Event) (used : ℕ) (r : Runner) (k : Buffers) where
   abbrev now : State
   now = stateOn (r .bench) k
 
-  same-reply : h .reply ≡ replyOf now (k .rows) e
-  unfolding happenedOf
-  same-reply = ap (λ (x : Happening). x .reply) same
-
   pub accepted-turn :
-      h .reply ≡ 0 →
-      turn 0 true used (h .written)
-      (record { bench = h .bench; stage = 3; events = r .events + 1; offset = r .offset + used })
-      (buffers (k .costs) (h .sent) (h .held) (h .messages) (h .rows) (h .out))
+      replyOf now e ≡ 0 →
+      {after : State} →
+      after ≡ stateAfter now e →
+      {written : ℕ} {out : List ℕ} →
+      line written out ≡ lineOf (textOf now e) (k .out) →
+      turn 0 true used written
+      (record { bench = after .bench; stage = 3; events = r .events + 1; offset = r .offset + used })
+      (buffers (after .costs) (after .sent) (after .held) (after .messages) out)
       ≡ eventTurn e used r k
-  unfolding happenedOf eventTurn
-  accepted-turn none = rw (same, eq-eqb _ 0 (sym same-reply ∙ none), step-lasting now (callOf e))
+  unfolding eventTurn
+  accepted-turn none is put =
+      let count = ap (λ (l : Line). l .count) put in
+      let bytes = ap (λ (l : Line). l .out) put in
+      rw (none, is, count, bytes)
 
   pub refused-turn :
-      (h .reply ≡ 0 → ⊥) →
-      lastTurn (h .reply) (lastText (h .reply) (r .events) (r .offset)) r
-      (buffers (k .costs) (h .sent) (h .held) (h .messages) (h .rows) (h .out))
+      (reply : ℕ) →
+      reply ≡ replyOf now e →
+      (reply ≡ 0 → ⊥) →
+      {after : State} →
+      after ≡ now →
+      lastTurn reply (lastText reply (r .events) (r .offset)) r (buffers (after .costs) (after .sent) (after .held) (after .messages) (k .out))
       ≡ eventTurn e used r k
-  unfolding happenedOf eventTurn lastTurn lastText
-  refused-turn some =
-      let other : replyOf now (k .rows) e ≡ 0 → ⊥ = λ z. some (same-reply ∙ z) in
-      rw (same, ne-eqb _ 0 other, refused-state now (k .rows) e other, refused-rows now (k .rows) e other)
+  unfolding eventTurn lastTurn lastText
+  refused-turn reply same some is =
+      let other : replyOf now e ≡ 0 → ⊥ = λ z. some (same ∙ z) in
+      rw (same, ne-eqb _ 0 other, is)
 
 -- ---- a view
 
@@ -82,10 +85,10 @@ module _ (e : Event) (used : ℕ) (r : Runner) (k : Buffers) (h : Happening) (sa
 pub view-turn :
     (used : ℕ) (r : Runner) (k : Buffers) (b : Bench) (costs : List ℕ) {bench : Bench} {sent held : List ℕ} →
     rewritten 0 bench sent held ≡ openedAs (opened b costs (k .sent) (k .held)) →
-    setupTurn used bench 2 r (buffers costs sent held (k .messages) (k .rows) (k .out)) ≡ viewTurn used b costs r k
+    setupTurn used bench 2 r (buffers costs sent held (k .messages) (k .out)) ≡ viewTurn used b costs r k
 unfolding viewTurn
 view-turn used r k b costs e =
-    ap (λ (o : Rewritten). setupTurn used (o .bench) 2 r (buffers costs (o .sent) (o .held) (k .messages) (k .rows) (k .out))) e
+    ap (λ (o : Rewritten). setupTurn used (o .bench) 2 r (buffers costs (o .sent) (o .held) (k .messages) (k .out))) e
 
 -- ---- what a step's checks tell
 
@@ -93,7 +96,6 @@ pub record StepTold (r : Runner) (k : Buffers) : Type 0 where
   pub events : r .events ≤ 61440
   pub offset : r .offset ≤ 61440
   pub costs : 1024 ≤ length (k .costs)
-  pub rows : 32 ≤ length (k .rows)
   pub out : 544 ≤ length (k .out)
 
 pub step-told : (r : Runner) (k : Buffers) → (runnerInRange r && buffersLong k) ≡ true → StepTold r k
@@ -105,13 +107,11 @@ step-told r k ok =
     let sent = both-true (leb 1024 (length (k .sent))) _ (costs .1) in
     let held = both-true (leb 1024 (length (k .held))) _ (sent .1) in
     let messages = both-true (leb 320 (length (k .messages))) _ (held .1) in
-    let rows = both-true (leb 32 (length (k .rows))) _ (messages .1) in
     record {
       events = leb-true _ _ (counts .0);
       offset = leb-true _ _ (counts .1);
       costs = leb-true _ _ (costs .0);
-      rows = leb-true _ _ (rows .0);
-      out = leb-true _ _ (rows .1);
+      out = leb-true _ _ (messages .1);
     }
 
 -- what the reader tells of a field

@@ -10,18 +10,16 @@ use Rattle.bench.specs.declared.Bench.{Bench}
 use Rattle.plan.specs.declared.Progress.{Progress}
 use Rattle.runner.specs.declared.Runner.{Runner}
 
--- costs, the two limit tables, the messages, a report's rows, and the bytes to be printed
+-- costs, the two limit tables, the messages, and the bytes to be printed
 pub record Buffers : Type 0 where
   pub costs : List ℕ
   pub sent : List ℕ
   pub held : List ℕ
   pub messages : List ℕ
-  pub rows : List ℕ
   pub out : List ℕ
 
-abbrev pub buffers : List ℕ → List ℕ → List ℕ → List ℕ → List ℕ → List ℕ → Buffers
-buffers costs sent held messages rows out =
-    record { costs = costs; sent = sent; held = held; messages = messages; rows = rows; out = out }
+abbrev pub buffers : List ℕ → List ℕ → List ℕ → List ℕ → List ℕ → Buffers
+buffers costs sent held messages out = record { costs = costs; sent = sent; held = held; messages = messages; out = out }
 
 -- each is as long as a run needs
 unfoldable pub buffersLong : Buffers → Bool
@@ -29,16 +27,15 @@ buffersLong k =
     leb 1024 (length (k .costs))
     && (leb 1024 (length (k .sent))
     && (leb 1024 (length (k .held))
-    && (leb 320 (length (k .messages)) && (leb 32 (length (k .rows)) && leb 544 (length (k .out))))))
+    && (leb 320 (length (k .messages)) && leb 544 (length (k .out)))))
 
 -- the bench's state in the buffers
 abbrev pub stateOn : Bench → Buffers → State
 stateOn b k = state b (k .costs) (k .sent) (k .held) (k .messages)
 
--- the buffers with another state, other rows and a text to be printed
-abbrev pub buffersWith : State → List ℕ → List ℕ → Buffers → Buffers
-buffersWith s rows text k =
-    buffers (s .costs) (s .sent) (s .held) (s .messages) rows (sets (k .out) 0 text)
+-- the buffers with another state and a text to be printed
+abbrev pub buffersWith : State → List ℕ → Buffers → Buffers
+buffersWith s text k = buffers (s .costs) (s .sent) (s .held) (s .messages) (sets (k .out) 0 text)
 
 -- how far the reader has come
 abbrev pub progressOf : Runner → Progress

@@ -13,7 +13,7 @@ use Rattle.runner.specs.declared.Runner.{Runner}
 
 -- the buffers with other bytes to be printed
 abbrev pub buffersWithOut : List ℕ → Buffers → Buffers
-buffersWithOut out k = buffers (k .costs) (k .sent) (k .held) (k .messages) (k .rows) out
+buffersWithOut out k = buffers (k .costs) (k .sent) (k .held) (k .messages) out
 
 -- one step more: on what is left of the plan, its text behind what is to be printed already
 unfoldable pub stepOn : Turn → List ℕ → Turn

@@ -34,7 +34,7 @@ firstRunner =
 
 abbrev pub firstBuffers : Buffers
 firstBuffers =
-    buffers (replicate 1024 0) (replicate 1024 0) (replicate 1024 0) (replicate 320 0) (replicate 32 0) (replicate 544 0)
+    buffers (replicate 1024 0) (replicate 1024 0) (replicate 1024 0) (replicate 320 0) (replicate 544 0)
 
 -- field after field, with fuel for so many
 unfoldable pub prints : ℕ → Runner → Buffers → List ℕ → List ℕ

@@ -5,16 +5,17 @@ use mathlib.Core.List.{List, [], _∷_, _++_}
 use lib.ListN.{length, set, take, drop}
 use lib.Dec.{eqb, leb}
 use Rattle.bench.specs.State.{State, part}
+use Rattle.bench.specs.Batches.{replyOf}
 use Rattle.bench.specs.Changes.{Rewritten, rewritten, freshOf}
 use Rattle.bench.specs.declared.Bench.{Bench}
 use Rattle.plan.specs.Reading.{readReply, costsReply}
-use Rattle.plan.specs.declared.Event.{Event}
+use Rattle.bench.specs.declared.Event.{Event}
 use Rattle.plan.specs.declared.Field.{Field}
 use Rattle.plan.specs.declared.Read.{Read}
 use Rattle.text.specs.Lines.{endText, refusedText}
 use Rattle.text.specs.declared.Written.{Written}
 use Rattle.runner.specs.Buffers.{Buffers, buffers, buffersLong, stateOn, buffersWith, progressOf}
-use Rattle.runner.specs.Events.{replyOf, rowsAfter, textOf, stateAfter}
+use Rattle.runner.specs.Events.{textOf, stateAfter}
 use Rattle.runner.specs.declared.Runner.{Runner}
 
 -- after a step: document 01's number, whether the plan goes on, the bytes used and those to be printed, the runner and the buffers
@@ -32,7 +33,7 @@ turn reply going used written runner k =
 
 -- the plan ends here, with its last line
 unfoldable pub lastTurn : ℕ → List ℕ → Runner → Buffers → Turn
-lastTurn reply text r k = turn reply false 0 (length text) r (buffersWith (stateOn (r .bench) k) (k .rows) text k)
+lastTurn reply text r k = turn reply false 0 (length text) r (buffersWith (stateOn (r .bench) k) text k)
 
 -- the plan goes on after a setup of so many bytes
 unfoldable pub setupTurn : ℕ → Bench → ℕ → Runner → Buffers → Turn
@@ -96,17 +97,17 @@ opened b costs sent held = cond (eqb (b .views) 1) (freshOf b costs sent held) (
 unfoldable pub viewTurn : ℕ → Bench → List ℕ → Runner → Buffers → Turn
 viewTurn used b costs r k =
     let o : Rewritten = opened b costs (k .sent) (k .held) in
-    setupTurn used (o .bench) 2 r (buffers costs (o .sent) (o .held) (k .messages) (k .rows) (k .out))
+    setupTurn used (o .bench) 2 r (buffers costs (o .sent) (o .held) (k .messages) (k .out))
 
--- an event: accepted, it is counted and printed; refused, it ends the plan and leaves runner, network, messages and rows as they were
+-- an event: accepted, it is counted and printed; refused, it ends the plan and leaves runner, network and messages as they were
 unfoldable pub eventTurn : Event → ℕ → Runner → Buffers → Turn
 eventTurn e used r k =
     let s : State = stateOn (r .bench) k in
-    let reply : ℕ = replyOf s (k .rows) e in
+    let reply : ℕ = replyOf s e in
     cond (eqb reply 0)
-    (turn 0 true used (length (textOf s (k .rows) e))
+    (turn 0 true used (length (textOf s e))
     (record { bench = stateAfter s e .bench; stage = 3; events = r .events + 1; offset = r .offset + used })
-    (buffersWith (stateAfter s e) (rowsAfter s (k .rows) e) (textOf s (k .rows) e) k))
+    (buffersWith (stateAfter s e) (textOf s e) k))
     (lastTurn reply (refusedText reply (r .offset)) r k)
 
 -- the field

@@ -6,11 +6,11 @@ use mathlib.Core.Logic.{_⊎_}
 use mathlib.Core.Bool.{Bool, true, false, cond, _&&_}
 use mathlib.Core.List.{List, [], _∷_, _++_}
 use lib.ListN.{length, drop}
-use Rattle.bench.specs.Net.{Plan}
-use Rattle.bench.specs.Net as net
-use Rattle.bench.specs.Calls.{Call, run}
-use Rattle.bench.specs.Demand3.{Holds}
-use Rattle.bench.specs.Lists.{callOf}
+use Rattle.protocol.specs.Net.{Plan}
+use Rattle.protocol.specs.Net as net
+use Rattle.protocol.specs.Calls.{Call, run}
+use Rattle.protocol.specs.Demand3.{Holds}
+use Rattle.bench.specs.Batches.{callOf}
 use Rattle.bench.specs.State.{State}
 use Rattle.bench.specs.Whole.{runBy, Represents, Answers, planIn}
 use Rattle.plan.specs.Reading.{readReply}

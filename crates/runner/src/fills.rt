@@ -1,17 +1,22 @@
 // Field after field into the same lent bytes.
 use crate::Runner;
 use crate::Stepped;
+use crate::lists::answer_room;
 use crate::lists::list_fits;
-use crate::lists::list_in_room;
-use crate::lists::tag_at;
+use crate::lists::listed_on;
+use crate::lists::nothing_made;
+use crate::steps::buffers_long;
 use crate::steps::step;
 use distances::ready::both;
+use messages::Message;
+use messages::batches::run_by_value;
 ghost use mathlib.Core.Path.{_≡_};
 ghost use mathlib.Core.Bool.{true, _&&_};
 ghost use Prim.Native.Nat.{_-_, _≤_};
 ghost use lib.ListN.{length};
 ghost use lib.Dec.{leb};
-ghost use Rattle.runner.specs.Buffers.{buffers};
+ghost use Rattle.messages.specs.Slices.{numbersIn};
+ghost use Rattle.runner.specs.Buffers.{buffers, buffersLong};
 ghost use Rattle.runner.specs.Turns.{turn};
 ghost use Rattle.runner.specs.Fills.{stepOn, stepsOn, fillOf};
 ghost use Rattle.runner.specs.Lists.{ListFits, StepsMade};
@@ -31,16 +36,15 @@ fn step_on(
     costs: &mut [u32],
     sent: &mut [u32],
     held: &mut [u32],
-    messages: &mut [u32],
-    rows: &mut [u32],
     out: &mut [u8],
 ) -> Stepped
     requires { ⌜ (done .used ≤ length (now rest)) × (done .written ≤ length (now out)) ⌝ }
-    ensures { λ s. ⌜ turn (s .reply) (s .going) (s .used) (s .written) (s .runner) (buffers (now (costs .exit)) (now (sent .exit)) (now (held .exit)) (now (messages .exit)) (now (rows .exit)) (now (out .exit))) ≡ stepOn (turn (done .reply) (done .going) (done .used) (done .written) (done .runner) (buffers (now (costs .entry)) (now (sent .entry)) (now (held .entry)) (now (messages .entry)) (now (rows .entry)) (now (out .entry)))) (now (rest .entry)) ⌝ }
+    ensures { λ s. ⌜ turn (s .reply) (s .going) (s .used) (s .written) (s .runner) (buffers (now (costs .exit)) (now (sent .exit)) (now (held .exit)) (numbersIn (s .messages)) (now (out .exit))) ≡ stepOn (turn (done .reply) (done .going) (done .used) (done .written) (done .runner) (buffers (now (costs .entry)) (now (sent .entry)) (now (held .entry)) (numbersIn (done .messages)) (now (out .entry)))) (now (rest .entry)) ⌝ }
 {
     let used = done.used;
     let written = done.written;
     let r = done.runner;
+    let messages = done.messages;
     let mut next = step(
         r,
         &rest[used..],
@@ -48,7 +52,6 @@ fn step_on(
         sent,
         held,
         messages,
-        rows,
         &mut out[written..],
     );
     next.used = used + next.used;
@@ -56,27 +59,46 @@ fn step_on(
     next
 }
 
-// Several steps more by a list of events, or one.
+// Several steps more by a list of events, or one where no event comes next.
 fn steps_listed(
     done: Stepped,
     rest: &[u8],
     costs: &mut [u32],
     sent: &mut [u32],
     held: &mut [u32],
-    messages: &mut [u32],
-    rows: &mut [u32],
     out: &mut [u8],
 ) -> Stepped
-    requires { ⌜ (done .used ≤ length (now rest)) × (done .written ≤ length (now out)) × (stepsOn (turn (done .reply) (done .going) (done .used) (done .written) (done .runner) (buffers (now costs) (now sent) (now held) (now messages) (now rows) (now out))) ≡ true) ⌝ }
-    requires { ⌜ ListFits (done .runner) (length (now rest) - done .used) × (32 ≤ length (now rows)) ⌝ }
-    ensures { λ s. ⌜ StepsMade (turn (done .reply) (done .going) (done .used) (done .written) (done .runner) (buffers (now (costs .entry)) (now (sent .entry)) (now (held .entry)) (now (messages .entry)) (now (rows .entry)) (now (out .entry)))) (now (rest .entry)) (turn (s .reply) (s .going) (s .used) (s .written) (s .runner) (buffers (now (costs .exit)) (now (sent .exit)) (now (held .exit)) (now (messages .exit)) (now (rows .exit)) (now (out .exit)))) ⌝ }
+    requires { ⌜ (done .used ≤ length (now rest)) × (done .written ≤ length (now out)) × (stepsOn (turn (done .reply) (done .going) (done .used) (done .written) (done .runner) (buffers (now costs) (now sent) (now held) (numbersIn (done .messages)) (now out))) ≡ true) ⌝ }
+    requires { ⌜ ListFits (done .runner) (length (now rest) - done .used) × (buffersLong (buffers (now costs) (now sent) (now held) (numbersIn (done .messages)) (now out)) ≡ true) ⌝ }
+    ensures { λ s. ⌜ StepsMade (turn (done .reply) (done .going) (done .used) (done .written) (done .runner) (buffers (now (costs .entry)) (now (sent .entry)) (now (held .entry)) (numbersIn (done .messages)) (now (out .entry)))) (now (rest .entry)) (turn (s .reply) (s .going) (s .used) (s .written) (s .runner) (buffers (now (costs .exit)) (now (sent .exit)) (now (held .exit)) (numbersIn (s .messages)) (now (out .exit)))) ⌝ }
 {
-    let mut ways = [0u32; 720];
-    let next = list_in_room(done, rest, costs, sent, held, messages, out, &mut ways);
-    if next.going {
-        return next;
+    let used = done.used;
+    let r = done.runner;
+    let messages = done.messages;
+    let bench = r.bench;
+    let room = answer_room(out.len() - done.written);
+    let mut ends = [0usize; 2049];
+    let progress = plan::events::list_progress(bench);
+    let events = plan::events::read_events(&rest[used..], progress, room, &mut ends);
+    let count = ends[0];
+    if count == 0 {
+        return step_on(done, rest, costs, sent, held, out);
     }
-    step_on(done, rest, costs, sent, held, messages, rows, out)
+    let mut answers = [0u32; 6144];
+    let listed = run_by_value(
+        bench,
+        costs,
+        sent,
+        held,
+        messages,
+        events,
+        count,
+        &mut answers[..room],
+    );
+    if nothing_made(listed) {
+        return step_on(done, rest, costs, sent, held, out);
+    }
+    listed_on(done, listed, events, &ends, &answers, out)
 }
 
 // One step more, or several.
@@ -86,20 +108,19 @@ fn steps_more(
     costs: &mut [u32],
     sent: &mut [u32],
     held: &mut [u32],
-    messages: &mut [u32],
-    rows: &mut [u32],
     out: &mut [u8],
 ) -> Stepped
-    requires { ⌜ (done .used ≤ length (now rest)) × (done .written ≤ length (now out)) × (stepsOn (turn (done .reply) (done .going) (done .used) (done .written) (done .runner) (buffers (now costs) (now sent) (now held) (now messages) (now rows) (now out))) ≡ true) ⌝ }
-    ensures { λ s. ⌜ StepsMade (turn (done .reply) (done .going) (done .used) (done .written) (done .runner) (buffers (now (costs .entry)) (now (sent .entry)) (now (held .entry)) (now (messages .entry)) (now (rows .entry)) (now (out .entry)))) (now (rest .entry)) (turn (s .reply) (s .going) (s .used) (s .written) (s .runner) (buffers (now (costs .exit)) (now (sent .exit)) (now (held .exit)) (now (messages .exit)) (now (rows .exit)) (now (out .exit)))) ⌝ }
+    requires { ⌜ (done .used ≤ length (now rest)) × (done .written ≤ length (now out)) × (stepsOn (turn (done .reply) (done .going) (done .used) (done .written) (done .runner) (buffers (now costs) (now sent) (now held) (numbersIn (done .messages)) (now out))) ≡ true) ⌝ }
+    ensures { λ s. ⌜ StepsMade (turn (done .reply) (done .going) (done .used) (done .written) (done .runner) (buffers (now (costs .entry)) (now (sent .entry)) (now (held .entry)) (numbersIn (done .messages)) (now (out .entry)))) (now (rest .entry)) (turn (s .reply) (s .going) (s .used) (s .written) (s .runner) (buffers (now (costs .exit)) (now (sent .exit)) (now (held .exit)) (numbersIn (s .messages)) (now (out .exit)))) ⌝ }
 {
     let used = done.used;
     let r = done.runner;
-    let fits = list_fits(r, rest.len() - used, tag_at(rest, used));
-    if both(fits, 32 <= rows.len()) {
-        return steps_listed(done, rest, costs, sent, held, messages, rows, out);
+    let fits = list_fits(r, rest.len() - used);
+    let long = buffers_long(costs.len(), sent.len(), held.len(), 320, out.len());
+    if both(fits, long) {
+        return steps_listed(done, rest, costs, sent, held, out);
     }
-    step_on(done, rest, costs, sent, held, messages, rows, out)
+    step_on(done, rest, costs, sent, held, out)
 }
 
 // Fields of a plan, carried out one after another as long as 544 bytes are left for a text: `out[..written]` is to be printed, and where
@@ -110,15 +131,14 @@ pub fn fill(
     costs: &mut [u32],
     sent: &mut [u32],
     held: &mut [u32],
-    messages: &mut [u32],
-    rows: &mut [u32],
+    messages: [Message; 64],
     out: &mut [u8],
 ) -> Stepped
-    ensures { λ s. ⌜ turn (s .reply) (s .going) (s .used) (s .written) (s .runner) (buffers (now (costs .exit)) (now (sent .exit)) (now (held .exit)) (now (messages .exit)) (now (rows .exit)) (now (out .exit))) ≡ fillOf r (buffers (now (costs .entry)) (now (sent .entry)) (now (held .entry)) (now (messages .entry)) (now (rows .entry)) (now (out .entry))) (now (rest .entry)) ⌝ }
+    ensures { λ s. ⌜ turn (s .reply) (s .going) (s .used) (s .written) (s .runner) (buffers (now (costs .exit)) (now (sent .exit)) (now (held .exit)) (numbersIn (s .messages)) (now (out .exit))) ≡ fillOf r (buffers (now (costs .entry)) (now (sent .entry)) (now (held .entry)) (numbersIn messages) (now (out .entry))) (now (rest .entry)) ⌝ }
 {
-    let mut done = step(r, rest, costs, sent, held, messages, rows, out);
+    let mut done = step(r, rest, costs, sent, held, messages, out);
     while steps_on(done.going, done.written, out.len()) {
-        done = steps_more(done, rest, costs, sent, held, messages, rows, out);
+        done = steps_more(done, rest, costs, sent, held, out);
     }
     done
 }

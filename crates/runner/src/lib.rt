@@ -1,5 +1,6 @@
 // A plan carried out field by field: one step reads a field, does what it says, and writes the lines that it prints.
 use bench::Bench;
+use messages::Message;
 
 mod events;
 pub mod fills;
@@ -16,17 +17,11 @@ pub struct Runner {
     pub offset: u32,
 }
 
-// What an event did: document 01's number, the bench, and the count of bytes that it prints.
-pub struct Happened {
-    pub reply: u8,
-    pub bench: Bench,
-    pub written: usize,
-}
-
-// After a step or several: whether the plan goes on, the bytes of it that were used, the bytes that are to be printed, and document 01's number,
-// 0 where nothing is refused.
+// After a step or several: the messages in flight, whether the plan goes on, the bytes of it that were used, the bytes that are to be printed, and
+// document 01's number, 0 where nothing is refused.
 pub struct Stepped {
     pub runner: Runner,
+    pub messages: [Message; 64],
     pub going: bool,
     pub used: usize,
     pub written: usize,

@@ -1,217 +1,164 @@
-// Events that are carried out in a list: whether they can be, and the lines that they print.
+// Events that are carried out in a list: whether they can be, the room that their lines have, and the lines.
 use crate::Runner;
 use crate::Stepped;
-use crate::events::path_text;
+use crate::events::event_text;
+use crate::stops::last_line;
 use bench::Bench;
-use bench::Listed;
-use bench::Way;
+use bench::Event;
+use bench::batches::refusal_in;
 use distances::ready::both;
-use plan::Event;
-use plan::Field;
-use plan::Progress;
-use plan::Read;
+use messages::Message;
+use messages::batches::RanMessages;
 ghost use mathlib.Core.Path.{_≡_};
-ghost use mathlib.Core.Bool.{true};
-ghost use mathlib.Core.List.{List, [], _∷_};
-ghost use Prim.Native.Nat.{ℕ, _+_, _-_, _*_, _/_, _^_, _<_, _≤_};
-ghost use lib.ListN.{length};
-ghost use Rattle.agreement.specs.Call.{says};
-ghost use Rattle.bench.specs.Answers.{waySays, WayFits};
-ghost use Rattle.bench.specs.Lists.{progressOf};
+ghost use mathlib.Core.Bool.{true, _&&_};
+ghost use Prim.Native.Nat.{_+_, _*_, _^_, _<_, _≤_};
+ghost use lib.ListN.{length, take};
+ghost use lib.Dec.{eqb};
+ghost use Rattle.bench.specs.Batches.{refusalIn, answerSizes};
 ghost use Rattle.text.specs.Writing.{Put};
-ghost use Rattle.runner.specs.Events.{line, lineOf};
-ghost use Rattle.runner.specs.Buffers.{buffers};
-ghost use Rattle.runner.specs.Turns.{turn};
-ghost use Rattle.runner.specs.Lists.{wayIn, headText, listTexts, ListFits, listedOn, MadeOrNot};
+ghost use Rattle.runner.specs.Lists.{textsOf, ListFits, turned, madeOn, refusedOn, ResultFits, listedOn};
 
-// The bytes of a field, and the count of those that it prints.
-struct Told {
-    used: usize,
-    written: usize,
-}
-
-// The tag of the next field; a report's where no byte is left.
-pub(crate) fn tag_at(rest: &[u8], at: usize) -> u8 {
-    if at < rest.len() {
-        return rest[at];
-    }
-    11
-}
-
-// A list of events from here on stays in range, and a report does not stand at its head: no list carries out a report.
-pub(crate) fn list_fits(r: Runner, left: usize, tag: u8) -> bool
+// A list of events from here on stays in range.
+pub(crate) fn list_fits(r: Runner, left: usize) -> bool
     ensures { λ b. ⌜ (b ≡ true → ListFits r left) ⌝ }
 {
     if 61440 < left {
         return false;
     }
     both(
-        both(r.stage == 3, tag != 11),
-        both(r.events <= 61200, r.offset as usize <= 61440 - left),
+        r.stage == 3,
+        both(r.events <= 59392, r.offset as usize <= 61440 - left),
     )
 }
 
-// How many texts have room, up to 240.
-fn list_room(room: usize) -> usize
-    ensures { λ n. ⌜ (n ≤ 240) × (544 * n ≤ room) ⌝ }
+// So many numbers that what their events print has room, 22 bytes for each, and the longest text behind it.
+pub(crate) fn answer_room(bytes: usize) -> usize
+    requires { ⌜ 544 ≤ bytes ⌝ }
+    ensures { λ n. ⌜ (n ≤ 6144) × (22 * n + 544 ≤ bytes) ⌝ }
 {
-    if 130560 <= room {
-        return 240;
+    let numbers = (bytes - 544) / 22;
+    if 6144 < numbers {
+        return 6144;
     }
-    room / 544
+    numbers
 }
 
-// The path that three numbers tell.
-fn way_of(stops: u32, last: u32, hops: u32) -> Way
-    ensures { λ w. ⌜ (waySays w ≡ says (wayIn (stops ∷ last ∷ hops ∷ []))) × WayFits w ⌝ }
-{
-    if stops == 0 {
-        return Way::Delivered(hops as usize);
-    }
-    Way::Stops(last as usize, hops as usize)
-}
-
-// The line of the field at the head of `rest`, which was carried out, by the three numbers at the head of `ways`.
-fn tell(rest: &[u8], p: Progress, ways: &[u32], out: &mut [u8]) -> Told
-    requires { ⌜ (3 ≤ length (now ways)) × (544 ≤ length (now out)) ⌝ }
-    ensures { λ r. ⌜ (r .used ≡ headText p (now (rest .entry)) (now (ways .entry)) .used) × (line (r .written) (now (out .exit)) ≡ lineOf (headText p (now (rest .entry)) (now (ways .entry)) .text) (now (out .entry))) ⌝ }
-{
-    let read = plan::fields::read_field(rest, p);
-    let Read::Field(field, used) = read else {
-        return Told {
-            used: 0,
-            written: 0,
-        };
-    };
-    let Field::Event(event) = field else {
-        return Told { used, written: 0 };
-    };
-    let Event::Path(start, dest) = event else {
-        return Told { used, written: 0 };
-    };
-    let way = way_of(ways[0], ways[1], ways[2]);
-    Told {
-        used,
-        written: path_text(out, start, dest, way),
-    }
-}
-
-// The lines of as many fields as `calls`, behind what is written.
-pub(crate) fn tell_all(
+// The lines of the events that were made, behind what is written.
+fn put_texts(
     written: usize,
-    rest: &[u8],
-    p: Progress,
-    calls: usize,
-    ways: &[u32],
+    bridges: usize,
+    events: [Event; 2048],
+    made: usize,
+    answers: &[u32],
     out: &mut [u8],
 ) -> usize
-    requires { ⌜ (3 * calls ≤ length (now ways)) × (written + 544 * calls ≤ length (now out)) ⌝ }
-    ensures { λ r. ⌜ Put (now (out .entry)) written (listTexts calls p (now (rest .entry)) (now (ways .entry))) (now (out .exit)) r ⌝ }
+    requires { ⌜ (bridges ≤ 16) × (made ≤ 2048) × (answerSizes bridges (take made events) ≤ length (now answers)) ⌝ }
+    requires { ⌜ written + length (textsOf bridges (take made events) (now answers)) + 544 ≤ length (now out) ⌝ }
+    ensures { λ r. ⌜ Put (now (out .entry)) written (textsOf bridges (take made events) (now (answers .entry))) (now (out .exit)) r ⌝ }
 {
     let mut end = written;
     let mut at = 0;
     let mut k = 0;
-    while k < calls {
-        let first = 3 * k;
-        let told = tell(&rest[at..], p, &ways[first..], &mut out[end..]);
-        at += told.used;
-        end += told.written;
+    while k < made {
+        let event = events[k];
+        let past = at + bench::batches::answer_size(bridges as u8, event);
+        end += event_text(bridges, event, &answers[at..past], &mut out[end..]);
+        at = past;
         k += 1;
     }
     end
 }
 
-// How far the reader has come in a list.
-fn progress_of(bench: Bench) -> Progress
-    ensures { λ p. ⌜ p ≡ progressOf bench ⌝ }
+// Nothing was made, and nothing refused.
+pub(crate) fn nothing_made(listed: RanMessages) -> bool
+    ensures { λ b. ⌜ b ≡ (eqb (listed .ran .made) 0 && eqb (refusalIn (listed .ran .disposition)) 0) ⌝ }
 {
-    Progress {
-        stage: 3,
-        bridges: bench.bridges,
-        links: bench.links,
-        views: bench.views,
-    }
+    let ran = listed.ran;
+    let how = ran.disposition;
+    both(ran.made == 0, refusal_in(how) == 0)
 }
 
-// With the calls of a list that were made, and their texts up to `end`.
-fn listed_on(done: Stepped, ran: Listed, end: usize) -> Stepped
-    requires { ⌜ (done .runner .events + ran .calls ≤ 61440) × (done .runner .offset + ran .used ≤ 61440) × (done .used + ran .used < 2 ^ 64) ⌝ }
-    ensures { λ s. ⌜ s ≡ listedOn done ran end ⌝ }
+// With so many events of so many bytes made, and their texts up to `end`.
+fn made_on(
+    done: Stepped,
+    messages: [Message; 64],
+    bench: Bench,
+    made: usize,
+    used: usize,
+    end: usize,
+) -> Stepped
+    requires { ⌜ (done .runner .events + made ≤ 61440) × (done .runner .offset + used ≤ 61440) × (done .used + used < 2 ^ 64) ⌝ }
+    ensures { λ s. ⌜ s ≡ madeOn done messages bench made used end ⌝ }
 {
     let r = done.runner;
-    let bench = ran.bench;
     let runner = Runner {
         bench,
         stage: 3,
-        events: r.events + ran.calls as u32,
-        offset: r.offset + ran.used as u32,
+        events: r.events + made as u32,
+        offset: r.offset + used as u32,
     };
     Stepped {
         runner,
+        messages,
         going: true,
-        used: done.used + ran.used,
+        used: done.used + used,
         written: end,
         reply: 0,
     }
 }
 
-// The events at the head of what is left of the plan, as many as a list of calls makes. Where it makes none, nothing is done, and the
-// plan does not go on.
-fn list_on(
-    done: Stepped,
-    rest: &[u8],
-    costs: &[u32],
-    sent: &mut [u32],
-    held: &mut [u32],
-    messages: &mut [u32],
-    out: &mut [u8],
-    ways: &mut [u32],
-) -> Stepped
-    requires { ⌜ (done .going ≡ true) × (done .used ≤ length (now rest)) × ListFits (done .runner) (length (now rest) - done .used) ⌝ }
-    requires { ⌜ (length (now ways) ≤ 720) × (done .written + 544 * (length (now ways) / 3) ≤ length (now out)) ⌝ }
-    ensures { λ s. ⌜ ((rows : List ℕ) → 32 ≤ length rows → MadeOrNot (turn (done .reply) (done .going) (done .used) (done .written) (done .runner) (buffers (now (costs .entry)) (now (sent .entry)) (now (held .entry)) (now (messages .entry)) rows (now (out .entry)))) (now (rest .entry)) (turn (s .reply) (s .going) (s .used) (s .written) (s .runner) (buffers (now (costs .entry)) (now (sent .exit)) (now (held .exit)) (now (messages .exit)) rows (now (out .exit))))) ⌝ }
+// The plan ends with the refusal of its next event, behind what is written.
+fn refused_on(done: Stepped, number: u8, out: &mut [u8]) -> Stepped
+    requires { ⌜ (0 < number) × (done .written + 544 ≤ length (now out)) ⌝ }
+    ensures { λ s. ⌜ turned s (now (out .exit)) ≡ refusedOn number (turned done (now (out .entry))) ⌝ }
+    ensures { λ s. ⌜ s .messages ≡ done .messages ⌝ }
 {
-    let used = done.used;
     let written = done.written;
     let r = done.runner;
-    let bench = r.bench;
-    let left = &rest[used..];
-    let ran = bench::lists::run(bench, costs, sent, held, messages, left, ways);
-    let calls = ran.calls;
-    if calls == 0 {
-        let mut none = done;
-        none.going = false;
-        return none;
+    let messages = done.messages;
+    let count = last_line(&mut out[written..], number, r.events, r.offset);
+    Stepped {
+        runner: r,
+        messages,
+        going: false,
+        used: done.used,
+        written: written + count,
+        reply: number,
     }
-    let end = tell_all(written, left, progress_of(bench), calls, ways, out);
-    listed_on(done, ran, end)
 }
 
-// As many events as their texts have room for in `out`, and 240 at most.
-pub(crate) fn list_in_room(
+// The events that were made, with their lines, and the refusal of the next one if it was refused.
+pub(crate) fn listed_on(
     done: Stepped,
-    rest: &[u8],
-    costs: &[u32],
-    sent: &mut [u32],
-    held: &mut [u32],
-    messages: &mut [u32],
+    listed: RanMessages,
+    events: [Event; 2048],
+    ends: &[usize],
+    answers: &[u32],
     out: &mut [u8],
-    ways: &mut [u32],
 ) -> Stepped
-    requires { ⌜ (done .going ≡ true) × (done .used ≤ length (now rest)) × ListFits (done .runner) (length (now rest) - done .used) ⌝ }
-    requires { ⌜ (720 ≤ length (now ways)) × (done .written ≤ length (now out)) ⌝ }
-    ensures { λ s. ⌜ ((rows : List ℕ) → 32 ≤ length rows → MadeOrNot (turn (done .reply) (done .going) (done .used) (done .written) (done .runner) (buffers (now (costs .entry)) (now (sent .entry)) (now (held .entry)) (now (messages .entry)) rows (now (out .entry)))) (now (rest .entry)) (turn (s .reply) (s .going) (s .used) (s .written) (s .runner) (buffers (now (costs .entry)) (now (sent .exit)) (now (held .exit)) (now (messages .exit)) rows (now (out .exit))))) ⌝ }
+    requires { ⌜ ResultFits done (listed .ran) events (now ends) (now answers) (length (now out)) ⌝ }
+    ensures { λ s. ⌜ turned s (now (out .exit)) ≡ listedOn done (listed .ran) events (now (ends .entry)) (now (answers .entry)) (now (out .entry)) ⌝ }
+    ensures { λ s. ⌜ s .messages ≡ listed .messages ⌝ }
 {
-    let written = done.written;
-    let past = 3 * list_room(out.len() - written);
-    list_on(
+    let r = done.runner;
+    let old = r.bench;
+    let ran = listed.ran;
+    let left = listed.messages;
+    let made = ran.made;
+    let after = ran.bench;
+    let how = ran.disposition;
+    let number = refusal_in(how);
+    let end = put_texts(done.written, old.bridges, events, made, answers, out);
+    let next = made_on(
         done,
-        rest,
-        costs,
-        sent,
-        held,
-        messages,
-        out,
-        &mut ways[..past],
-    )
+        left,
+        after,
+        made,
+        plan::events::bytes_of(ends, made),
+        end,
+    );
+    if number == 0 {
+        return next;
+    }
+    refused_on(next, number, out)
 }

@@ -1,13 +1,16 @@
 // The public calls: a runner before the first field, and one step of a plan.
 use crate::Runner;
 use crate::Stepped;
-use crate::events::happen;
+use crate::events::event_text;
 use crate::setup;
 use crate::stops::last_line;
 use crate::stops::stop_number;
 use bench::Bench;
+use bench::Event;
+use bench::batches::refusal_in;
 use distances::ready::both;
-use plan::Event;
+use messages::Message;
+use messages::batches::run_by_value;
 use plan::Field;
 use plan::Progress;
 use plan::Read;
@@ -15,8 +18,9 @@ ghost use mathlib.Core.Path.{_≡_};
 ghost use mathlib.Core.Bool.{_&&_};
 ghost use mathlib.Core.List.{[]};
 ghost use Prim.Native.Nat.{_≤_};
-ghost use lib.ListN.{length};
+ghost use lib.ListN.{length, replicate};
 ghost use lib.Dec.{leb};
+ghost use Rattle.messages.specs.Slices.{numbersIn};
 ghost use Rattle.runner.specs.Buffers.{buffers};
 ghost use Rattle.runner.specs.Turns.{turn, setupTurn, lastTurn, lastText, fieldTurn, fieldFits, runnerInRange, stepOf};
 ghost use Rattle.runner.specs.Plans.{firstRunner};
@@ -50,26 +54,29 @@ pub fn first() -> Runner
     }
 }
 
-fn buffers_long(
+pub(crate) fn buffers_long(
     costs: usize,
     sent: usize,
     held: usize,
     messages: usize,
-    rows: usize,
     out: usize,
 ) -> bool
-    ensures { λ r. ⌜ r ≡ (leb 1024 costs && (leb 1024 sent && (leb 1024 held && (leb 320 messages && (leb 32 rows && leb 544 out))))) ⌝ }
+    ensures { λ r. ⌜ r ≡ (leb 1024 costs && (leb 1024 sent && (leb 1024 held && (leb 320 messages && leb 544 out)))) ⌝ }
 {
     both(
         1024 <= costs,
         both(
             1024 <= sent,
-            both(
-                1024 <= held,
-                both(320 <= messages, both(32 <= rows, 544 <= out)),
-            ),
+            both(1024 <= held, both(320 <= messages, 544 <= out)),
         ),
     )
+}
+
+// No message in flight.
+pub fn first_messages() -> [Message; 64]
+    ensures { λ r. ⌜ numbersIn r ≡ replicate 320 0 ⌝ }
+{
+    messages::batches::no_messages()
 }
 
 fn runner_in_range(r: Runner) -> bool
@@ -79,13 +86,15 @@ fn runner_in_range(r: Runner) -> bool
 }
 
 // The plan ends here.
-fn ended(r: Runner, number: u8, out: &mut [u8]) -> Stepped
+fn ended(r: Runner, messages: [Message; 64], number: u8, out: &mut [u8]) -> Stepped
     requires { ⌜ 544 ≤ length (now out) ⌝ }
-    ensures { λ s. ⌜ turn (s .reply) (s .going) (s .used) (s .written) (s .runner) (buffers [] [] [] [] [] (now (out .exit))) ≡ lastTurn number (lastText number (r .events) (r .offset)) r (buffers [] [] [] [] [] (now (out .entry))) ⌝ }
+    ensures { λ s. ⌜ turn (s .reply) (s .going) (s .used) (s .written) (s .runner) (buffers [] [] [] [] (now (out .exit))) ≡ lastTurn number (lastText number (r .events) (r .offset)) r (buffers [] [] [] [] (now (out .entry))) ⌝ }
+    ensures { λ s. ⌜ s .messages ≡ messages ⌝ }
 {
     let written = last_line(out, number, r.events, r.offset);
     Stepped {
         runner: r,
+        messages,
         going: false,
         used: 0,
         written,
@@ -93,9 +102,10 @@ fn ended(r: Runner, number: u8, out: &mut [u8]) -> Stepped
     }
 }
 
-fn set_up(r: Runner, bench: Bench, stage: usize, used: usize) -> Stepped
+fn set_up(r: Runner, messages: [Message; 64], bench: Bench, stage: usize, used: usize) -> Stepped
     requires { ⌜ (r .offset ≤ 61440) × (used ≤ 65538) ⌝ }
-    ensures { λ s. ⌜ turn (s .reply) (s .going) (s .used) (s .written) (s .runner) (buffers [] [] [] [] [] []) ≡ setupTurn used bench stage r (buffers [] [] [] [] [] []) ⌝ }
+    ensures { λ s. ⌜ turn (s .reply) (s .going) (s .used) (s .written) (s .runner) (buffers [] [] [] [] []) ≡ setupTurn used bench stage r (buffers [] [] [] [] []) ⌝ }
+    ensures { λ s. ⌜ s .messages ≡ messages ⌝ }
 {
     let runner = Runner {
         bench,
@@ -105,6 +115,7 @@ fn set_up(r: Runner, bench: Bench, stage: usize, used: usize) -> Stepped
     };
     Stepped {
         runner,
+        messages,
         going: true,
         used,
         written: 0,
@@ -112,40 +123,48 @@ fn set_up(r: Runner, bench: Bench, stage: usize, used: usize) -> Stepped
     }
 }
 
+// An event is a list of one.
 fn event_step(
     r: Runner,
     costs: &[u32],
     sent: &mut [u32],
     held: &mut [u32],
-    messages: &mut [u32],
-    rows: &mut [u32],
+    messages: [Message; 64],
     out: &mut [u8],
     event: Event,
     used: usize,
 ) -> Stepped
-    requires { ⌜ (r .offset ≤ 61440) × (r .events ≤ 61440) × (used ≤ 65538) × (32 ≤ length (now rows)) × (544 ≤ length (now out)) ⌝ }
-    ensures { λ s. ⌜ turn (s .reply) (s .going) (s .used) (s .written) (s .runner) (buffers (now (costs .entry)) (now (sent .exit)) (now (held .exit)) (now (messages .exit)) (now (rows .exit)) (now (out .exit))) ≡ fieldTurn [] (Field.Event event) used r (buffers (now (costs .entry)) (now (sent .entry)) (now (held .entry)) (now (messages .entry)) (now (rows .entry)) (now (out .entry))) ⌝ }
+    requires { ⌜ (r .offset ≤ 61440) × (r .events ≤ 61440) × (used ≤ 65538) × (544 ≤ length (now out)) ⌝ }
+    ensures { λ s. ⌜ turn (s .reply) (s .going) (s .used) (s .written) (s .runner) (buffers (now (costs .entry)) (now (sent .exit)) (now (held .exit)) (numbersIn (s .messages)) (now (out .exit))) ≡ fieldTurn [] (Field.Event event) used r (buffers (now (costs .entry)) (now (sent .entry)) (now (held .entry)) (numbersIn messages) (now (out .entry))) ⌝ }
 {
     let bench = r.bench;
-    let happened = happen(bench, costs, sent, held, messages, rows, out, event);
-    let after = happened.bench;
-    let number = happened.reply;
-    if number == 0 {
-        let runner = Runner {
-            bench: after,
-            stage: 3,
-            events: r.events + 1,
-            offset: r.offset + used as u32,
-        };
-        return Stepped {
-            runner,
-            going: true,
-            used,
-            written: happened.written,
-            reply: 0,
-        };
+    let events = [event; 2048];
+    let mut answers = [0u32; 32];
+    let listed = run_by_value(bench, costs, sent, held, messages, events, 1, &mut answers);
+    let ran = listed.ran;
+    let left = listed.messages;
+    let how = ran.disposition;
+    let number = refusal_in(how);
+    if number != 0 {
+        return ended(r, left, number, out);
     }
-    ended(r, number, out)
+    let size = ran.answered;
+    let written = event_text(bench.bridges, event, &answers[..size], out);
+    let after = ran.bench;
+    let runner = Runner {
+        bench: after,
+        stage: 3,
+        events: r.events + 1,
+        offset: r.offset + used as u32,
+    };
+    Stepped {
+        runner,
+        messages: left,
+        going: true,
+        used,
+        written,
+        reply: 0,
+    }
 }
 
 fn field_step(
@@ -154,26 +173,31 @@ fn field_step(
     costs: &mut [u32],
     sent: &mut [u32],
     held: &mut [u32],
-    messages: &mut [u32],
-    rows: &mut [u32],
+    messages: [Message; 64],
     out: &mut [u8],
     field: Field,
     used: usize,
 ) -> Stepped
-    requires { ⌜ (r .offset ≤ 61440) × (r .events ≤ 61440) × (used ≤ 65538) × (1024 ≤ length (now costs)) × (32 ≤ length (now rows)) × (544 ≤ length (now out)) ⌝ }
+    requires { ⌜ (r .offset ≤ 61440) × (r .events ≤ 61440) × (used ≤ 65538) × (1024 ≤ length (now costs)) × (544 ≤ length (now out)) ⌝ }
     requires { ⌜ fieldFits (r .bench) field ⌝ }
-    ensures { λ s. ⌜ turn (s .reply) (s .going) (s .used) (s .written) (s .runner) (buffers (now (costs .exit)) (now (sent .exit)) (now (held .exit)) (now (messages .exit)) (now (rows .exit)) (now (out .exit))) ≡ fieldTurn (now (rest .entry)) field used r (buffers (now (costs .entry)) (now (sent .entry)) (now (held .entry)) (now (messages .entry)) (now (rows .entry)) (now (out .entry))) ⌝ }
+    ensures { λ s. ⌜ turn (s .reply) (s .going) (s .used) (s .written) (s .runner) (buffers (now (costs .exit)) (now (sent .exit)) (now (held .exit)) (numbersIn (s .messages)) (now (out .exit))) ≡ fieldTurn (now (rest .entry)) field used r (buffers (now (costs .entry)) (now (sent .entry)) (now (held .entry)) (numbersIn messages) (now (out .entry))) ⌝ }
 {
     let bench = r.bench;
     match field {
-        Field::Bridges(count) => set_up(r, setup::with_bridges(bench, count), 1, used),
-        Field::Link(first, second) => set_up(r, setup::with_link(bench, first, second), 1, used),
+        Field::Bridges(count) => set_up(r, messages, setup::with_bridges(bench, count), 1, used),
+        Field::Link(first, second) => set_up(
+            r,
+            messages,
+            setup::with_link(bench, first, second),
+            1,
+            used,
+        ),
         Field::View => {
             setup::store_row(rest, bench, costs);
             let viewed = setup::with_view(bench);
-            set_up(r, setup::open(viewed, costs, sent, held), 2, used)
+            set_up(r, messages, setup::open(viewed, costs, sent, held), 2, used)
         }
-        Field::Event(event) => event_step(r, costs, sent, held, messages, rows, out, event, used),
+        Field::Event(event) => event_step(r, costs, sent, held, messages, out, event, used),
     }
 }
 
@@ -184,23 +208,16 @@ pub fn step(
     costs: &mut [u32],
     sent: &mut [u32],
     held: &mut [u32],
-    messages: &mut [u32],
-    rows: &mut [u32],
+    messages: [Message; 64],
     out: &mut [u8],
 ) -> Stepped
-    ensures { λ s. ⌜ turn (s .reply) (s .going) (s .used) (s .written) (s .runner) (buffers (now (costs .exit)) (now (sent .exit)) (now (held .exit)) (now (messages .exit)) (now (rows .exit)) (now (out .exit))) ≡ stepOf r (buffers (now (costs .entry)) (now (sent .entry)) (now (held .entry)) (now (messages .entry)) (now (rows .entry)) (now (out .entry))) (now (rest .entry)) ⌝ }
+    ensures { λ s. ⌜ turn (s .reply) (s .going) (s .used) (s .written) (s .runner) (buffers (now (costs .exit)) (now (sent .exit)) (now (held .exit)) (numbersIn (s .messages)) (now (out .exit))) ≡ stepOf r (buffers (now (costs .entry)) (now (sent .entry)) (now (held .entry)) (numbersIn messages) (now (out .entry))) (now (rest .entry)) ⌝ }
 {
-    let long = buffers_long(
-        costs.len(),
-        sent.len(),
-        held.len(),
-        messages.len(),
-        rows.len(),
-        out.len(),
-    );
+    let long = buffers_long(costs.len(), sent.len(), held.len(), 320, out.len());
     if !both(runner_in_range(r), long) {
         return Stepped {
             runner: r,
+            messages,
             going: false,
             used: 0,
             written: 0,
@@ -216,7 +233,7 @@ pub fn step(
     };
     let read = plan::fields::read_field(rest, progress);
     let Read::Field(field, used) = read else {
-        return ended(r, stop_number(read), out);
+        return ended(r, messages, stop_number(read), out);
     };
-    field_step(r, rest, costs, sent, held, messages, rows, out, field, used)
+    field_step(r, rest, costs, sent, held, messages, out, field, used)
 }

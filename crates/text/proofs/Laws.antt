@@ -136,15 +136,15 @@ length-rowLines rows zero = omega arith
 length-rowLines rows (suc y) =
     simp length-append (omega (arith, length-rowLines rows y, length-rowLine y (getD rows (2 * y) 0) (getD rows (2 * y + 1) 0)))
 
-pub length-reportText : (dest bridges : ℕ) (rows : List ℕ) → bridges ≤ 16 → length (reportText dest bridges rows) ≤ 544
+pub length-reportText : (dest bridges : ℕ) (rows : List ℕ) → length (reportText dest bridges rows) ≤ 16 + 33 * bridges
 unfolding reportText
-length-reportText dest bridges rows h = simp length-append (omega (arith, length-digits 9 dest, length-rowLines rows bridges))
+length-reportText dest bridges rows = simp length-append (omega (arith, length-digits 9 dest, length-rowLines rows bridges))
 
-pub length-deliveredText : (start dest hops : ℕ) → length (deliveredText start dest hops) ≤ 544
+pub length-deliveredText : (start dest hops : ℕ) → length (deliveredText start dest hops) ≤ 66
 unfolding deliveredText
 length-deliveredText start dest hops = simp length-append (omega (arith, length-digits 9 start, length-digits 9 dest, length-digits 9 hops))
 
-pub length-stopsText : (start dest last hops : ℕ) → length (stopsText start dest last hops) ≤ 544
+pub length-stopsText : (start dest last hops : ℕ) → length (stopsText start dest last hops) ≤ 66
 unfolding stopsText
 length-stopsText start dest last hops =
     simp length-append (omega (arith, length-digits 9 start, length-digits 9 dest, length-digits 9 last, length-digits 9 hops))

@@ -41,12 +41,12 @@ fn put_rows(out: &mut [u8], at: usize, bridges: usize, rows: &[u32]) -> usize
 
 // A report: `rows` has two numbers for each bridge, its distance and its link, NONE for `-`.
 pub fn report(out: &mut [u8], dest: u32, bridges: usize, rows: &[u32]) -> Written
-    ensures { λ r. ⌜ outcome r (now (out .exit)) ≡ writing (leb bridges 16 && leb 32 (length (now (rows .entry)))) (reportText dest bridges (now (rows .entry))) (now (out .entry)) ⌝ }
+    ensures { λ r. ⌜ outcome r (now (out .exit)) ≡ writing (leb bridges 16 && leb (2 * bridges) (length (now (rows .entry)))) (reportText dest bridges (now (rows .entry))) (now (out .entry)) ⌝ }
 {
     if 16 < bridges {
         return Written::Refused;
     }
-    if rows.len() < 32 {
+    if rows.len() < 2 * bridges {
         return Written::Refused;
     }
     if out.len() < 544 {

@@ -1,6 +1,5 @@
 -- `answers::path` meets its contract: out of range, or `path_ready`. Assumes nothing.
-use mathlib.Core.Path.{sym, _∙_}
-use borrow.Author.Needs.{needs}
+use mathlib.Core.Path.{sym, _∙_, refl}
 use borrow.Author.Tests.{not-true, not-false}
 use Rattle.bench.specs.Answers.{pathOf}
 use Rattle.bench.specs.Deliveries.{refusedBy}
@@ -10,7 +9,7 @@ use Rattle.bench.proofs.answers.path.Statement.{statement}
 use Rattle.bench.proofs.answers.path.Tie as tie
 
 network-in-range-requires : tie.Need-network-in-range-requires
-network-in-range-requires c κs = search needs
+network-in-range-requires c κs = tt
 
 returns : tie.Need-returns
 unfolding pathOf
@@ -23,10 +22,10 @@ returns-2 : tie.Need-returns-2
 returns-2 c = c .before .before .path-ready .ensures .0
 
 slice-aggregate-path-ready : tie.Need-slice-aggregate-path-ready
-slice-aggregate-path-ready c = search needs
+slice-aggregate-path-ready c = refl
 
 slice-aggregate-path-ready-2 : tie.Need-slice-aggregate-path-ready-2
-slice-aggregate-path-ready-2 c = search needs
+slice-aggregate-path-ready-2 c = refl
 
 pub path-spec : {M : Type 1} → statement M
 path-spec = tie.close (tie.spec

@@ -1,11 +1,10 @@
 -- `answers::path_ready` meets its contract: nothing of the table applies, then the walk itself. Assumes nothing.
 use mathlib.Core.Path.{sym, _∙_}
 use mathlib.Core.List.{[]}
-use borrow.Author.Needs.{needs}
 use Rattle.bench.specs.Answers.{pathOf}
 use Rattle.bench.specs.Deliveries.{refusedBy}
 use Rattle.bench.specs.State.{networkOf}
-use Rattle.bench.specs.Calls.{refuse, checks, noSuchBridge}
+use Rattle.protocol.specs.Calls.{refuse, checks, noSuchBridge}
 use Rattle.bench.proofs.WalkSteps.{bridges-listed}
 use Rattle.bench.proofs.ChoiceSteps.{ports-told}
 use Rattle.bench.proofs.EntrySettled.{turned-down, goes-on}
@@ -13,7 +12,7 @@ use Rattle.bench.proofs.answers.path_ready.Statement.{statement}
 use Rattle.bench.proofs.answers.path_ready.Tie as tie
 
 port-refusal-requires : tie.Need-port-refusal-requires
-port-refusal-requires c κs = search needs
+port-refusal-requires c κs = tt
 
 returns : tie.Need-returns
 unfolding pathOf refuse checks noSuchBridge
@@ -31,10 +30,10 @@ unfolding pathOf refuse checks noSuchBridge
 returns-2 c = (rw (c .before .before .before .before .walk .ensures .0) (goes-on _ _ _ refusedBy _ (c .before .before .before .before .before .before .before .before .before .before .before .before .before .before .pre .0) _ (c .before .before .before .before .before .before .before .before .port-refusal .ensures) (c .before .before .before .before .before .before .before .if1 .left)), c .before .before .before .before .walk .ensures .1)
 
 same-length : tie.Need-same-length
-same-length c = search needs
+same-length c = c .before .before .before .before .walk .kept .1 .1 .0
 
 same-length-2 : tie.Need-same-length-2
-same-length-2 c = search needs
+same-length-2 c = c .before .before .before .before .walk .kept .1 .1 .1 .0
 
 pub path-ready-spec : {M : Type 1} → statement M
 path-ready-spec = tie.close (tie.spec

@@ -1,12 +1,9 @@
 -- `answers::port` meets its contract: in range, then nothing of the table applies, then the port that layer 2 finds. Assumes nothing.
-use mathlib.Core.Bool.{true}
 use mathlib.Core.List.{[]}
-use mathlib.Core.Path.{_≡_, sym, _∙_}
-use borrow.Author.Needs.{needs}
+use mathlib.Core.Path.{sym, _∙_, refl}
 use borrow.Author.Tests.{not-true, not-false}
-use Rattle.bench.specs.Calls.{refuse, checks, noSuchBridge}
+use Rattle.protocol.specs.Calls.{refuse, checks, noSuchBridge}
 use Rattle.bench.specs.State.{State, state, networkOf}
-use Rattle.bench.specs.Changes.{stateInRange}
 use Rattle.bench.specs.Deliveries.{refusedBy}
 use Rattle.bench.specs.Answers.{portOf}
 use Rattle.bench.proofs.EntrySettled.{out-of-range, turned-down, goes-on}
@@ -21,7 +18,7 @@ abbrev StateOf : tie.Start → State
 StateOf s = let a = s .args in state (a .bench) (a .costs .now) (a .sent .now) (a .held .now) []
 
 network-in-range-requires : tie.Need-network-in-range-requires
-network-in-range-requires c κs = search needs
+network-in-range-requires c κs = tt
 
 returns : tie.Need-returns
 unfolding portOf
@@ -29,7 +26,7 @@ returns c =
     out-of-range _ _ _ refusedBy _ (sym (c .before .network-in-range .ensures) ∙ not-true _ (c .if1 .taken))
 
 port-refusal-requires : tie.Need-port-refusal-requires
-port-refusal-requires c κs = search needs
+port-refusal-requires c κs = tt
 
 returns-2 : tie.Need-returns-2
 unfolding portOf refuse checks noSuchBridge
@@ -51,10 +48,10 @@ returns-3 c =
     (c .before .before .before .before .before .before .port-refusal .ensures) (c .before .before .before .before .before .if2 .left))
 
 slice-aggregate-port-of : tie.Need-slice-aggregate-port-of
-slice-aggregate-port-of c = search needs
+slice-aggregate-port-of c = refl
 
 slice-aggregate-port-of-2 : tie.Need-slice-aggregate-port-of-2
-slice-aggregate-port-of-2 c = search needs
+slice-aggregate-port-of-2 c = refl
 
 pub port-spec : {M : Type 1} → statement M
 port-spec =

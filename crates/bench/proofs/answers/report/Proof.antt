@@ -1,15 +1,11 @@
 -- `answers::report` meets its contract: in range, then nothing of the table applies, then the rows are written. Assumes nothing.
 use Prim.Native.Nat.{ℕ}
 use native.Mathlib.Omega.{arith}
-use mathlib.Core.Bool.{true, _&&_}
 use mathlib.Core.List.{[]}
-use mathlib.Core.Path.{_≡_, sym, _∙_}
-use borrow.Author.Needs.{needs}
+use mathlib.Core.Path.{sym, _∙_, refl}
 use borrow.Author.Tests.{not-true, not-false, le-leb, lt-leb}
-use lib.ListN.{length}
-use lib.Dec.{leb}
 use Rattle.distances.proofs.Booleans.{true-both, not-both}
-use Rattle.bench.specs.Calls.{refuse, checks, noSuchBridge}
+use Rattle.protocol.specs.Calls.{refuse, checks, noSuchBridge}
 use Rattle.bench.specs.State.{State, state, networkOf}
 use Rattle.bench.specs.Changes.{stateInRange}
 use Rattle.bench.specs.Answers.{Reported, report, reportOf}
@@ -29,7 +25,7 @@ abbrev Refused : tie.Start → ℕ → Reported
 Refused s k = report k (s .args .rows .now)
 
 network-in-range-requires : tie.Need-network-in-range-requires
-network-in-range-requires c κs = search needs
+network-in-range-requires c κs = tt
 
 returns : tie.Need-returns
 unfolding reportOf
@@ -48,7 +44,7 @@ returns-2 c =
     )
 
 report-refusal-requires : tie.Need-report-refusal-requires
-report-refusal-requires c κs = search needs
+report-refusal-requires c κs = tt
 
 returns-3 : tie.Need-returns-3
 unfolding reportOf refuse checks noSuchBridge
@@ -64,11 +60,11 @@ report-rows-requires c κs =
     let s = c .before .before .before .before .before .before .before .before .before .before .before .before in
     let passes = sym (c .before .before .before .before .report-refusal .ensures) ∙ c .before .before .before .if3 .left in (
       ports-told _ _ _ _ (sym (c .before .before .before .before .before .before .before .network-in-range .ensures) ∙ not-false _ (c .before .before .before .before .before .before .if1 .left)),
-      (bridge-listed (networkOf (s .args .bench) []) (s .args .dest) _ passes, c .before .before .before .before .before .if2 .left, tables-none _ _),
+      (bridge-listed (networkOf (s .args .bench) []) (s .args .dest) _ passes, omega (arith, c .before .before .before .before .before .if2 .left, (ports-told (s .args .bench) (s .args .costs .now) (s .args .sent .now) (s .args .held .now) (sym (c .before .before .before .before .before .before .before .network-in-range .ensures) ∙ not-false _ (c .before .before .before .before .before .before .if1 .left))) .ready .fewBridges), tables-none _ _),
     )
 
 same-length : tie.Need-same-length
-same-length c = search needs
+same-length c = c .before .before .before .before .report-rows .kept .1 .1 .1 .1 .1 .1 .1 .0
 
 returns-4 : tie.Need-returns-4
 unfolding reportOf refuse checks noSuchBridge
@@ -80,10 +76,10 @@ returns-4 c =
     )
 
 slice-aggregate-report-rows : tie.Need-slice-aggregate-report-rows
-slice-aggregate-report-rows c = search needs
+slice-aggregate-report-rows c = refl
 
 slice-aggregate-report-rows-2 : tie.Need-slice-aggregate-report-rows-2
-slice-aggregate-report-rows-2 c = search needs
+slice-aggregate-report-rows-2 c = refl
 
 pub report-spec : {M : Type 1} → statement M
 report-spec =

@@ -8,7 +8,7 @@ use Rattle.bench.proofs.changes.cut.Statement.{statement}
 use Rattle.bench.proofs.changes.cut.Tie as tie
 
 bench-in-range-requires : tie.Need-bench-in-range-requires
-bench-in-range-requires c κs = search needs
+bench-in-range-requires c κs = tt
 
 refused-requires : tie.Need-refused-requires
 refused-requires c κs = search needs

@@ -2,10 +2,9 @@
 use native.Mathlib.Omega.{arith}
 use mathlib.Core.Path.{sym, _∙_}
 use mathlib.Core.List.{[]}
-use borrow.Author.Needs.{needs}
 use Rattle.bench.specs.State.{networkOf}
 use Rattle.bench.specs.Changes.{changed, cutOf}
-use Rattle.bench.specs.Calls.{refuse, checks, changeChecks}
+use Rattle.protocol.specs.Calls.{refuse, checks, changeChecks}
 use Rattle.bench.proofs.EntrySettled.{turned-down, goes-on, link-listed}
 use Rattle.bench.proofs.EntryChecks.{bench-counted}
 use Rattle.bench.proofs.changes.cut_ready.Statement.{statement}
@@ -15,7 +14,7 @@ cut-refusal-requires : tie.Need-cut-refusal-requires
 cut-refusal-requires c κs = bench-counted _ (c .pre) .links
 
 refused-requires : tie.Need-refused-requires
-refused-requires c κs = search needs
+refused-requires c κs = omega arith
 
 returns : tie.Need-returns
 unfolding cutOf

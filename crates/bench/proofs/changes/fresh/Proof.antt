@@ -1,6 +1,6 @@
 -- `changes::fresh` meets its contract. In range, view 0's distances are computed and then each end is started from them. Assumes nothing.
 use native.Mathlib.Omega.{arith}
-use mathlib.Core.Path.{_≡_, sym, _∙_, ap}
+use mathlib.Core.Path.{sym, _∙_, ap, refl}
 use borrow.Author.Tests.{not-true, not-false}
 use borrow.Author.Needs.{needs}
 use Rattle.distances.proofs.Booleans.{both-true}
@@ -13,10 +13,10 @@ use Rattle.bench.proofs.changes.fresh.Statement.{statement}
 use Rattle.bench.proofs.changes.fresh.Tie as tie
 
 plan-in-range-requires : tie.Need-plan-in-range-requires
-plan-in-range-requires c κs = search needs
+plan-in-range-requires c κs = tt
 
 refused-requires : tie.Need-refused-requires
-refused-requires c κs = search needs
+refused-requires c κs = omega arith
 
 returns : tie.Need-returns
 unfolding freshOf
@@ -31,43 +31,43 @@ slice-aggregate-distances : tie.Need-slice-aggregate-distances
 slice-aggregate-distances c = search needs
 
 sub-distances : tie.Need-sub-distances
-sub-distances c = search needs
+sub-distances c = omega arith
 
 part-distances-start : tie.Need-part-distances-start
-part-distances-start c = search needs
+part-distances-start c = omega arith
 
 part-distances-end : tie.Need-part-distances-end
 part-distances-end c = omega (arith, plan-lasting _ _ _ _ (sym (c .before .before .before .plan-in-range .ensures) ∙ not-false _ (c .before .before .if1 .left)) .costsLong)
 
 slice-aggregate-distances-2 : tie.Need-slice-aggregate-distances-2
-slice-aggregate-distances-2 c = search needs
+slice-aggregate-distances-2 c = refl
 
 distances-requires : tie.Need-distances-requires
-distances-requires c κs = search needs
+distances-requires c κs = tt
 
 sub-start-ends : tie.Need-sub-start-ends
-sub-start-ends c = search needs
+sub-start-ends c = omega arith
 
 part-start-ends-start : tie.Need-part-start-ends-start
-part-start-ends-start c = search needs
+part-start-ends-start c = omega arith
 
 part-start-ends-end : tie.Need-part-start-ends-end
 part-start-ends-end c = omega (arith, plan-lasting _ _ _ _ (sym (c .before .before .before .before .before .before .before .plan-in-range .ensures) ∙ not-false _ (c .before .before .before .before .before .before .if1 .left)) .costsLong)
 
 slice-aggregate-start-ends : tie.Need-slice-aggregate-start-ends
-slice-aggregate-start-ends c = search needs
+slice-aggregate-start-ends c = omega arith
 
 start-ends-requires : tie.Need-start-ends-requires
 start-ends-requires c κs = graph-counted _ (both-true _ _ (sym (c .before .before .before .before .before .before .before .before .before .before .before .plan-in-range .ensures) ∙ not-false _ (c .before .before .before .before .before .before .before .before .before .before .if1 .left)) .0) .links
 
 fresh-bench-requires : tie.Need-fresh-bench-requires
-fresh-bench-requires c κs = search needs
+fresh-bench-requires c κs = tt
 
 same-length : tie.Need-same-length
-same-length c = search needs
+same-length c = c .before .before .before .before .before .start-ends .kept .1 .1 .1 .0
 
 same-length-2 : tie.Need-same-length-2
-same-length-2 c = search needs
+same-length-2 c = c .before .before .before .before .before .start-ends .kept .1 .1 .1 .1 .0
 
 returns-2 : tie.Need-returns-2
 unfolding freshOf distanceTable

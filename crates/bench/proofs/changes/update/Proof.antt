@@ -1,5 +1,5 @@
 -- `changes::update` meets its contract: out of range, or `update_ready`. Assumes nothing.
-use mathlib.Core.Path.{sym, _∙_, ap}
+use mathlib.Core.Path.{sym, _∙_, ap, refl}
 use borrow.Author.Needs.{needs}
 use borrow.Author.Tests.{not-true, not-false}
 use Rattle.bench.specs.Changes.{Changed, rewritten, updateOf}
@@ -9,7 +9,7 @@ use Rattle.bench.proofs.changes.update.Statement.{statement}
 use Rattle.bench.proofs.changes.update.Tie as tie
 
 network-in-range-requires : tie.Need-network-in-range-requires
-network-in-range-requires c κs = search needs
+network-in-range-requires c κs = tt
 
 refused-requires : tie.Need-refused-requires
 refused-requires c κs = search needs
@@ -26,19 +26,19 @@ update-ready-requires : tie.Need-update-ready-requires
 update-ready-requires c κs = (sym (c .before .before .before .before .before .network-in-range .ensures) ∙ not-false _ (c .before .before .before .before .if1 .left), tables-none _ _)
 
 same-length : tie.Need-same-length
-same-length c = search needs
+same-length c = c .before .before .before .before .before .before .update-ready .kept .1 .1 .1 .1 .0
 
 same-length-2 : tie.Need-same-length-2
-same-length-2 c = search needs
+same-length-2 c = c .before .before .before .before .before .before .update-ready .kept .1 .1 .1 .1 .1 .0
 
 returns-2 : tie.Need-returns-2
 returns-2 c = c .before .before .before .before .before .before .update-ready .ensures .0
 
 slice-aggregate-update-ready : tie.Need-slice-aggregate-update-ready
-slice-aggregate-update-ready c = search needs
+slice-aggregate-update-ready c = refl
 
 slice-aggregate-update-ready-2 : tie.Need-slice-aggregate-update-ready-2
-slice-aggregate-update-ready-2 c = search needs
+slice-aggregate-update-ready-2 c = refl
 
 pub update-spec : {M : Type 1} → statement M
 update-spec =

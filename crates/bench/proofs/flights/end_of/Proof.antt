@@ -1,7 +1,7 @@
 -- `flights::end_of` meets its contract. Assumes nothing.
 use borrow.Author.Tests.{eq-eqb, ne-eqb}
 use borrow.Author.Needs.{needs}
-use Rattle.bench.specs.Calls.{endOf}
+use Rattle.protocol.specs.Calls.{endOf}
 use Rattle.bench.proofs.flights.end_of.Statement.{statement}
 use Rattle.bench.proofs.flights.end_of.Tie as tie
 

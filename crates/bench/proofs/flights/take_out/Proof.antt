@@ -3,7 +3,6 @@
 use Prim.Native.Nat.{_≤_, _-_, _*_, _+_}
 use native.Mathlib.Omega.{arith}
 use mathlib.Core.Path.{_≡_, refl}
-use borrow.Author.Needs.{needs}
 use lib.ListN.{length, length-set, getD}
 use Rattle.distances.specs.Table.{rewritten}
 use Rattle.bench.specs.Flights.{takenOut}
@@ -22,37 +21,37 @@ abbrev μ-loop : tie.MeasureT-loop
 μ-loop messages₀ count place past k₀ messages k = past - k
 
 sub-past : tie.Need-sub-past Inv-loop μ-loop
-sub-past c = search needs
+sub-past c = omega arith
 
 mul-past : tie.Need-mul-past Inv-loop μ-loop
-mul-past c = search needs
+mul-past c = omega arith
 
 mul-k : tie.Need-mul-k Inv-loop μ-loop
-mul-k c = search needs
+mul-k c = omega arith
 
 loop-holds : tie.Need-loop-holds Inv-loop μ-loop
 loop-holds c = (omega arith, omega arith, refl, moved-none _ _)
 
 add-messages : tie.Need-add-messages Inv-loop μ-loop
-add-messages c = search needs
+add-messages c = omega arith
 
 mul-messages : tie.Need-mul-messages Inv-loop μ-loop
-mul-messages c = search needs
+mul-messages c = omega arith
 
 slice-read-messages : tie.Need-slice-read-messages Inv-loop μ-loop
-slice-read-messages c = search needs
+slice-read-messages c = omega arith
 
 mul-messages-2 : tie.Need-mul-messages-2 Inv-loop μ-loop
-mul-messages-2 c = search needs
+mul-messages-2 c = omega arith
 
 slice-write-messages : tie.Need-slice-write-messages Inv-loop μ-loop
-slice-write-messages c = search needs
+slice-write-messages c = omega arith
 
 add-k : tie.Need-add-k Inv-loop μ-loop
-add-k c = search needs
+add-k c = omega arith
 
 loop-less : tie.Need-loop-less Inv-loop μ-loop
-loop-less c = search needs
+loop-less c = omega arith
 
 loop-again : tie.Need-loop-again Inv-loop μ-loop
 loop-again c = let s = c .before .before .before .args in

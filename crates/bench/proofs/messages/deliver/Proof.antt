@@ -1,7 +1,6 @@
 -- `messages::deliver` meets its contract: out of range, or `deliver_ready`. Assumes nothing.
 use native.Mathlib.Omega.{arith}
-use mathlib.Core.Path.{sym, _∙_}
-use borrow.Author.Needs.{needs}
+use mathlib.Core.Path.{sym, _∙_, refl}
 use borrow.Author.Tests.{not-true, not-false}
 use Rattle.bench.specs.State.{State, state}
 use Rattle.bench.proofs.TieRefusals.{refusal-out}
@@ -15,13 +14,13 @@ abbrev Given : tie.Start → State
 Given s = let a = s .args in state (a .bench) (a .costs .now) (a .sent .now) (a .held .now) (a .messages .now)
 
 delivery-in-range-requires : tie.Need-delivery-in-range-requires
-delivery-in-range-requires c κs = search needs
+delivery-in-range-requires c κs = tt
 
 refused-delivery-requires : tie.Need-refused-delivery-requires
-refused-delivery-requires c κs = search needs
+refused-delivery-requires c κs = tt
 
 same-length : tie.Need-same-length
-same-length c = search needs
+same-length c = refl
 
 returns : tie.Need-returns
 returns c = deliver-refused (Given (c .before .before .before .before .before .before .before .before)) _ 17 (refusal-out _ _ _ (sym (c .before .before .delivery-in-range .ensures) ∙ not-true _ (c .before .if1 .taken))) (λ z. omega arith) (c .refused-delivery .ensures .0) (c .refused-delivery .ensures .1)
@@ -30,22 +29,22 @@ deliver-ready-requires : tie.Need-deliver-ready-requires
 deliver-ready-requires c κs = (sym (c .before .before .before .before .before .before .delivery-in-range .ensures) ∙ not-false _ (c .before .before .before .before .before .if1 .left), tables-none _ _)
 
 same-length-2 : tie.Need-same-length-2
-same-length-2 c = search needs
+same-length-2 c = c .before .before .before .before .before .before .before .before .deliver-ready .kept .1 .1 .1 .1 .0
 
 same-length-3 : tie.Need-same-length-3
-same-length-3 c = search needs
+same-length-3 c = c .before .before .before .before .before .before .before .before .deliver-ready .kept .1 .1 .1 .1 .1 .0
 
 same-length-4 : tie.Need-same-length-4
-same-length-4 c = search needs
+same-length-4 c = c .before .before .before .before .before .before .before .before .deliver-ready .kept .1 .1 .1 .1 .1 .1 .0
 
 returns-2 : tie.Need-returns-2
 returns-2 c = c .before .before .before .before .before .before .before .before .deliver-ready .ensures .0
 
 slice-aggregate-deliver-ready : tie.Need-slice-aggregate-deliver-ready
-slice-aggregate-deliver-ready c = search needs
+slice-aggregate-deliver-ready c = refl
 
 slice-aggregate-deliver-ready-2 : tie.Need-slice-aggregate-deliver-ready-2
-slice-aggregate-deliver-ready-2 c = search needs
+slice-aggregate-deliver-ready-2 c = refl
 
 pub deliver-spec : {M : Type 1} → statement M
 deliver-spec =

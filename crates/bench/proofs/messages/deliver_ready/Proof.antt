@@ -2,10 +2,9 @@
 -- Assumes nothing.
 use Prim.Native.Nat.{ℕ}
 use native.Mathlib.Omega.{arith}
-use mathlib.Core.Path.{_≡_, sym, _∙_}
-use borrow.Author.Needs.{needs}
+use mathlib.Core.Path.{_≡_, sym, _∙_, refl}
 use Rattle.bench.specs.State.{State, state, networkOf}
-use Rattle.bench.specs.Calls.{deliver, refuse}
+use Rattle.protocol.specs.Calls.{deliver, refuse}
 use Rattle.bench.specs.Changes.{refusalOf}
 use Rattle.bench.specs.Deliveries.{deliveryReady}
 use Rattle.bench.proofs.TieRefusals.{refusal-ready}
@@ -27,10 +26,10 @@ deliver-refusal-requires : tie.Need-deliver-refusal-requires
 deliver-refusal-requires c κs = let h = told (Given (c .before .before .before .before .before .before .before)) (c .before .before .before .before .before .before .before .pre .0) in ((h .count, h .messagesLong), λ low. omega (arith, few (c .before .before .before .before .before .before .before .args .bench) (c .before .before .before .before .before .before .before .args .costs .now) (h .lasting), message-told _ _ _ (h .message (c .before .before .before .before .before .before .before .args .place) low) .link))
 
 refused-delivery-requires : tie.Need-refused-delivery-requires
-refused-delivery-requires c κs = search needs
+refused-delivery-requires c κs = tt
 
 same-length : tie.Need-same-length
-same-length c = search needs
+same-length c = refl
 
 returns : tie.Need-returns
 returns c = (deliver-refused (Given (c .before .before .before .before .before .before .before .before .before .before)) _ _ (same (c .before .before .before .before .before .before .before .before .before .before) _ (c .before .before .deliver-refusal .ensures)) (c .before .if1 .taken) (c .refused-delivery .ensures .0) (c .refused-delivery .ensures .1), c .before .before .before .before .before .before .before .before .before .before .pre .1)
@@ -45,25 +44,25 @@ sub-with-count : tie.Need-sub-with-count
 sub-with-count c = omega (arith, delivery-told (Given (c .before .before .before .before .before .before .before .before .before .before .before .before .before .before .before .before .before .before .before .before .before .before .before .before .before .before .before .before)) _ _ (same (c .before .before .before .before .before .before .before .before .before .before .before .before .before .before .before .before .before .before .before .before .before .before .before .before .before .before .before .before) _ (c .before .before .before .before .before .before .before .before .before .before .before .before .before .before .before .before .before .before .before .before .deliver-refusal .ensures)) (c .before .before .before .before .before .before .before .before .before .before .before .before .before .before .before .before .before .before .before .if1 .left) .listed)
 
 with-count-requires : tie.Need-with-count-requires
-with-count-requires c κs = search needs
+with-count-requires c κs = tt
 
 same-length-2 : tie.Need-same-length-2
-same-length-2 c = search needs
+same-length-2 c = c .before .before .before .before .before .before .before .before .before .before .before .before .before .before .receive-at .kept .1 .1 .0
 
 same-length-3 : tie.Need-same-length-3
-same-length-3 c = search needs
+same-length-3 c = c .before .before .before .before .before .before .before .before .before .before .before .before .before .before .receive-at .kept .1 .1 .1 .0
 
 same-length-4 : tie.Need-same-length-4
-same-length-4 c = search needs
+same-length-4 c = c .before .before .before .before .before .before .before .before .before .before .before .before .before .before .receive-at .kept .1 .1 .1 .1 .0
 
 returns-2 : tie.Need-returns-2
 returns-2 c = (deliver-done (Given (c .before .before .before .before .before .before .before .before .before .before .before .before .before .before .before .before .before .before .before .before .before .before .before .before .before .before .before .before .before)) _ _ (same (c .before .before .before .before .before .before .before .before .before .before .before .before .before .before .before .before .before .before .before .before .before .before .before .before .before .before .before .before .before) _ (c .before .before .before .before .before .before .before .before .before .before .before .before .before .before .before .before .before .before .before .before .before .deliver-refusal .ensures)) (c .before .before .before .before .before .before .before .before .before .before .before .before .before .before .before .before .before .before .before .before .if1 .left) (c .before .before .before .before .before .before .before .before .before .before .before .before .before .before .receive-at .ensures .0) (c .with-count .ensures) (c .before .before .before .before .take-out .ensures), c .before .before .before .before .before .before .before .before .before .before .before .before .before .before .receive-at .ensures .1)
 
 same-length-5 : tie.Need-same-length-5
-same-length-5 c = search needs
+same-length-5 c = c .before .before .before .before .before .before .before .before .before .before .before .before .before .before .receive-at .kept .1 .1 .1 .1 .1 .0
 
 same-length-6 : tie.Need-same-length-6
-same-length-6 c = search needs
+same-length-6 c = c .before .before .before .before .take-out .kept .0
 
 pub deliver-ready-spec : {M : Type 1} → statement M
 deliver-ready-spec =

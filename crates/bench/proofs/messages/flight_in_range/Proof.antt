@@ -1,12 +1,11 @@
 -- `messages::flight_in_range` meets its contract. Assumes nothing.
 use mathlib.Core.Path.{sym, _∙_}
-use borrow.Author.Needs.{needs}
 use Rattle.bench.proofs.FlightRanges.{bench-told}
 use Rattle.bench.proofs.messages.flight_in_range.Statement.{statement}
 use Rattle.bench.proofs.messages.flight_in_range.Tie as tie
 
 bench-in-range-requires : tie.Need-bench-in-range-requires
-bench-in-range-requires c κs = search needs
+bench-in-range-requires c κs = tt
 
 messages-in-range-requires : tie.Need-messages-in-range-requires
 messages-in-range-requires c κs = bench-told _ (sym (c .before .bench-in-range .ensures) ∙ c .if1 .taken) .messages

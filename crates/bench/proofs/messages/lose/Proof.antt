@@ -1,5 +1,5 @@
 -- `messages::lose` meets its contract: out of range, or `lose_ready`. Assumes nothing.
-use mathlib.Core.Path.{sym, _∙_}
+use mathlib.Core.Path.{sym, _∙_, refl}
 use borrow.Author.Needs.{needs}
 use borrow.Author.Tests.{not-true, not-false}
 use Rattle.bench.specs.Flights.{flown, loseOf}
@@ -9,13 +9,13 @@ use Rattle.bench.proofs.messages.lose.Statement.{statement}
 use Rattle.bench.proofs.messages.lose.Tie as tie
 
 flight-in-range-requires : tie.Need-flight-in-range-requires
-flight-in-range-requires c κs = search needs
+flight-in-range-requires c κs = tt
 
 refused-requires : tie.Need-refused-requires
 refused-requires c κs = search needs
 
 same-length : tie.Need-same-length
-same-length c = search needs
+same-length c = refl
 
 returns : tie.Need-returns
 unfolding loseOf
@@ -29,7 +29,7 @@ lose-ready-requires : tie.Need-lose-ready-requires
 lose-ready-requires c κs = sym (c .before .before .flight-in-range .ensures) ∙ not-false _ (c .before .if1 .left)
 
 same-length-2 : tie.Need-same-length-2
-same-length-2 c = search needs
+same-length-2 c = c .before .before .lose-ready .kept .1 .0
 
 returns-2 : tie.Need-returns-2
 returns-2 c = c .before .before .lose-ready .ensures

@@ -1,7 +1,6 @@
 -- `messages::lose_ready` meets its contract. Each refusal is the table's, and an accepted place is one of those in flight. Assumes nothing.
 use native.Mathlib.Omega.{arith}
 use mathlib.Core.Path.{sym, _∙_}
-use borrow.Author.Needs.{needs}
 use Rattle.bench.specs.Flights.{flown, loseOf}
 use Rattle.bench.proofs.EntrySettled.{turned-down, goes-on}
 use Rattle.bench.proofs.FlightRanges.{flight-told}
@@ -10,10 +9,10 @@ use Rattle.bench.proofs.messages.lose_ready.Statement.{statement}
 use Rattle.bench.proofs.messages.lose_ready.Tie as tie
 
 lose-refusal-requires : tie.Need-lose-refusal-requires
-lose-refusal-requires c κs = search needs
+lose-refusal-requires c κs = tt
 
 refused-requires : tie.Need-refused-requires
-refused-requires c κs = search needs
+refused-requires c κs = omega arith
 
 returns : tie.Need-returns
 unfolding loseOf
@@ -33,10 +32,10 @@ sub-with-count c = let a = c .before .before .before .before .before .before .be
     omega (arith, lose-told (a .bench) (a .messages .now) (a .place) (sym (c .before .before .before .before .before .lose-refusal .ensures ∙ lose-same (a .bench) (a .messages .now) (a .place)) ∙ c .before .before .before .before .if1 .left))
 
 with-count-requires : tie.Need-with-count-requires
-with-count-requires c κs = search needs
+with-count-requires c κs = tt
 
 same-length : tie.Need-same-length
-same-length c = search needs
+same-length c = c .before .before .before .take-out .kept .0
 
 returns-2 : tie.Need-returns-2
 unfolding loseOf

@@ -13,7 +13,7 @@ use Rattle.agreement.proofs.Basics.{getD-default}
 use Rattle.agreement.specs.Record.{freshRecord}
 use Rattle.agreement.specs.Call.{Said, says, carryingSays}
 use Rattle.agreement.specs.declared.Agreement.{Agreement}
-use Rattle.bench.specs.Calls.{send, refuse, messageOf}
+use Rattle.protocol.specs.Calls.{send, refuse, messageOf}
 use Rattle.bench.specs.State.{networkOf}
 use Rattle.bench.specs.Flights.{flown, sendOf}
 use Rattle.bench.specs.Changes.{Changed}
@@ -53,7 +53,7 @@ send-refusal-requires : tie.Need-send-refusal-requires
 send-refusal-requires c κs = flight-told _ _ (c .before .pre) .0 .counted .links
 
 refused-requires : tie.Need-refused-requires
-refused-requires c κs = search needs
+refused-requires c κs = omega arith
 
 returns : tie.Need-returns
 unfolding sendOf
@@ -84,16 +84,16 @@ element-copy-out-carry-2 : tie.Need-element-copy-out-carry-2
 element-copy-out-carry-2 c = told (c .before .before .before .before .before .before) _ (c .before .before .before .before .send-refusal .ensures) (c .before .before .before .if1 .left) .bridge
 
 carry-requires : tie.Need-carry-requires
-carry-requires c κs = search needs
+carry-requires c κs = tt
 
 enum-known-carried : tie.Need-enum-known-carried
-enum-known-carried c = search needs
+enum-known-carried c = c .match .keys1
 
 enum-told : tie.Need-enum-told
-enum-told c = search needs
+enum-told c = c .match .keys2
 
 refused-requires-2 : tie.Need-refused-requires-2
-refused-requires-2 c κs = search needs
+refused-requires-2 c κs = omega arith
 
 returns-2 : tie.Need-returns-2
 returns-2 c = let out : _≡_ {A = ℕ} 17 0 = ap (λ (r : Said Agreement). r .number) (rw (c .before .enum-told .given .1) at (carries (c .before .before .before))) in absurd (omega arith)
@@ -102,16 +102,16 @@ cast-put : tie.Need-cast-put
 cast-put c = omega (arith, told (c .before .before .before .before .before .before .before .before .before .before .before .before) _ (c .before .before .before .before .before .before .before .before .before .before .send-refusal .ensures) (c .before .before .before .before .before .before .before .before .before .if1 .left) .link)
 
 cast-put-2 : tie.Need-cast-put-2
-cast-put-2 c = search needs
+cast-put-2 c = omega arith
 
 cast-put-3 : tie.Need-cast-put-3
-cast-put-3 c = search needs
+cast-put-3 c = omega arith
 
 cast-put-4 : tie.Need-cast-put-4
-cast-put-4 c = search needs
+cast-put-4 c = omega arith
 
 cast-put-5 : tie.Need-cast-put-5
-cast-put-5 c = search needs
+cast-put-5 c = omega arith
 
 put-requires : tie.Need-put-requires
 put-requires c κs = (told (c .before .before .before .before .before .before .before .before .before .before .before .before .before .before .before) _ (c .before .before .before .before .before .before .before .before .before .before .before .before .before .send-refusal .ensures) (c .before .before .before .before .before .before .before .before .before .before .before .before .if1 .left) .room, flight-told _ _ (c .before .before .before .before .before .before .before .before .before .before .before .before .before .before .before .pre) .1 .long)
@@ -120,10 +120,10 @@ add-with-count : tie.Need-add-with-count
 add-with-count c = omega (arith, told (c .before .before .before .before .before .before .before .before .before .before .before .before .before .before .before .before .before .before) _ (c .before .before .before .before .before .before .before .before .before .before .before .before .before .before .before .before .send-refusal .ensures) (c .before .before .before .before .before .before .before .before .before .before .before .before .before .before .before .if1 .left) .room)
 
 with-count-requires : tie.Need-with-count-requires
-with-count-requires c κs = search needs
+with-count-requires c κs = tt
 
 same-length : tie.Need-same-length
-same-length c = search needs
+same-length c = c .before .before .before .put .kept .0
 
 returns-3 : tie.Need-returns-3
 unfolding sendOf

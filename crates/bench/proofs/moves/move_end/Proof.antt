@@ -2,25 +2,24 @@
 use native.Mathlib.Omega.{arith}
 use mathlib.Core.Path.{ap}
 use borrow.Author.Tests.{eq-eqb, ne-eqb}
-use borrow.Author.Needs.{needs}
 use Rattle.bench.specs.Changes.{ended, movedEnd}
 use Rattle.bench.proofs.moves.move_end.Statement.{statement}
 use Rattle.bench.proofs.moves.move_end.Tie as tie
 
 shared-slice-read-at : tie.Need-shared-slice-read-at
-shared-slice-read-at c = search needs
+shared-slice-read-at c = omega arith
 
 cast-at : tie.Need-cast-at
 cast-at c = omega (arith, c .shared-slice-known4 .given (c .before .before .before .before .before .before .args .end))
 
 update-end-requires : tie.Need-update-end-requires
-update-end-requires c κs = search needs
+update-end-requires c κs = tt
 
 same-length : tie.Need-same-length
-same-length c = search needs
+same-length c = c .before .before .before .before .before .update-end .kept .1 .1 .1 .1 .1 .1 .1 .1 .1 .0
 
 same-length-2 : tie.Need-same-length-2
-same-length-2 c = search needs
+same-length-2 c = c .before .before .before .before .before .update-end .kept .1 .1 .1 .1 .1 .1 .1 .1 .1 .1 .0
 
 returns : tie.Need-returns
 unfolding movedEnd

@@ -1,25 +1,24 @@
 -- `ready::bench_in_range` meets its contract. A graph in range has at most 16 bridges. Assumes nothing.
 use mathlib.Core.Path.{sym, _∙_}
-use borrow.Author.Needs.{needs}
 use Rattle.bench.specs.Ranges.{benchInRange}
 use Rattle.bench.proofs.EntryChecks.{graph-counted}
 use Rattle.bench.proofs.ready.bench_in_range.Statement.{statement}
 use Rattle.bench.proofs.ready.bench_in_range.Tie as tie
 
 graph-in-range-requires : tie.Need-graph-in-range-requires
-graph-in-range-requires c κs = search needs
+graph-in-range-requires c κs = tt
 
 records-in-range-requires : tie.Need-records-in-range-requires
-records-in-range-requires c κs = search needs
+records-in-range-requires c κs = tt
 
 views-in-range-requires : tie.Need-views-in-range-requires
 views-in-range-requires c κs = graph-counted _ (sym (c .before .before .before .before .graph-in-range .ensures) ∙ c .before .before .before .if1 .taken) .bridges
 
 both-requires : tie.Need-both-requires
-both-requires c κs = search needs
+both-requires c κs = tt
 
 both-requires-2 : tie.Need-both-requires-2
-both-requires-2 c κs = search needs
+both-requires-2 c κs = tt
 
 returns : tie.Need-returns
 unfolding benchInRange

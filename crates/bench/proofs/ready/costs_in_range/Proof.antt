@@ -2,7 +2,6 @@
 use Prim.Native.Nat.{_≤_, _-_}
 use native.Mathlib.Omega.{arith}
 use mathlib.Core.Path.{_≡_}
-use borrow.Author.Needs.{needs}
 use borrow.Author.Tests.{le-leb, lt-leb}
 use Rattle.distances.specs.Call.{costsPass, allBelow}
 use Rattle.distances.proofs.Ranges.{allBelow-none}
@@ -26,10 +25,10 @@ loop-holds : tie.Need-loop-holds Inv-loop μ-loop
 loop-holds c = (omega arith, allBelow-none _)
 
 row-in-range-requires : tie.Need-row-in-range-requires Inv-loop μ-loop
-row-in-range-requires c κs = search needs
+row-in-range-requires c κs = omega arith
 
 both-requires : tie.Need-both-requires Inv-loop μ-loop
-both-requires c κs = search needs
+both-requires c κs = tt
 
 add-t : tie.Need-add-t Inv-loop μ-loop
 add-t c = omega arith

@@ -1,12 +1,11 @@
 -- `ready::delivery_in_range` meets its contract. Each return cites the checks that led to it. Assumes nothing.
 use mathlib.Core.Path.{sym, _∙_}
-use borrow.Author.Needs.{needs}
 use Rattle.bench.proofs.FlightRanges.{bench-told, network-bench}
 use Rattle.bench.proofs.ready.delivery_in_range.Statement.{statement}
 use Rattle.bench.proofs.ready.delivery_in_range.Tie as tie
 
 network-in-range-requires : tie.Need-network-in-range-requires
-network-in-range-requires c κs = search needs
+network-in-range-requires c κs = tt
 
 messages-in-range-requires : tie.Need-messages-in-range-requires
 messages-in-range-requires c κs = bench-told _ (network-bench _ _ _ _ (sym (c .before .network-in-range .ensures) ∙ c .if1 .taken)) .messages

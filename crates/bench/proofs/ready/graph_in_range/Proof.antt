@@ -9,13 +9,13 @@ slice-aggregate-graph-passes : tie.Need-slice-aggregate-graph-passes
 slice-aggregate-graph-passes c = search needs
 
 graph-passes-requires : tie.Need-graph-passes-requires
-graph-passes-requires c κs = search needs
+graph-passes-requires c κs = tt
 
 both-requires : tie.Need-both-requires
-both-requires c κs = search needs
+both-requires c κs = tt
 
 both-requires-2 : tie.Need-both-requires-2
-both-requires-2 c κs = search needs
+both-requires-2 c κs = tt
 
 returns : tie.Need-returns
 unfolding graphInRange

@@ -1,11 +1,10 @@
 -- `ready::limits_long` meets its contract. Assumes nothing.
-use borrow.Author.Needs.{needs}
 use Rattle.bench.specs.Ranges.{limitsLong}
 use Rattle.bench.proofs.ready.limits_long.Statement.{statement}
 use Rattle.bench.proofs.ready.limits_long.Tie as tie
 
 both-requires : tie.Need-both-requires
-both-requires c κs = search needs
+both-requires c κs = tt
 
 returns : tie.Need-returns
 unfolding limitsLong

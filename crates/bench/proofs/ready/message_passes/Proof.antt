@@ -1,21 +1,20 @@
 -- `ready::message_passes` meets its contract. Assumes nothing.
 use mathlib.Core.Path.{_∙_}
-use borrow.Author.Needs.{needs}
 use Rattle.bench.specs.Ranges.{messagePasses}
 use Rattle.bench.proofs.ready.message_passes.Statement.{statement}
 use Rattle.bench.proofs.ready.message_passes.Tie as tie
 
 both-requires : tie.Need-both-requires
-both-requires c κs = search needs
+both-requires c κs = tt
 
 both-requires-2 : tie.Need-both-requires-2
-both-requires-2 c κs = search needs
+both-requires-2 c κs = tt
 
 both-requires-3 : tie.Need-both-requires-3
-both-requires-3 c κs = search needs
+both-requires-3 c κs = tt
 
 both-requires-4 : tie.Need-both-requires-4
-both-requires-4 c κs = search needs
+both-requires-4 c κs = tt
 
 returns : tie.Need-returns
 unfolding messagePasses

@@ -1,22 +1,21 @@
 -- `ready::network_in_range` meets its contract. A bench in range has at most 32 views. Assumes nothing.
 use mathlib.Core.Path.{sym, _∙_}
-use borrow.Author.Needs.{needs}
 use Rattle.bench.specs.Ranges.{networkInRange}
 use Rattle.bench.proofs.EntryChecks.{bench-counted}
 use Rattle.bench.proofs.ready.network_in_range.Statement.{statement}
 use Rattle.bench.proofs.ready.network_in_range.Tie as tie
 
 bench-in-range-requires : tie.Need-bench-in-range-requires
-bench-in-range-requires c κs = search needs
+bench-in-range-requires c κs = tt
 
 costs-in-range-requires : tie.Need-costs-in-range-requires
 costs-in-range-requires c κs = bench-counted _ (sym (c .before .bench-in-range .ensures) ∙ c .if1 .taken) .views
 
 limits-long-requires : tie.Need-limits-long-requires
-limits-long-requires c κs = search needs
+limits-long-requires c κs = tt
 
 both-requires : tie.Need-both-requires
-both-requires c κs = search needs
+both-requires c κs = tt
 
 returns : tie.Need-returns
 unfolding networkInRange

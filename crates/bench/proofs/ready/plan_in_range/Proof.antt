@@ -1,21 +1,20 @@
 -- `ready::plan_in_range` meets its contract. A graph in range has at most 32 views. Assumes nothing.
 use mathlib.Core.Path.{sym, _∙_}
-use borrow.Author.Needs.{needs}
 use Rattle.bench.proofs.EntryChecks.{graph-counted}
 use Rattle.bench.proofs.ready.plan_in_range.Statement.{statement}
 use Rattle.bench.proofs.ready.plan_in_range.Tie as tie
 
 graph-in-range-requires : tie.Need-graph-in-range-requires
-graph-in-range-requires c κs = search needs
+graph-in-range-requires c κs = tt
 
 costs-in-range-requires : tie.Need-costs-in-range-requires
 costs-in-range-requires c κs = graph-counted _ (sym (c .before .graph-in-range .ensures) ∙ c .if1 .taken) .views
 
 limits-long-requires : tie.Need-limits-long-requires
-limits-long-requires c κs = search needs
+limits-long-requires c κs = tt
 
 both-requires : tie.Need-both-requires
-both-requires c κs = search needs
+both-requires c κs = tt
 
 returns : tie.Need-returns
 returns c =

@@ -2,30 +2,29 @@
 use Prim.Native.Nat.{_+_, _*_, _-_}
 use native.Mathlib.Omega.{arith}
 use mathlib.Core.Path.{_≡_}
-use borrow.Author.Needs.{needs}
 use Rattle.bench.proofs.ready.row_in_range.Statement.{statement}
 use Rattle.bench.proofs.ready.row_in_range.Tie as tie
 
 mul-first : tie.Need-mul-first
-mul-first c = search needs
+mul-first c = omega arith
 
 add-past : tie.Need-add-past
-add-past c = search needs
+add-past c = omega arith
 
 mul-costs-pass : tie.Need-mul-costs-pass
-mul-costs-pass c = search needs
+mul-costs-pass c = omega arith
 
 sub-costs-pass : tie.Need-sub-costs-pass
-sub-costs-pass c = search needs
+sub-costs-pass c = omega arith
 
 part-costs-pass-start : tie.Need-part-costs-pass-start
-part-costs-pass-start c = search needs
+part-costs-pass-start c = omega arith
 
 part-costs-pass-end : tie.Need-part-costs-pass-end
-part-costs-pass-end c = search needs
+part-costs-pass-end c = omega arith
 
 costs-pass-requires : tie.Need-costs-pass-requires
-costs-pass-requires c κs = search needs
+costs-pass-requires c κs = tt
 
 returns : tie.Need-returns
 returns c =

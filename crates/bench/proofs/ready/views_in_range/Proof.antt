@@ -22,13 +22,13 @@ loop-holds : tie.Need-loop-holds Inv-loop μ-loop
 loop-holds c = (omega arith, allBelow-none _)
 
 element-copy-out-t : tie.Need-element-copy-out-t Inv-loop μ-loop
-element-copy-out-t c = search needs
+element-copy-out-t c = omega arith
 
 cast-t : tie.Need-cast-t Inv-loop μ-loop
 cast-t c = search needs
 
 both-requires : tie.Need-both-requires Inv-loop μ-loop
-both-requires c κs = search needs
+both-requires c κs = tt
 
 add-y : tie.Need-add-y Inv-loop μ-loop
 add-y c = omega arith

@@ -4,10 +4,10 @@ use Rattle.bench.proofs.receives.reaction_of.Statement.{statement}
 use Rattle.bench.proofs.receives.reaction_of.Tie as tie
 
 enum-told : tie.Need-enum-told
-enum-told c = search needs
+enum-told c = c .match .keys1
 
 enum-known-reply : tie.Need-enum-known-reply
-enum-known-reply c = search needs
+enum-known-reply c = c .match .keys2
 
 returns : tie.Need-returns
 returns c = search needs

@@ -1,9 +1,8 @@
 -- `refusals::deliver_refusal` meets its contract. Each return cites the tests that led to it. Assumes nothing.
 use native.Mathlib.Omega.{arith}
-use borrow.Author.Needs.{needs}
 use borrow.Author.Tests.{lt-ltb, le-ltb}
 use Rattle.distances.proofs.Refusals.{First.none, First.here, First.next, first}
-use Rattle.bench.specs.Calls.{refuse, checks, noMessage, linkCut}
+use Rattle.protocol.specs.Calls.{refuse, checks, noMessage, linkCut}
 use Rattle.bench.proofs.TieFlights.{messages-length, message-at}
 use Rattle.bench.proofs.refusals.deliver_refusal.Statement.{statement}
 use Rattle.bench.proofs.refusals.deliver_refusal.Tie as tie
@@ -13,13 +12,13 @@ unfolding refuse checks noMessage
 returns c = first (here (rw (messages-length, le-ltb _ _ (c .if1 .taken))))
 
 mul-link : tie.Need-mul-link
-mul-link c = search needs
+mul-link c = omega arith
 
 mul-link-2 : tie.Need-mul-link-2
-mul-link-2 c = search needs
+mul-link-2 c = omega arith
 
 shared-slice-read-link : tie.Need-shared-slice-read-link
-shared-slice-read-link c = search needs
+shared-slice-read-link c = omega arith
 
 cast-link : tie.Need-cast-link
 cast-link c = omega (arith, c .before .before .pre .1 (c .before .if1 .left))

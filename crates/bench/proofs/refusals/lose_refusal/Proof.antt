@@ -1,7 +1,7 @@
 -- `refusals::lose_refusal` meets its contract. Each return cites the tests that led to it. Assumes nothing.
 use borrow.Author.Tests.{lt-ltb, le-ltb}
 use Rattle.distances.proofs.Refusals.{First.none, First.here, First.next, first}
-use Rattle.bench.specs.Calls.{refuse, checks, noMessage}
+use Rattle.protocol.specs.Calls.{refuse, checks, noMessage}
 use Rattle.bench.proofs.TieFlights.{messages-length}
 use Rattle.bench.proofs.refusals.lose_refusal.Statement.{statement}
 use Rattle.bench.proofs.refusals.lose_refusal.Tie as tie

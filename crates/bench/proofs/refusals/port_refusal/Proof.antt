@@ -1,9 +1,8 @@
 -- `refusals::port_refusal` meets its contract. The destination's test is `report_refusal`'s. Assumes nothing.
 use mathlib.Core.Path.{_∙_, sym}
-use borrow.Author.Needs.{needs}
 use borrow.Author.Tests.{lt-ltb, le-ltb}
 use Rattle.distances.proofs.Refusals.{First.here, first, later}
-use Rattle.bench.specs.Calls.{refuse, checks, noSuchBridge}
+use Rattle.protocol.specs.Calls.{refuse, checks, noSuchBridge}
 use Rattle.bench.proofs.refusals.port_refusal.Statement.{statement}
 use Rattle.bench.proofs.refusals.port_refusal.Tie as tie
 
@@ -12,7 +11,7 @@ unfolding refuse checks noSuchBridge
 returns c = first (here (rw (le-ltb _ _ (c .if1 .taken))))
 
 report-refusal-requires : tie.Need-report-refusal-requires
-report-refusal-requires c κs = search needs
+report-refusal-requires c κs = tt
 
 returns-2 : tie.Need-returns-2
 unfolding refuse checks noSuchBridge

@@ -1,7 +1,7 @@
 -- `refusals::report_refusal` meets its contract. Each return cites the tests that led to it. Assumes nothing.
 use borrow.Author.Tests.{lt-ltb, le-ltb}
 use Rattle.distances.proofs.Refusals.{First.none, First.here, First.next, first}
-use Rattle.bench.specs.Calls.{refuse, checks, noSuchBridge}
+use Rattle.protocol.specs.Calls.{refuse, checks, noSuchBridge}
 use Rattle.bench.proofs.refusals.report_refusal.Statement.{statement}
 use Rattle.bench.proofs.refusals.report_refusal.Tie as tie
 

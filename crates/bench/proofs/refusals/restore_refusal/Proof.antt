@@ -2,7 +2,7 @@
 use borrow.Author.Needs.{needs}
 use borrow.Author.Tests.{lt-ltb, le-ltb}
 use Rattle.distances.proofs.Refusals.{First.none, First.here, First.next, first}
-use Rattle.bench.specs.Calls.{refuse, checks, changeChecks, noSuchLink, already}
+use Rattle.protocol.specs.Calls.{refuse, checks, changeChecks, noSuchLink, already}
 use Rattle.bench.proofs.refusals.restore_refusal.Statement.{statement}
 use Rattle.bench.proofs.refusals.restore_refusal.Tie as tie
 

@@ -3,7 +3,7 @@ use mathlib.Core.Path.{sym, _∙_}
 use borrow.Author.Needs.{needs}
 use borrow.Author.Tests.{lt-ltb, le-ltb, le-leb, lt-leb}
 use Rattle.distances.proofs.Refusals.{First.none, First.here, First.next, first}
-use Rattle.bench.specs.Calls.{refuse, checks, noSuchBridge, noSuchLink, notOnLink, linkCut, noRoom}
+use Rattle.protocol.specs.Calls.{refuse, checks, noSuchBridge, noSuchLink, notOnLink, linkCut, noRoom}
 use Rattle.bench.proofs.EntryChecks.{neither}
 use Rattle.bench.proofs.TieFlights.{messages-length}
 use Rattle.bench.proofs.refusals.send_refusal.Statement.{statement}
@@ -36,7 +36,7 @@ cast-b : tie.Need-cast-b
 cast-b c = search needs
 
 both-requires : tie.Need-both-requires
-both-requires c κs = search needs
+both-requires c κs = tt
 
 returns-3 : tie.Need-returns-3
 unfolding refuse checks noSuchBridge noSuchLink notOnLink

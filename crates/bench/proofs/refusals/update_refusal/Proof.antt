@@ -3,7 +3,7 @@ use mathlib.Core.Path.{sym, _∙_}
 use borrow.Author.Needs.{needs}
 use borrow.Author.Tests.{lt-ltb, le-ltb}
 use Rattle.distances.proofs.Refusals.{First.none, First.here, First.next, first}
-use Rattle.bench.specs.Calls.{refuse, checks, changeChecks, noSuchBridge, noSuchView, noNumberLeft}
+use Rattle.protocol.specs.Calls.{refuse, checks, changeChecks, noSuchBridge, noSuchView, noNumberLeft}
 use Rattle.bench.proofs.refusals.update_refusal.Statement.{statement}
 use Rattle.bench.proofs.refusals.update_refusal.Tie as tie
 
@@ -28,7 +28,7 @@ cast-present : tie.Need-cast-present
 cast-present c = search needs
 
 both-requires : tie.Need-both-requires
-both-requires c κs = search needs
+both-requires c κs = tt
 
 returns-3 : tie.Need-returns-3
 unfolding refuse checks changeChecks noSuchBridge noSuchView noNumberLeft

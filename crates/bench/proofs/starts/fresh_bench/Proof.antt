@@ -1,10 +1,9 @@
 -- `starts::fresh_bench` meets its contract. Assumes nothing.
-use borrow.Author.Needs.{needs}
 use Rattle.bench.proofs.starts.fresh_bench.Statement.{statement}
 use Rattle.bench.proofs.starts.fresh_bench.Tie as tie
 
 fresh-record-requires : tie.Need-fresh-record-requires
-fresh-record-requires c κs = search needs
+fresh-record-requires c κs = tt
 
 returns : tie.Need-returns
 returns c = rw (c .fresh-record .ensures)

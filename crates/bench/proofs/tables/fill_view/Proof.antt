@@ -1,51 +1,53 @@
 -- `tables::fill_view` meets its contract. The block that was lent from inside the tables comes back in its place. Assumes nothing.
 use Prim.Native.Nat.{_*_}
-use native.Mathlib.Nat.{add-sub-cancel-left}
+use native.Mathlib.Nat.{add-sub-cancel-left, le-add-right}
 use mathlib.Core.Path.{ap}
 use borrow.Author.Needs.{needs}
 use Rattle.distances.specs.Call.{Outcome}
 use Rattle.bench.specs.Steps.{filledView}
+use Rattle.bench.proofs.ChoiceReads.{costs-fit, block-fits}
+use Rattle.bench.proofs.ViewReads.{row-past, row-scaled, row-there, block-past, block-scaled, block-there}
 use Rattle.bench.proofs.tables.fill_view.Statement.{statement}
 use Rattle.bench.proofs.tables.fill_view.Tie as tie
 
 mul-row : tie.Need-mul-row
-mul-row c = search needs
+mul-row c = costs-fit (c .before .before .before .pre .0)
 
 add-row-past : tie.Need-add-row-past
-add-row-past c = search needs
+add-row-past c = row-past (c .before .before .before .pre .0)
 
 mul-block : tie.Need-mul-block
-mul-block c = search needs
+mul-block c = block-fits (c .before .before .before .pre .0)
 
 add-block-past : tie.Need-add-block-past
-add-block-past c = search needs
+add-block-past c = block-past (c .before .before .before .pre .0)
 
 mul-distances : tie.Need-mul-distances
-mul-distances c = search needs
+mul-distances c = row-scaled (c .before .before .before .pre .0)
 
 sub-distances : tie.Need-sub-distances
-sub-distances c = search needs
+sub-distances c = le-add-right _ 32
 
 part-distances-start : tie.Need-part-distances-start
-part-distances-start c = search needs
+part-distances-start c = le-add-right _ 32
 
 part-distances-end : tie.Need-part-distances-end
-part-distances-end c = search needs
+part-distances-end c = row-there (c .before .before .before .pre .0) (c .before .before .before .pre .1)
 
 mul-distances-2 : tie.Need-mul-distances-2
-mul-distances-2 c = search needs
+mul-distances-2 c = block-scaled (c .before .before .before .before .pre .0)
 
 sub-distances-2 : tie.Need-sub-distances-2
-sub-distances-2 c = search needs
+sub-distances-2 c = le-add-right _ 256
 
 part-distances-start-2 : tie.Need-part-distances-start-2
-part-distances-start-2 c = search needs
+part-distances-start-2 c = le-add-right _ 256
 
 part-distances-end-2 : tie.Need-part-distances-end-2
-part-distances-end-2 c = search needs
+part-distances-end-2 c = block-there (c .before .before .before .before .pre .0) (c .before .before .before .before .pre .2)
 
 distances-requires : tie.Need-distances-requires
-distances-requires c κs = search needs
+distances-requires c κs = tt
 
 same-length : tie.Need-same-length
 same-length c = search needs

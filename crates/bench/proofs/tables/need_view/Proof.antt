@@ -1,7 +1,7 @@
 -- `tables::need_view` meets its contract: the view is known, or its block is filled. Assumes nothing.
 use native.Mathlib.Omega.{arith}
-use mathlib.Core.Path.{_≡_, sym, _∙_}
-use mathlib.Core.Bool.{true, false}
+use mathlib.Core.Path.{_≡_}
+use mathlib.Core.Bool.{false}
 use borrow.Author.Needs.{needs}
 use lib.ListN.{getD}
 use Rattle.bench.proofs.TableSteps.{tables-more, known-now, known-still}
@@ -24,7 +24,7 @@ slice-write-known : tie.Need-slice-write-known
 slice-write-known c = omega (arith, c .before .before .before .before .before .before .before .before .before .before .before .pre .2 .flags)
 
 same-length : tie.Need-same-length
-same-length c = search needs
+same-length c = c .before .before .fill-view .kept .1 .1 .1 .1 .0
 
 same-length-2 : tie.Need-same-length-2
 same-length-2 c = search needs

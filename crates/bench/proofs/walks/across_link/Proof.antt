@@ -1,7 +1,7 @@
 -- `walks::across_link` meets its contract. Assumes nothing.
 use borrow.Author.Tests.{eq-eqb, ne-eqb}
 use borrow.Author.Needs.{needs}
-use Rattle.bench.specs.Ports.{across}
+use Rattle.protocol.specs.Ports.{across}
 use Rattle.bench.proofs.walks.across_link.Statement.{statement}
 use Rattle.bench.proofs.walks.across_link.Tie as tie
 

@@ -9,13 +9,13 @@ cast-next-choice : tie.Need-cast-next-choice
 cast-next-choice c = search needs
 
 next-choice-requires : tie.Need-next-choice-requires
-next-choice-requires c κs = search needs
+next-choice-requires c κs = tt
 
 enum-known-chosen : tie.Need-enum-known-chosen
-enum-known-chosen c = search needs
+enum-known-chosen c = c .match .keys1
 
 enum-told : tie.Need-enum-told
-enum-told c = search needs
+enum-told c = c .match .keys2
 
 returns : tie.Need-returns
 returns c =

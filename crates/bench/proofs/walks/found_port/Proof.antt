@@ -1,18 +1,17 @@
 -- `walks::found_port` meets its contract: layer 2 does not refuse. Assumes nothing.
 use mathlib.Core.Path.{sym, ap, _∙_}
-use borrow.Author.Needs.{needs}
 use Rattle.bench.proofs.ChoiceSteps.{portSaid, port-said}
 use Rattle.bench.proofs.walks.found_port.Statement.{statement}
 use Rattle.bench.proofs.walks.found_port.Tie as tie
 
 port-by-requires : tie.Need-port-by-requires
-port-by-requires c κs = search needs
+port-by-requires c κs = tt
 
 enum-known-found : tie.Need-enum-known-found
-enum-known-found c = search needs
+enum-known-found c = c .match .keys1
 
 enum-told : tie.Need-enum-told
-enum-told c = search needs
+enum-told c = c .match .keys2
 
 returns : tie.Need-returns
 returns c = ap portSaid (sym (c .before .found .given .1)) ∙ port-said _ (c .before .before .before .port-by .result) (c .before .before .before .before .pre) (c .before .before .before .port-by .ensures)

@@ -2,7 +2,7 @@
 use native.Mathlib.Omega.{arith}
 use mathlib.Core.Path.{sym, _∙_}
 use borrow.Author.Needs.{needs}
-use Rattle.bench.specs.Ports.{hopBy}
+use Rattle.protocol.specs.Ports.{hopBy}
 use Rattle.bench.specs.Answers.{hopIn}
 use Rattle.bench.proofs.WalkSteps.{open-link}
 use Rattle.bench.proofs.walks.hop_at.Statement.{statement}
@@ -12,13 +12,13 @@ port-of-requires : tie.Need-port-of-requires
 port-of-requires c κs = search needs
 
 enum-told : tie.Need-enum-told
-enum-told c = search needs
+enum-told c = c .match .keys1
 
 enum-known-port : tie.Need-enum-known-port
-enum-known-port c = search needs
+enum-known-port c = c .match .keys2
 
 cast-across-link : tie.Need-cast-across-link
-cast-across-link c = search needs
+cast-across-link c = omega arith
 
 across-link-requires : tie.Need-across-link-requires
 across-link-requires c κs =
@@ -34,19 +34,19 @@ unfolding hopIn hopBy
 returns-2 c = (rw (c .across-link .ensures, sym (c .before .before .before .before .before .before .before .before .port-of .ensures .0), c .before .before .port .given .1), c .before .before .before .before .before .before .before .before .port-of .ensures .1)
 
 cast-t16 : tie.Need-cast-t16
-cast-t16 c = search needs
+cast-t16 c = omega arith
 
 same-length : tie.Need-same-length
-same-length c = search needs
+same-length c = c .before .before .before .before .before .before .port-of .kept .1 .1 .0
 
 same-length-2 : tie.Need-same-length-2
-same-length-2 c = search needs
+same-length-2 c = c .before .before .before .before .before .before .port-of .kept .1 .1 .1 .0
 
 same-length-3 : tie.Need-same-length-3
-same-length-3 c = search needs
+same-length-3 c = c .before .before .before .before .before .before .before .before .port-of .kept .1 .1 .0
 
 same-length-4 : tie.Need-same-length-4
-same-length-4 c = search needs
+same-length-4 c = c .before .before .before .before .before .before .before .before .port-of .kept .1 .1 .1 .0
 
 pub hop-at-spec : {M : Type 1} → statement M
 hop-at-spec =

@@ -21,10 +21,10 @@ port-at-requires c κs =
     (c .before .before .before .before .before .before .before .before .before .before .before .before .before .before .pre .0, ((c .before .before .before .before .before .before .before .before .before .before .before .before .before .before .pre .1 .0, c .before .before .before .before .before .before .before .before .before .before .before .before .before .before .pre .1 .1, omega (arith, kept .0 .long)), tables-filled _ _ _ _ (kept .0) _ (view-low (c .before .before .before .before .before .before .before .before .before .before .before .before .before .before .pre .0) (c .before .before .before .before .before .before .before .before .before .before .before .before .before .before .args .bridge) (c .before .before .before .before .before .before .before .before .before .before .before .before .before .before .pre .1 .0)) (kept .1)))
 
 same-length : tie.Need-same-length
-same-length c = search needs
+same-length c = c .before .before .before .before .before .before .need-view .kept .1 .1 .1 .0
 
 same-length-2 : tie.Need-same-length-2
-same-length-2 c = search needs
+same-length-2 c = c .before .before .before .before .before .before .need-view .kept .1 .1 .1 .1 .0
 
 returns : tie.Need-returns
 returns c = (c .port-at .ensures, c .before .before .before .before .before .before .need-view .ensures .0 .0)

@@ -1,33 +1,32 @@
 -- `walks::report_row` meets its contract. Assumes nothing.
 use native.Mathlib.Omega.{arith}
-use borrow.Author.Needs.{needs}
 use lib.ListN.{length-set}
 use Rattle.bench.proofs.walks.report_row.Statement.{statement}
 use Rattle.bench.proofs.walks.report_row.Tie as tie
 
 mul-rows : tie.Need-mul-rows
-mul-rows c = search needs
+mul-rows c = omega arith
 
 mul-rows-2 : tie.Need-mul-rows-2
-mul-rows-2 c = search needs
+mul-rows-2 c = omega arith
 
 slice-write-rows : tie.Need-slice-write-rows
-slice-write-rows c = search needs
+slice-write-rows c = omega arith
 
 found-port-requires : tie.Need-found-port-requires
-found-port-requires c κs = search needs
+found-port-requires c κs = omega arith
 
 link-number-requires : tie.Need-link-number-requires
-link-number-requires c κs = search needs
+link-number-requires c κs = tt
 
 mul-rows-3 : tie.Need-mul-rows-3
-mul-rows-3 c = search needs
+mul-rows-3 c = omega arith
 
 add-rows : tie.Need-add-rows
-add-rows c = search needs
+add-rows c = omega arith
 
 mul-rows-4 : tie.Need-mul-rows-4
-mul-rows-4 c = search needs
+mul-rows-4 c = omega arith
 
 slice-write-rows-2 : tie.Need-slice-write-rows-2
 slice-write-rows-2 c = simp length-set (omega (arith, c .before .before .before .pre))

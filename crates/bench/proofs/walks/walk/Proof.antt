@@ -3,9 +3,8 @@ use Prim.Native.Nat.{_-_, _≤_, _<_}
 use native.Mathlib.Omega.{arith}
 use mathlib.Core.Path.{_≡_, sym, _∙_, ap}
 use mathlib.Core.List.{[]}
-use borrow.Author.Needs.{needs}
 use Rattle.agreement.specs.Call.{says}
-use Rattle.bench.specs.Paths.{onward}
+use Rattle.protocol.specs.Paths.{onward}
 use Rattle.bench.specs.State.{state}
 use Rattle.bench.specs.Answers.{hopIn}
 use Rattle.bench.specs.Steps.{hopSays, Tables}
@@ -42,10 +41,10 @@ hop-at-requires c κs =
     (p .0, (c .before .before .before .before .before .loop .inv .1, p .1 .1, c .before .before .before .before .before .loop .inv .3))
 
 enum-known-next : tie.Need-enum-known-next Inv-loop μ-loop
-enum-known-next c = search needs
+enum-known-next c = c .match .keys1
 
 enum-told : tie.Need-enum-told Inv-loop μ-loop
-enum-told c = search needs
+enum-told c = c .match .keys2
 
 returns-2 : tie.Need-returns-2 Inv-loop μ-loop
 returns-2 c =
@@ -69,28 +68,28 @@ loop-again c =
     )
 
 end-of-walk-requires : tie.Need-end-of-walk-requires Inv-loop μ-loop
-end-of-walk-requires c κs = search needs
+end-of-walk-requires c κs = tt
 
 returns-3 : tie.Need-returns-3 Inv-loop μ-loop
 returns-3 c = (c .end-of-walk .ensures ∙ ap says (sym (c .before .before .before .loop .inv .0 ∙ onward-last _ _ _ _ _ (c .before .if1 .left))), c .before .before .before .loop .inv .3)
 
 same-length : tie.Need-same-length Inv-loop μ-loop
-same-length c = omega (arith, c .before .before .before .loop .inv .3 .long, c .before .before .before .before .before .before .before .before .before .pre .1 .2 .long)
+same-length c = c .before .before .before .loop .inv .3 .long ∙ sym (c .before .before .before .before .before .before .before .before .before .pre .1 .2 .long)
 
 same-length-2 : tie.Need-same-length-2 Inv-loop μ-loop
-same-length-2 c = omega (arith, c .before .before .before .loop .inv .3 .flags, c .before .before .before .before .before .before .before .before .before .pre .1 .2 .flags)
+same-length-2 c = c .before .before .before .loop .inv .3 .flags ∙ sym (c .before .before .before .before .before .before .before .before .before .pre .1 .2 .flags)
 
 same-length-3 : tie.Need-same-length-3 Inv-loop μ-loop
-same-length-3 c = omega (arith, c .before .before .before .before .before .before .hop-at .ensures .1 .long, c .before .before .before .before .before .before .before .before .before .before .before .before .before .before .before .before .before .before .pre .1 .2 .long)
+same-length-3 c = c .before .before .before .before .before .before .hop-at .ensures .1 .long ∙ sym (c .before .before .before .before .before .before .before .before .before .before .before .before .before .before .before .before .before .before .pre .1 .2 .long)
 
 same-length-4 : tie.Need-same-length-4 Inv-loop μ-loop
-same-length-4 c = omega (arith, c .before .before .before .before .before .before .hop-at .ensures .1 .flags, c .before .before .before .before .before .before .before .before .before .before .before .before .before .before .before .before .before .before .pre .1 .2 .flags)
+same-length-4 c = c .before .before .before .before .before .before .hop-at .ensures .1 .flags ∙ sym (c .before .before .before .before .before .before .before .before .before .before .before .before .before .before .before .before .before .before .pre .1 .2 .flags)
 
 same-length-5 : tie.Need-same-length-5 Inv-loop μ-loop
-same-length-5 c = omega (arith, c .before .before .before .loop .inv .3 .long, c .before .before .before .before .before .before .before .before .before .pre .1 .2 .long)
+same-length-5 c = c .before .before .before .loop .inv .3 .long ∙ sym (c .before .before .before .before .before .before .before .before .before .pre .1 .2 .long)
 
 same-length-6 : tie.Need-same-length-6 Inv-loop μ-loop
-same-length-6 c = omega (arith, c .before .before .before .loop .inv .3 .flags, c .before .before .before .before .before .before .before .before .before .pre .1 .2 .flags)
+same-length-6 c = c .before .before .before .loop .inv .3 .flags ∙ sym (c .before .before .before .before .before .before .before .before .before .pre .1 .2 .flags)
 
 pub walk-spec : {M : Type 1} → statement M
 walk-spec =

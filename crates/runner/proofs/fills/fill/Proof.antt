@@ -4,6 +4,7 @@ use mathlib.Core.Path.{_≡_, refl}
 use mathlib.Core.Bool.{true, false}
 use borrow.Author.Needs.{needs}
 use lib.ListN.{length}
+use Rattle.messages.specs.Slices.{numbersIn}
 use Rattle.runner.specs.declared.Stepped.{Stepped}
 use Rattle.runner.specs.Turns.{Turn, turn}
 use Rattle.runner.specs.Buffers.{Buffers, buffers}
@@ -15,66 +16,56 @@ abbrev turnOf : Stepped → Buffers → Turn
 turnOf s k = turn (s .reply) (s .going) (s .used) (s .written) (s .runner) k
 
 abbrev Inv-loop : tie.InvT-loop
-Inv-loop rest costs₀ sent₀ held₀ messages₀ rows₀ out₀ done₀ costs sent held messages rows out done =
-    Underway (turnOf done₀ (buffers costs₀ sent₀ held₀ messages₀ rows₀ out₀)) rest (turnOf done (buffers costs sent held messages rows out))
+Inv-loop rest costs₀ sent₀ held₀ out₀ done₀ costs sent held out done =
+    Underway (turnOf done₀ (buffers costs₀ sent₀ held₀ (numbersIn (done₀ .messages)) out₀)) rest (turnOf done (buffers costs sent held (numbersIn (done .messages)) out))
     × (length costs ≡ length costs₀)
     × (length sent ≡ length sent₀)
     × (length held ≡ length held₀)
-    × (length messages ≡ length messages₀)
-    × (length rows ≡ length rows₀)
     × (length out ≡ length out₀)
 
 abbrev μ-loop : tie.MeasureT-loop
-μ-loop rest costs₀ sent₀ held₀ messages₀ rows₀ out₀ done₀ costs sent held messages rows out done =
-    left (turnOf done (buffers costs sent held messages rows out)) rest
+μ-loop rest costs₀ sent₀ held₀ out₀ done₀ costs sent held out done =
+    left (turnOf done (buffers costs sent held (numbersIn (done .messages)) out)) rest
 
 step-requires : tie.Need-step-requires Inv-loop μ-loop
 step-requires c κs = search needs
 
 loop-holds : tie.Need-loop-holds Inv-loop μ-loop
-loop-holds c = (begun _ _ _ _ (c .before .before .before .before .before .before .before .before .before .before .before .before .step .ensures), refl, refl, refl, refl, refl, refl)
+loop-holds c = (begun _ _ _ _ (c .before .before .before .before .before .before .before .before .step .ensures), refl, refl, refl, refl)
 
 steps-on-requires : tie.Need-steps-on-requires Inv-loop μ-loop
 steps-on-requires c κs = c .loop .inv .0 .written
 
 steps-more-requires : tie.Need-steps-more-requires Inv-loop μ-loop
-steps-more-requires c κs = (c .before .before .before .before .before .before .before .before .loop .inv .0 .used, c .before .before .before .before .before .before .before .before .loop .inv .0 .written, tested _ true _ (c .before .before .before .before .before .before .before .steps-on .ensures) (c .before .before .before .before .before .before .if1 .taken))
+steps-more-requires c κs = (c .before .before .before .before .before .before .loop .inv .0 .used, c .before .before .before .before .before .before .loop .inv .0 .written, tested _ true _ (c .before .before .before .before .before .steps-on .ensures) (c .before .before .before .before .if1 .taken))
 
 loop-less : tie.Need-loop-less Inv-loop μ-loop
-loop-less c = shrinks _ _ _ (tested _ true _ (c .before .before .before .before .before .before .before .before .before .before .before .before .before .before .before .before .before .before .before .before .steps-on .ensures) (c .before .before .before .before .before .before .before .before .before .before .before .before .before .before .before .before .before .before .before .if1 .taken)) (c .before .before .before .before .before .before .before .before .before .before .before .before .steps-more .ensures)
+loop-less c = shrinks _ _ _ (tested _ true _ (c .before .before .before .before .before .before .before .before .before .before .before .before .before .before .steps-on .ensures) (c .before .before .before .before .before .before .before .before .before .before .before .before .before .if1 .taken)) (c .before .before .before .before .before .before .before .before .steps-more .ensures)
 
 loop-again : tie.Need-loop-again Inv-loop μ-loop
-loop-again c = let kept = c .before .before .before .before .before .before .before .before .before .before .before .before .steps-more .kept in
-    let old = c .before .before .before .before .before .before .before .before .before .before .before .before .before .before .before .before .before .before .before .before .before .loop .inv in (
-      onward _ _ _ _ (old .0) (c .before .before .before .before .before .before .before .before .before .before .before .before .steps-more .ensures),
+loop-again c = let kept = c .before .before .before .before .before .before .before .before .steps-more .kept in
+    let old = c .before .before .before .before .before .before .before .before .before .before .before .before .before .before .before .loop .inv in (
+      onward _ _ _ _ (old .0) (c .before .before .before .before .before .before .before .before .steps-more .ensures),
       omega (arith, kept, old .1),
       omega (arith, kept, old .2),
       omega (arith, kept, old .3),
       omega (arith, kept, old .4),
-      omega (arith, kept, old .5),
-      omega (arith, kept, old .6),
     )
 
 same-length : tie.Need-same-length Inv-loop μ-loop
-same-length c = omega (arith, c .before .before .loop .inv .1, c .before .before .before .before .before .before .before .before .before .before .before .before .before .before .before .step .kept)
+same-length c = omega (arith, c .before .before .loop .inv .1, c .before .before .before .before .before .before .before .before .before .before .before .step .kept)
 
 same-length-2 : tie.Need-same-length-2 Inv-loop μ-loop
-same-length-2 c = omega (arith, c .before .before .loop .inv .2, c .before .before .before .before .before .before .before .before .before .before .before .before .before .before .before .step .kept)
+same-length-2 c = omega (arith, c .before .before .loop .inv .2, c .before .before .before .before .before .before .before .before .before .before .before .step .kept)
 
 same-length-3 : tie.Need-same-length-3 Inv-loop μ-loop
-same-length-3 c = omega (arith, c .before .before .loop .inv .3, c .before .before .before .before .before .before .before .before .before .before .before .before .before .before .before .step .kept)
+same-length-3 c = omega (arith, c .before .before .loop .inv .3, c .before .before .before .before .before .before .before .before .before .before .before .step .kept)
 
 same-length-4 : tie.Need-same-length-4 Inv-loop μ-loop
-same-length-4 c = omega (arith, c .before .before .loop .inv .4, c .before .before .before .before .before .before .before .before .before .before .before .before .before .before .before .step .kept)
-
-same-length-5 : tie.Need-same-length-5 Inv-loop μ-loop
-same-length-5 c = omega (arith, c .before .before .loop .inv .5, c .before .before .before .before .before .before .before .before .before .before .before .before .before .before .before .step .kept)
-
-same-length-6 : tie.Need-same-length-6 Inv-loop μ-loop
-same-length-6 c = omega (arith, c .before .before .loop .inv .6, c .before .before .before .before .before .before .before .before .before .before .before .before .before .before .before .step .kept)
+same-length-4 c = omega (arith, c .before .before .loop .inv .4, c .before .before .before .before .before .before .before .before .before .before .before .step .kept)
 
 returns : tie.Need-returns Inv-loop μ-loop
-returns c = filled _ _ _ _ _ (c .before .before .before .before .before .before .before .before .before .before .before .before .before .before .before .step .ensures) (c .before .before .loop .inv .0) (tested _ false _ (c .before .steps-on .ensures) (c .if1 .left))
+returns c = filled _ _ _ _ _ (c .before .before .before .before .before .before .before .before .before .before .before .step .ensures) (c .before .before .loop .inv .0) (tested _ false _ (c .before .steps-on .ensures) (c .if1 .left))
 
 pub fill-spec : {M : Type 1} → statement M
 fill-spec =
@@ -92,6 +83,4 @@ fill-spec =
     same-length-2
     same-length-3
     same-length-4
-    same-length-5
-    same-length-6
     returns)

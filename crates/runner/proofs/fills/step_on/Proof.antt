@@ -2,6 +2,7 @@
 use native.Mathlib.Omega.{arith}
 use mathlib.Core.Path.{ap}
 use borrow.Author.Needs.{needs}
+use Rattle.messages.specs.Slices.{numbersIn}
 use Rattle.runner.specs.Buffers.{buffers}
 use Rattle.runner.specs.Turns.{Turn, turn}
 use Rattle.runner.proofs.FillTurns.{step-on-is, step-on-used, step-on-written}
@@ -13,7 +14,7 @@ abbrev TurnOf : tie.Start → Turn
 TurnOf s =
     let a = s .args in
     turn (a .done .reply) (a .done .going) (a .done .used) (a .done .written) (a .done .runner)
-    (buffers (a .costs .now) (a .sent .now) (a .held .now) (a .messages .now) (a .rows .now) (a .out .now))
+    (buffers (a .costs .now) (a .sent .now) (a .held .now) (numbersIn (a .done .messages)) (a .out .now))
 
 sub-step : tie.Need-sub-step
 sub-step c = search needs
@@ -38,14 +39,14 @@ step-requires c κs = search needs
 
 add-next : tie.Need-add-next
 add-next c =
-    let s = c .before .before .before .before .before .before .before .before .before .before .before .before .before .before .before .before .before .before .before .before .before .before .before .before .before .before .before .before .before in
-    let sum = ap (λ (u : Turn). u .used) (step-on-is (s .args .rest .now) (TurnOf s) (c .before .before .before .before .before .before .before .before .before .before .before .before .before .step .ensures)) in
+    let s = (c .before .before .before .before .before .before .before .before .before .before .before .before .before .before .before .before .before .before .before .before .before .before) in
+    let sum = ap (λ (u : Turn). u .used) (step-on-is (s .args .rest .now) (TurnOf s) (c .before .before .before .before .before .before .before .before .before .step .ensures)) in
     record { fits = omega (arith, sum, step-on-used (s .args .rest .now) (TurnOf s) (s .pre .0), s .good) }
 
 add-next-2 : tie.Need-add-next-2
 add-next-2 c =
-    let s = c .before .before .before .before .before .before .before .before .before .before .before .before .before .before .before .before .before .before .before .before .before .before .before .before .before .before .before .before .before .before in
-    let sum = ap (λ (u : Turn). u .written) (step-on-is (s .args .rest .now) (TurnOf s) (c .before .before .before .before .before .before .before .before .before .before .before .before .before .before .step .ensures)) in
+    let s = (c .before .before .before .before .before .before .before .before .before .before .before .before .before .before .before .before .before .before .before .before .before .before .before) in
+    let sum = ap (λ (u : Turn). u .written) (step-on-is (s .args .rest .now) (TurnOf s) (c .before .before .before .before .before .before .before .before .before .before .step .ensures)) in
     record { fits = omega (arith, sum, step-on-written (s .args .rest .now) (TurnOf s) (s .pre .1), s .good) }
 
 same-length : tie.Need-same-length
@@ -60,14 +61,8 @@ same-length-3 c = search needs
 same-length-4 : tie.Need-same-length-4
 same-length-4 c = search needs
 
-same-length-5 : tie.Need-same-length-5
-same-length-5 c = search needs
-
-same-length-6 : tie.Need-same-length-6
-same-length-6 c = search needs
-
 returns : tie.Need-returns
-returns c = let s = c .before .before .before .before .before .before .before .before .before .before .before .before .before .before .before .before .before .before .before .before .before .before .before .before .before .before .before .before .before .before in step-on-is (s .args .rest .now) (TurnOf s) (c .before .before .before .before .before .before .before .before .before .before .before .before .before .before .step .ensures)
+returns c = let s = (c .before .before .before .before .before .before .before .before .before .before .before .before .before .before .before .before .before .before .before .before .before .before .before) in step-on-is (s .args .rest .now) (TurnOf s) (c .before .before .before .before .before .before .before .before .before .before .step .ensures)
 
 pub step-on-spec : {M : Type 1} → statement M
 step-on-spec =
@@ -86,6 +81,4 @@ step-on-spec =
     same-length-2
     same-length-3
     same-length-4
-    same-length-5
-    same-length-6
     returns)

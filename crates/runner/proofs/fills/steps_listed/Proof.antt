@@ -1,24 +1,55 @@
--- `fills::steps_listed` meets its contract: the steps of a list, or one step where no call was made. Assumes nothing.
-use native.Mathlib.Omega.{arith}
-use borrow.Author.Needs.{needs}
+-- `fills::steps_listed` meets its contract. Assumes nothing.
+use Rattle.runner.proofs.ListResults.{none-made, some-made, unchanged, steps-made, result-fits}
+use Rattle.bench.specs.Batches.{refusalIn}
+use Rattle.runner.proofs.ListTexts.{whole-length}
+use Rattle.runner.proofs.FillTurns.{one-made, one-made-kept, has-room}
+use Rattle.messages.specs.Slices.{numbersIn}
+use Rattle.runner.specs.Buffers.{Buffers, buffers}
 use Rattle.runner.specs.Turns.{Turn, turn}
-use Rattle.runner.specs.Buffers.{buffers}
-use Rattle.runner.proofs.FillTurns.{one-made-kept, goes-on}
+use lib.Seq.{length-take-le}
+use lib.ListN.{length, replicate, length-replicate}
+use mathlib.Core.Path.{sym, ap, _∙_}
+use native.Mathlib.Omega.{arith}
+use Prim.Native.Nat.{ℕ}
+use borrow.Author.Needs.{needs}
 use Rattle.runner.proofs.fills.steps_listed.Statement.{statement}
 use Rattle.runner.proofs.fills.steps_listed.Tie as tie
 
--- the turn that is handed over
 abbrev TurnOf : tie.Start → Turn
 TurnOf s =
     let a = s .args in
     turn (a .done .reply) (a .done .going) (a .done .used) (a .done .written) (a .done .runner)
-    (buffers (a .costs .now) (a .sent .now) (a .held .now) (a .messages .now) (a .rows .now) (a .out .now))
+    (buffers (a .costs .now) (a .sent .now) (a .held .now) (numbersIn (a .done .messages)) (a .out .now))
 
-slice-aggregate-list-in-room : tie.Need-slice-aggregate-list-in-room
-slice-aggregate-list-in-room c = search needs
+sub-answer-room : tie.Need-sub-answer-room
+sub-answer-room c = omega (arith, c .before .before .before .before .before .before .before .before .before .pre .0 .1)
 
-list-in-room-requires : tie.Need-list-in-room-requires
-list-in-room-requires c κs = ((goes-on (TurnOf (c .before .before .before .before .before .before .before .before .before .before .before .before .before)) (c .before .before .before .before .before .before .before .before .before .before .before .before .before .pre .0 .2), c .before .before .before .before .before .before .before .before .before .before .before .before .before .pre .0 .0, c .before .before .before .before .before .before .before .before .before .before .before .before .before .pre .1 .0), (search needs, c .before .before .before .before .before .before .before .before .before .before .before .before .before .pre .0 .1))
+answer-room-requires : tie.Need-answer-room-requires
+answer-room-requires c κs = has-room (TurnOf (c .before .before .before .before .before .before .before .before .before)) (c .before .before .before .before .before .before .before .before .before .pre .0 .2)
+
+list-progress-requires : tie.Need-list-progress-requires
+list-progress-requires c κs = search needs
+
+sub-read-events : tie.Need-sub-read-events
+sub-read-events c = omega (arith, c .before .before .before .before .before .before .before .before .before .before .before .pre .0 .0)
+
+part-read-events-start : tie.Need-part-read-events-start
+part-read-events-start c = omega (arith, c .before .before .before .before .before .before .before .before .before .before .before .pre .0 .0)
+
+part-read-events-end : tie.Need-part-read-events-end
+part-read-events-end c = omega (arith, c .before .before .before .before .before .before .before .before .before .before .before .pre .0 .0)
+
+slice-aggregate-read-events : tie.Need-slice-aggregate-read-events
+slice-aggregate-read-events c = search needs
+
+read-events-requires : tie.Need-read-events-requires
+read-events-requires c κs = search needs
+
+array-read-count : tie.Need-array-read-count
+array-read-count c = search needs
+
+step-on-requires : tie.Need-step-on-requires
+step-on-requires c κs = (c .before .before .before .before .before .before .before .before .before .before .before .before .before .before .before .before .before .before .before .before .pre .0 .0, c .before .before .before .before .before .before .before .before .before .before .before .before .before .before .before .before .before .before .before .before .pre .0 .1)
 
 same-length : tie.Need-same-length
 same-length c = search needs
@@ -35,50 +66,98 @@ same-length-4 c = search needs
 same-length-5 : tie.Need-same-length-5
 same-length-5 c = search needs
 
+returns : tie.Need-returns
+returns c = one-made _ (TurnOf (c .before .before .before .before .before .before .before .before .before .before .before .before .before .before .before .before .before .before .before .before .before .before .before .before .before .before .before .before .before)) _ (c .before .before .before .before .before .before .before .before .before .before .before .before .before .before .before .before .before .before .before .before .before .before .before .before .before .before .before .before .before .pre .0 .2) (c .before .before .before .before .before .before .before .before .step-on .ensures)
+
+array-borrow-prefix-answers : tie.Need-array-borrow-prefix-answers
+array-borrow-prefix-answers c = omega (arith, c .before .before .before .before .before .before .before .before .before .answer-room .ensures, length-replicate {A = ℕ} 6144 0)
+
+nothing-made-requires : tie.Need-nothing-made-requires
+nothing-made-requires c κs = search needs
+
+step-on-requires-2 : tie.Need-step-on-requires-2
+step-on-requires-2 c κs = (c .before .before .before .before .before .before .before .before .before .before .before .before .before .before .before .before .before .before .before .before .before .before .before .before .before .before .before .before .before .before .before .before .pre .0 .0, c .before .before .before .before .before .before .before .before .before .before .before .before .before .before .before .before .before .before .before .before .before .before .before .before .before .before .before .before .before .before .before .before .pre .0 .1)
+
 same-length-6 : tie.Need-same-length-6
 same-length-6 c = search needs
 
-returns : tie.Need-returns
-returns c = c .before .before .before .before .before .before .before .before .before .before .list-in-room .ensures _ (c .before .before .before .before .before .before .before .before .before .before .before .before .before .before .before .before .before .before .before .before .before .before .before .before .pre .1 .1) .made (c .if1 .taken)
-
-step-on-requires : tie.Need-step-on-requires
-step-on-requires c κs = (c .before .before .before .before .before .before .before .before .before .before .before .before .before .before .before .before .before .before .before .before .before .before .before .before .before .before .before .before .before .before .pre .0 .0, omega (arith, c .before .before .before .before .before .before .before .before .before .before .before .before .before .before .before .before .before .before .before .before .before .before .before .before .before .before .before .before .before .before .pre .0 .1, c .before .before .before .before .before .before .before .before .before .before .before .before .before .before .before .before .list-in-room .kept))
-
 same-length-7 : tie.Need-same-length-7
-same-length-7 c = omega (arith, c .before .before .before .before .before .before .before .before .before .before .before .before .step-on .kept, c .before .before .before .before .before .before .before .before .before .before .before .before .before .before .before .before .before .before .before .before .before .before .before .before .before .before .before .before .before .list-in-room .kept)
+same-length-7 c = search needs
 
 same-length-8 : tie.Need-same-length-8
 same-length-8 c = search needs
 
 same-length-9 : tie.Need-same-length-9
-same-length-9 c = omega (arith, c .before .before .before .before .before .before .before .before .before .before .before .before .step-on .kept, c .before .before .before .before .before .before .before .before .before .before .before .before .before .before .before .before .before .before .before .before .before .before .before .before .before .before .before .before .before .list-in-room .kept)
+same-length-9 c = search needs
 
 same-length-10 : tie.Need-same-length-10
-same-length-10 c = omega (arith, c .before .before .before .before .before .before .before .before .before .before .before .before .step-on .kept, c .before .before .before .before .before .before .before .before .before .before .before .before .before .before .before .before .before .before .before .before .before .before .before .before .before .before .before .before .before .list-in-room .kept)
-
-same-length-11 : tie.Need-same-length-11
-same-length-11 c = omega (arith, c .before .before .before .before .before .before .before .before .before .before .before .before .step-on .kept, c .before .before .before .before .before .before .before .before .before .before .before .before .before .before .before .before .before .before .before .before .before .before .before .before .before .before .before .before .before .list-in-room .kept)
+same-length-10 c = search needs
 
 returns-2 : tie.Need-returns-2
-returns-2 c = one-made-kept _ (TurnOf (c .before .before .before .before .before .before .before .before .before .before .before .before .before .before .before .before .before .before .before .before .before .before .before .before .before .before .before .before .before .before .before .before .before .before .before .before .before .before .before .before .before .before .before)) _ _ (c .before .before .before .before .before .before .before .before .before .before .before .before .before .before .before .before .before .before .before .before .before .before .before .before .before .before .before .before .before .before .before .before .before .before .before .before .before .before .before .before .before .before .before .pre .0 .2) (c .before .before .before .before .before .before .before .before .before .before .before .before .before .before .before .before .before .before .before .before .before .before .before .before .before .before .before .before .before .list-in-room .ensures _ (c .before .before .before .before .before .before .before .before .before .before .before .before .before .before .before .before .before .before .before .before .before .before .before .before .before .before .before .before .before .before .before .before .before .before .before .before .before .before .before .before .before .before .before .pre .1 .1) .not (c .before .before .before .before .before .before .before .before .before .before .before .before .before .before .before .before .before .before .before .if1 .left)) (c .before .before .before .before .before .before .before .before .before .before .before .before .step-on .ensures)
+returns-2 c = one-made-kept _ (TurnOf (c .before .before .before .before .before .before .before .before .before .before .before .before .before .before .before .before .before .before .before .before .before .before .before .before .before .before .before .before .before .before .before .before .before .before .before .before .before .before .before .before .before)) _ _ (c .before .before .before .before .before .before .before .before .before .before .before .before .before .before .before .before .before .before .before .before .before .before .before .before .before .before .before .before .before .before .before .before .before .before .before .before .before .before .before .before .before .pre .0 .2)
+    (ap (λ (k : Buffers). buffers (c .before .before .before .before .before .before .before .before .before .before .before .before .before .before .before .before .before .before .before .before .before .before .before .before .before .before .before .before .before .before .before .before .before .before .before .before .before .before .before .before .before .args .costs .now) (k .sent) (k .held) (numbersIn (c .before .before .before .before .before .before .before .before .before .before .before .before .before .before .before .before .before .before .before .before .before .before .before .before .before .before .before .before .before .before .before .before .before .before .before .before .before .before .before .before .before .args .done .messages)) (c .before .before .before .before .before .before .before .before .before .before .before .before .before .before .before .before .before .before .before .before .before .before .before .before .before .before .before .before .before .before .before .before .before .before .before .before .before .before .before .before .before .args .out .now)) (unchanged (c .before .before .before .before .before .before .before .before .before .before .before .before .before .before .before .before .before .before .before .before .before .before .before .before .before .before .before .before .before .before .before .before .before .before .before .before .before .before .before .before .before .args .done) (c .before .before .before .before .before .before .before .before .before .before .before .before .before .before .before .before .before .before .before .before .before .before .before .before .before .before .before .before .before .before .before .before .before .before .before .before .before .before .before .before .before .args .costs .now) (c .before .before .before .before .before .before .before .before .before .before .before .before .before .before .before .before .before .before .before .before .before .before .before .before .before .before .before .before .before .before .before .before .before .before .before .before .before .before .before .before .before .args .sent .now) (c .before .before .before .before .before .before .before .before .before .before .before .before .before .before .before .before .before .before .before .before .before .before .before .before .before .before .before .before .before .before .before .before .before .before .before .before .before .before .before .before .before .args .held .now) (numbersIn (c .before .before .before .before .before .before .before .before .before .before .before .before .before .before .before .before .before .before .before .before .before .before .before .before .before .before .before .before .before .before .before .before .before .before .before .before .before .before .before .before .before .args .done .messages)) (c .before .before .before .before .before .before .before .before .before .before .before .before .before .before .before .before .before .before .before .before .before .before .before .before .before .before .before .before .before .before .before .before .before .before .before .before .before .before .before .before .before .args .out .now) (c .before .before .before .before .before .before .before .before .before .before .before .before .before .before .before .before .before .before .before .before .before .before .before .before .before .before .before .before .before .before .before .before .before .before .before .before .before .before .before .before .before .args .rest .now) (c .before .before .before .before .before .before .before .before .before .before .before .before .before .before .before .before .before .before .before .before .before .before .before .before .before .before .before .before .before .before .before .before .before .before .before .before .before .before .before .before .before .pre .0 .2) (c .before .before .before .before .before .before .before .before .before .before .before .before .before .before .before .before .before .before .before .before .before .before .before .before .before .before .before .before .before .before .before .before .before .before .before .before .before .before .before .before .before .pre .0 .0) (c .before .before .before .before .before .before .before .before .before .before .before .before .before .before .before .before .before .before .before .before .before .before .before .before .before .before .before .before .before .before .before .before .before .before .before .before .before .before .before .before .before .pre .1 .0) (c .before .before .before .before .before .before .before .before .before .before .before .before .before .before .before .before .before .before .before .before .before .before .before .before .before .before .before .before .before .before .before .before .before .before .before .before .before .before .before .before .before .pre .1 .1) (c .before .before .before .before .before .before .before .before .before .before .before .before .before .before .before .before .before .before .before .before .before .before .before .before .before .before .before .before .before .before .before .answer-room .result) (omega (arith, c .before .before .before .before .before .before .before .before .before .before .before .before .before .before .before .before .before .before .before .before .before .before .before .before .before .before .before .before .before .before .before .answer-room .ensures, c .before .before .before .before .before .before .before .before .before .before .before .before .before .before .before .before .before .before .before .before .before .before .before .before .before .before .before .before .before .before .before .before .before .before .before .before .before .before .before .before .before .pre .0 .1)) _ _ _ (rw (c .before .before .before .before .before .before .before .before .before .before .before .before .before .before .before .before .before .before .before .before .before .before .before .before .before .before .before .before .before .before .list-progress .ensures) at (c .before .before .before .before .before .before .before .before .before .before .before .before .before .before .before .before .before .before .before .before .before .before .before .before .before .before .before .read-events .ensures)) (c .before .before .before .before .before .before .before .before .before .before .before .before .before .before .before .before .before .before .before .before .before .before .before .before .before .if1 .left) (c .before .before .before .before .before .before .before .before .before .before .before .before .before .before .before .before .before .before .before .before .run-by-value .result .ran) _ _ _ _ _ (length-take-le _ _ (omega (arith, c .before .before .before .before .before .before .before .before .before .before .before .before .before .before .before .before .before .before .before .before .before .before .before .before .before .before .before .before .before .before .before .answer-room .ensures, length-replicate {A = ℕ} 6144 0))) (c .before .before .before .before .before .before .before .before .before .before .before .before .before .before .before .before .before .before .before .before .run-by-value .ensures) (none-made _ (refusalIn (c .before .before .before .before .before .before .before .before .before .before .before .before .before .before .before .before .before .before .before .before .run-by-value .result .ran .disposition)) (c .before .before .before .before .before .before .before .before .before .before .before .before .before .before .nothing-made .ensures) (c .before .before .before .before .before .before .before .before .before .before .before .before .before .if2 .taken))))
+    (c .before .before .before .before .before .before .before .before .step-on2 .ensures)
+
+slice-aggregate-listed-on : tie.Need-slice-aggregate-listed-on
+slice-aggregate-listed-on c = search needs
+
+slice-aggregate-listed-on-2 : tie.Need-slice-aggregate-listed-on-2
+slice-aggregate-listed-on-2 c =
+    let few = length-take-le (c .before .before .before .before .before .before .before .before .before .before .before .before .before .before .before .before .before .before .before .before .answer-room .result) (replicate {A = ℕ} 6144 0) (omega (arith, c .before .before .before .before .before .before .before .before .before .before .before .before .before .before .before .before .before .before .before .before .answer-room .ensures, length-replicate {A = ℕ} 6144 0)) in
+    sym (length-replicate {A = ℕ} 6144 0) ∙ whole-length (c .before .before .before .before .before .before .before .before .before .run-by-value .last .1 .1 .1 .1 .1 .1 .1 .0) (replicate 6144 0) (c .before .before .before .before .before .before .before .before .before .before .before .before .before .before .before .before .before .before .before .before .answer-room .result) (omega (arith, c .before .before .before .before .before .before .before .before .before .run-by-value .kept, few)) (omega (arith, c .before .before .before .before .before .before .before .before .before .before .before .before .before .before .before .before .before .before .before .before .answer-room .ensures, length-replicate {A = ℕ} 6144 0))
+
+listed-on-requires : tie.Need-listed-on-requires
+listed-on-requires c κs = result-fits (c .before .before .before .before .before .before .before .before .before .before .before .before .before .before .before .before .before .before .before .before .before .before .before .before .before .before .before .before .before .before .before .args .done) (c .before .before .before .before .before .before .before .before .before .before .before .before .before .before .before .before .before .before .before .before .before .before .before .before .before .before .before .before .before .before .before .args .costs .now) (c .before .before .before .before .before .before .before .before .before .before .before .before .before .before .before .before .before .before .before .before .before .before .before .before .before .before .before .before .before .before .before .args .sent .now) (c .before .before .before .before .before .before .before .before .before .before .before .before .before .before .before .before .before .before .before .before .before .before .before .before .before .before .before .before .before .before .before .args .held .now) (numbersIn (c .before .before .before .before .before .before .before .before .before .before .before .before .before .before .before .before .before .before .before .before .before .before .before .before .before .before .before .before .before .before .before .args .done .messages)) (c .before .before .before .before .before .before .before .before .before .before .before .before .before .before .before .before .before .before .before .before .before .before .before .before .before .before .before .before .before .before .before .args .out .now) (c .before .before .before .before .before .before .before .before .before .before .before .before .before .before .before .before .before .before .before .before .before .before .before .before .before .before .before .before .before .before .before .args .rest .now) (c .before .before .before .before .before .before .before .before .before .before .before .before .before .before .before .before .before .before .before .before .before .before .before .before .before .before .before .before .before .before .before .pre .0 .2) (c .before .before .before .before .before .before .before .before .before .before .before .before .before .before .before .before .before .before .before .before .before .before .before .before .before .before .before .before .before .before .before .pre .0 .0) (c .before .before .before .before .before .before .before .before .before .before .before .before .before .before .before .before .before .before .before .before .before .before .before .before .before .before .before .before .before .before .before .pre .1 .0) (c .before .before .before .before .before .before .before .before .before .before .before .before .before .before .before .before .before .before .before .before .before .before .before .before .before .before .before .before .before .before .before .pre .1 .1) (c .before .before .before .before .before .before .before .before .before .before .before .before .before .before .before .before .before .before .before .before .before .answer-room .result) (omega (arith, c .before .before .before .before .before .before .before .before .before .before .before .before .before .before .before .before .before .before .before .before .before .answer-room .ensures, c .before .before .before .before .before .before .before .before .before .before .before .before .before .before .before .before .before .before .before .before .before .before .before .before .before .before .before .before .before .before .before .pre .0 .1)) _ _ _ (rw (c .before .before .before .before .before .before .before .before .before .before .before .before .before .before .before .before .before .before .before .before .list-progress .ensures) at (c .before .before .before .before .before .before .before .before .before .before .before .before .before .before .before .before .before .read-events .ensures)) (c .before .before .before .before .before .before .before .before .before .before .before .before .before .before .before .if1 .left) (c .before .before .before .before .before .before .before .before .before .before .run-by-value .result .ran) _ _ _ _ _ (length-take-le _ _ (omega (arith, c .before .before .before .before .before .before .before .before .before .before .before .before .before .before .before .before .before .before .before .before .before .answer-room .ensures, length-replicate {A = ℕ} 6144 0))) (c .before .before .before .before .before .before .before .before .before .before .run-by-value .ensures) _ (omega (arith, c .before .before .before .before .before .before .before .before .before .before .before .before .before .before .before .before .before .before .before .before .before .before .before .before .before .before .before .before .before .before .before .good)) (omega (arith, c .before .before .before .before .before .before .before .before .before .before .before .before .before .before .before .before .before .read-events .kept))
+
+same-length-11 : tie.Need-same-length-11
+same-length-11 c = search needs
+
+same-length-12 : tie.Need-same-length-12
+same-length-12 c = search needs
+
+returns-3 : tie.Need-returns-3
+returns-3 c = rw (c .before .before .listed-on .ensures .1) (steps-made (c .before .before .before .before .before .before .before .before .before .before .before .before .before .before .before .before .before .before .before .before .before .before .before .before .before .before .before .before .before .before .before .before .before .before .args .done) (c .before .before .before .before .before .before .before .before .before .before .before .before .before .before .before .before .before .before .before .before .before .before .before .before .before .before .before .before .before .before .before .before .before .before .args .costs .now) (c .before .before .before .before .before .before .before .before .before .before .before .before .before .before .before .before .before .before .before .before .before .before .before .before .before .before .before .before .before .before .before .before .before .before .args .sent .now) (c .before .before .before .before .before .before .before .before .before .before .before .before .before .before .before .before .before .before .before .before .before .before .before .before .before .before .before .before .before .before .before .before .before .before .args .held .now) (numbersIn (c .before .before .before .before .before .before .before .before .before .before .before .before .before .before .before .before .before .before .before .before .before .before .before .before .before .before .before .before .before .before .before .before .before .before .args .done .messages)) (c .before .before .before .before .before .before .before .before .before .before .before .before .before .before .before .before .before .before .before .before .before .before .before .before .before .before .before .before .before .before .before .before .before .before .args .out .now) (c .before .before .before .before .before .before .before .before .before .before .before .before .before .before .before .before .before .before .before .before .before .before .before .before .before .before .before .before .before .before .before .before .before .before .args .rest .now) (c .before .before .before .before .before .before .before .before .before .before .before .before .before .before .before .before .before .before .before .before .before .before .before .before .before .before .before .before .before .before .before .before .before .before .pre .0 .2) (c .before .before .before .before .before .before .before .before .before .before .before .before .before .before .before .before .before .before .before .before .before .before .before .before .before .before .before .before .before .before .before .before .before .before .pre .0 .0) (c .before .before .before .before .before .before .before .before .before .before .before .before .before .before .before .before .before .before .before .before .before .before .before .before .before .before .before .before .before .before .before .before .before .before .pre .1 .0) (c .before .before .before .before .before .before .before .before .before .before .before .before .before .before .before .before .before .before .before .before .before .before .before .before .before .before .before .before .before .before .before .before .before .before .pre .1 .1) (c .before .before .before .before .before .before .before .before .before .before .before .before .before .before .before .before .before .before .before .before .before .before .before .before .answer-room .result) (omega (arith, c .before .before .before .before .before .before .before .before .before .before .before .before .before .before .before .before .before .before .before .before .before .before .before .before .answer-room .ensures, c .before .before .before .before .before .before .before .before .before .before .before .before .before .before .before .before .before .before .before .before .before .before .before .before .before .before .before .before .before .before .before .before .before .before .pre .0 .1)) _ _ _ (rw (c .before .before .before .before .before .before .before .before .before .before .before .before .before .before .before .before .before .before .before .before .before .before .before .list-progress .ensures) at (c .before .before .before .before .before .before .before .before .before .before .before .before .before .before .before .before .before .before .before .before .read-events .ensures)) (c .before .before .before .before .before .before .before .before .before .before .before .before .before .before .before .before .before .before .if1 .left) (c .before .before .before .before .before .before .before .before .before .before .before .before .before .run-by-value .result .ran) _ _ _ _ _ (length-take-le _ _ (omega (arith, c .before .before .before .before .before .before .before .before .before .before .before .before .before .before .before .before .before .before .before .before .before .before .before .before .answer-room .ensures, length-replicate {A = ℕ} 6144 0))) (c .before .before .before .before .before .before .before .before .before .before .before .before .before .run-by-value .ensures) _ (some-made _ _ (c .before .before .before .before .before .before .before .nothing-made .ensures) (c .before .before .before .before .before .before .if2 .left)) (c .before .before .listed-on .result) (c .before .before .listed-on .ensures .0))
+
+slice-aggregate-run-by-value : tie.Need-slice-aggregate-run-by-value
+slice-aggregate-run-by-value c = sym (length-take-le _ _ (omega (arith, c .before .before .before .before .before .before .before .before .before .before .answer-room .ensures, length-replicate {A = ℕ} 6144 0)))
+
+run-by-value-requires : tie.Need-run-by-value-requires
+run-by-value-requires c κs = search needs
 
 pub steps-listed-spec : {M : Type 1} → statement M
 steps-listed-spec =
     tie.close
     (tie.spec
-    slice-aggregate-list-in-room
-    list-in-room-requires
+    sub-answer-room
+    answer-room-requires
+    list-progress-requires
+    sub-read-events
+    part-read-events-start
+    part-read-events-end
+    slice-aggregate-read-events
+    read-events-requires
+    array-read-count
+    step-on-requires
     same-length
     same-length-2
     same-length-3
     same-length-4
-    same-length-5
     returns
-    step-on-requires
+    array-borrow-prefix-answers
+    slice-aggregate-run-by-value
+    run-by-value-requires
+    nothing-made-requires
+    step-on-requires-2
+    same-length-5
     same-length-6
     same-length-7
     same-length-8
+    returns-2
+    slice-aggregate-listed-on
+    slice-aggregate-listed-on-2
+    listed-on-requires
     same-length-9
     same-length-10
     same-length-11
-    returns-2)
+    same-length-12
+    returns-3)

@@ -15,9 +15,6 @@ both-requires-3 c κs = search needs
 both-requires-4 : tie.Need-both-requires-4
 both-requires-4 c κs = search needs
 
-both-requires-5 : tie.Need-both-requires-5
-both-requires-5 c κs = search needs
-
 returns : tie.Need-returns
 returns c = cc
 
@@ -29,5 +26,4 @@ buffers-long-spec =
     both-requires-2
     both-requires-3
     both-requires-4
-    both-requires-5
     returns)

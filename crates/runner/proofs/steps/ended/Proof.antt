@@ -1,7 +1,7 @@
 -- `steps::ended` meets its contract: the last line and its count. Assumes nothing.
 use mathlib.Core.List.{[]}
 use mathlib.Core.Bool.{false}
-use mathlib.Core.Path.{ap}
+use mathlib.Core.Path.{ap, refl}
 use borrow.Author.Needs.{needs}
 use Rattle.runner.specs.Turns.{turn, lastTurn}
 use Rattle.runner.specs.Events.{Line}
@@ -17,7 +17,12 @@ same-length c = search needs
 
 returns : tie.Need-returns
 unfolding lastTurn
-returns c = ap (λ (l : Line). turn (c .before .before .before .before .before .args .number) false 0 (l .count) (c .before .before .before .before .before .args .r) (buffers [] [] [] [] [] (l .out))) (c .before .before .last-line .ensures)
+returns c = (ap (λ (l : Line). turn (c .before .before .before .before .before .args .number) false 0 (l .count) (c .before .before .before .before .before .args .r) (buffers [] [] [] [] (l .out))) (c .before .before .last-line .ensures), refl)
 
 pub ended-spec : {M : Type 1} → statement M
-ended-spec = tie.close (tie.spec last-line-requires same-length returns)
+ended-spec =
+    tie.close
+    (tie.spec
+    last-line-requires
+    same-length
+    returns)

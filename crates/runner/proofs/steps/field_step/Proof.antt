@@ -1,6 +1,7 @@
 -- `steps::field_step` meets its contract: each setup on all of the buffers, or an event. Assumes nothing.
 use mathlib.Core.Path.{_∙_}
 use borrow.Author.Needs.{needs}
+use Rattle.messages.specs.Slices.{numbersIn}
 use Rattle.runner.specs.Buffers.{buffers}
 use Rattle.runner.specs.Turns.{fieldTurn}
 use Rattle.runner.proofs.StepTurns.{setup-on, view-turn}
@@ -20,7 +21,7 @@ enum-known-field-2 : tie.Need-enum-known-field-2
 enum-known-field-2 c = search needs
 
 with-link-requires : tie.Need-with-link-requires
-with-link-requires c κs = rw (c .before .field2 .given .1) at (c .before .before .before .before .before .before .before .before .before .before .before .pre .1)
+with-link-requires c κs = rw (c .before .field2 .given .1) at (c .before .before .before .before .before .before .before .before .before .pre .1)
 
 set-up-requires-2 : tie.Need-set-up-requires-2
 set-up-requires-2 c κs = search needs
@@ -29,13 +30,13 @@ enum-told : tie.Need-enum-told
 enum-told c = search needs
 
 store-row-requires : tie.Need-store-row-requires
-store-row-requires c κs = (rw (c .before .enum-told .given .1) at (c .before .before .before .before .before .before .before .before .before .before .before .pre .1), c .before .before .before .before .before .before .before .before .before .before .before .pre .0 .3)
+store-row-requires c κs = (rw (c .before .enum-told .given .1) at (c .before .before .before .before .before .before .before .before .before .pre .1), c .before .before .before .before .before .before .before .before .before .pre .0 .3)
 
 with-view-requires : tie.Need-with-view-requires
-with-view-requires c κs = rw (c .before .before .before .before .enum-told .given .1) at (c .before .before .before .before .before .before .before .before .before .before .before .before .before .before .pre .1)
+with-view-requires c κs = rw (c .before .before .before .before .enum-told .given .1) at (c .before .before .before .before .before .before .before .before .before .before .before .before .pre .1)
 
 set-up-requires-3 : tie.Need-set-up-requires-3
-set-up-requires-3 c κs = (c .before .before .before .before .before .before .before .before .before .before .before .before .before .before .before .before .before .before .before .before .before .before .before .pre .0 .0, c .before .before .before .before .before .before .before .before .before .before .before .before .before .before .before .before .before .before .before .before .before .before .before .pre .0 .2)
+set-up-requires-3 c κs = (c .before .before .before .before .before .before .before .before .before .before .before .before .before .before .before .before .before .before .before .before .before .pre .0 .0, c .before .before .before .before .before .before .before .before .before .before .before .before .before .before .before .before .before .before .before .before .before .pre .0 .2)
 
 enum-known-field-3 : tie.Need-enum-known-field-3
 enum-known-field-3 c = search needs
@@ -45,11 +46,11 @@ event-step-requires c κs = search needs
 
 returns : tie.Need-returns
 unfolding fieldTurn
-returns c = rw (c .before .before .before .field .given .1, ← c .before .with-bridges .ensures) (setup-on _ _ _ _ _ (c .set-up .ensures))
+returns c = rw (c .before .before .before .field .given .1, ← c .before .with-bridges .ensures, c .set-up .ensures .1) (setup-on _ _ _ _ _ (c .set-up .ensures .0))
 
 returns-2 : tie.Need-returns-2
 unfolding fieldTurn
-returns-2 c = rw (c .before .before .before .field2 .given .1, ← c .before .with-link .ensures) (setup-on _ _ _ _ _ (c .set-up2 .ensures))
+returns-2 c = rw (c .before .before .before .field2 .given .1, ← c .before .with-link .ensures, c .set-up2 .ensures .1) (setup-on _ _ _ _ _ (c .set-up2 .ensures .0))
 
 same-length : tie.Need-same-length
 same-length c = search needs
@@ -57,10 +58,10 @@ same-length c = search needs
 returns-3 : tie.Need-returns-3
 unfolding fieldTurn
 returns-3 c =
-    let a = c .before .before .before .before .before .before .before .before .before .before .before .before .before .before .before .before .before .before .before .before .before .before .before .before .args in
-    rw (c .before .before .before .before .before .before .before .before .before .before .before .before .before .before .enum-told .given .1, ← c .before .before .before .before .before .before .before .before .before .with-view .ensures, ← c .before .before .before .before .before .before .before .before .before .before .before .before .store-row .ensures)
-    (setup-on _ _ _ _ _ (c .set-up3 .ensures)
-    ∙ view-turn (a .used) (a .r) (buffers (a .costs .now) (a .sent .now) (a .held .now) (a .messages .now) (a .rows .now) (a .out .now)) _ _ (c .before .before .before .before .before .«open» .ensures))
+    let a = c .before .before .before .before .before .before .before .before .before .before .before .before .before .before .before .before .before .before .before .before .before .before .args in
+    rw (c .before .before .before .before .before .before .before .before .before .before .before .before .before .before .enum-told .given .1, ← c .before .before .before .before .before .before .before .before .before .with-view .ensures, ← c .before .before .before .before .before .before .before .before .before .before .before .before .store-row .ensures, c .set-up3 .ensures .1)
+    (setup-on _ _ _ _ _ (c .set-up3 .ensures .0)
+    ∙ view-turn (a .used) (a .r) (buffers (a .costs .now) (a .sent .now) (a .held .now) (numbersIn (a .messages)) (a .out .now)) _ _ (c .before .before .before .before .before .«open» .ensures))
 
 open-requires : tie.Need-open-requires
 open-requires c κs = search needs
@@ -85,13 +86,7 @@ same-length-7 c = search needs
 
 returns-4 : tie.Need-returns-4
 unfolding fieldTurn
-returns-4 c = rw (c .before .before .before .before .before .before .before .before .before .before .before .before .before .before .before .before .before .before .field3 .given .1) (c .before .before .before .before .before .before .before .before .before .before .event-step .ensures)
-
-same-length-8 : tie.Need-same-length-8
-same-length-8 c = search needs
-
-same-length-9 : tie.Need-same-length-9
-same-length-9 c = search needs
+returns-4 c = rw (c .before .before .before .before .before .before .before .before .before .before .before .before .field3 .given .1) (c .before .before .before .before .before .before .event-step .ensures)
 
 pub field-step-spec : {M : Type 1} → statement M
 field-step-spec =
@@ -120,6 +115,4 @@ field-step-spec =
     same-length-5
     same-length-6
     same-length-7
-    same-length-8
-    same-length-9
     returns-4)

@@ -10,11 +10,14 @@ use Rattle.text.proofs.lines.report.Tie as tie
 returns : tie.Need-returns
 returns c = turned-down _ _ _ (rw (lt-leb (c .before .before .before .args .bridges) 16 (c .if1 .taken)))
 
+mul-if2 : tie.Need-mul-if2
+mul-if2 c = search needs
+
 returns-2 : tie.Need-returns-2
-returns-2 c = turned-down _ _ _ (rw (le-leb (c .before .before .before .before .args .bridges) 16 (c .before .if1 .left), lt-leb 32 (length (c .before .before .before .before .args .rows .now)) (c .if2 .taken)))
+returns-2 c = turned-down _ _ _ (rw (le-leb (c .before .before .before .before .args .bridges) 16 (c .before .if1 .left), lt-leb _ (length (c .before .before .before .before .args .rows .now)) (c .if2 .taken)))
 
 returns-3 : tie.Need-returns-3
-returns-3 c = turned-down _ _ _ (rw (le-leb (c .before .before .before .before .before .args .bridges) 16 (c .before .before .if1 .left), le-leb 32 (length (c .before .before .before .before .before .args .rows .now)) (c .before .if2 .left), lt-leb 544 (length (c .before .before .before .before .before .args .out .now)) (c .if3 .taken)))
+returns-3 c = turned-down _ _ _ (rw (le-leb (c .before .before .before .before .before .args .bridges) 16 (c .before .before .if1 .left), le-leb _ (length (c .before .before .before .before .before .args .rows .now)) (c .before .if2 .left), lt-leb 544 (length (c .before .before .before .before .before .args .out .now)) (c .if3 .taken)))
 
 slice-aggregate-put-word : tie.Need-slice-aggregate-put-word
 slice-aggregate-put-word c = search needs
@@ -36,13 +39,14 @@ same-length c = search needs
 
 returns-4 : tie.Need-returns-4
 unfolding reportText
-returns-4 c = written _ (rw (le-leb (c .before .before .before .before .before .before .before .before .before .before .before .before .before .before .before .before .before .before .before .before .before .before .args .bridges) 16 (c .before .before .before .before .before .before .before .before .before .before .before .before .before .before .before .before .before .before .before .if1 .left), le-leb 32 (length (c .before .before .before .before .before .before .before .before .before .before .before .before .before .before .before .before .before .before .before .before .before .before .args .rows .now)) (c .before .before .before .before .before .before .before .before .before .before .before .before .before .before .before .before .before .before .if2 .left))) (c .before .before .before .before .before .before .before .before .before .before .before .before .before .before .before .before .before .if3 .left) (joined (joined (c .before .before .before .before .before .before .before .before .before .before .before .before .before .before .put-word .ensures) (joined (c .before .before .before .before .before .before .before .before .before .before .put-number .ensures .0) (c .before .before .before .before .before .before .put-byte .ensures))) (c .before .before .put-rows .ensures))
+returns-4 c = written _ (rw (le-leb (c .before .before .before .before .before .before .before .before .before .before .before .before .before .before .before .before .before .before .before .before .before .before .args .bridges) 16 (c .before .before .before .before .before .before .before .before .before .before .before .before .before .before .before .before .before .before .before .if1 .left), le-leb _ (length (c .before .before .before .before .before .before .before .before .before .before .before .before .before .before .before .before .before .before .before .before .before .before .args .rows .now)) (c .before .before .before .before .before .before .before .before .before .before .before .before .before .before .before .before .before .before .if2 .left))) (c .before .before .before .before .before .before .before .before .before .before .before .before .before .before .before .before .before .if3 .left) (joined (joined (c .before .before .before .before .before .before .before .before .before .before .before .before .before .before .put-word .ensures) (joined (c .before .before .before .before .before .before .before .before .before .before .put-number .ensures .0) (c .before .before .before .before .before .before .put-byte .ensures))) (c .before .before .put-rows .ensures))
 
 pub report-spec : {M : Type 1} → statement M
 report-spec =
     tie.close
     (tie.spec
     returns
+    mul-if2
     returns-2
     returns-3
     slice-aggregate-put-word

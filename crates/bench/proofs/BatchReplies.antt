@@ -1,0 +1,65 @@
+-- In range, an event's number is that of its call's own contract. Assumes nothing.
+use Prim.Native.Nat.{ℕ}
+use mathlib.Core.Path.{_≡_, refl, sym, _∙_}
+use mathlib.Core.Bool.{Bool, true}
+use mathlib.Core.List.{[]}
+use Rattle.distances.proofs.Booleans.{both-true}
+use Rattle.protocol.specs.Net.{Network}
+use Rattle.protocol.specs.Calls.{Call, change, update, cut, restore, send, lose, path, report, refuse, checks, changeChecks, noSuchBridge, noSuchLink, already, notOnLink, linkCut, noRoom, noMessage}
+use Rattle.bench.specs.State.{State, network, networkOf}
+use Rattle.bench.specs.Changes.{refusalOf, stateInRange, updateOf, cutOf, restoreOf}
+use Rattle.bench.specs.Flights.{sendOf, loseOf}
+use Rattle.bench.specs.Deliveries.{deliveryReady, refusedBy, deliverOf, repeatOf}
+use Rattle.bench.specs.Answers.{pathOf}
+use Rattle.bench.specs.Batches.{callOf, replyOf}
+use Rattle.bench.specs.declared.Event.{Event}
+use Rattle.bench.specs.declared.Event.the-variants.{Update, Send, Deliver, Repeat, Lose, Cut, Restore, Report, Path}
+use Rattle.bench.proofs.CallKept.{update-number, cut-number, restore-number, send-number, lose-number, deliver-number, repeat-number}
+use Rattle.bench.proofs.EntrySettled.{reply-is}
+use Rattle.bench.proofs.FlightRanges.{network-bench}
+use Rattle.bench.proofs.RangesSteps.{flightInRange, flight-of}
+use Rattle.bench.proofs.TieRefusals.{refusal-ready}
+
+module _ (s : State) (ok : deliveryReady s ≡ true) where
+  -- what a call is handed is in range, and the table's number is the same
+  number-same : (c : Call) (b : Bool) (n : Network) → b ≡ true → refuse n c ≡ refuse (network s) c → refusalOf (deliveryReady s) (network s) c ≡ refusalOf b n c
+  number-same c b n passes same = refusal-ready _ (network s) c ok ∙ sym same ∙ sym (refusal-ready b n c passes)
+
+  in-range : stateInRange s ≡ true
+  in-range = both-true (stateInRange s) _ ok .0
+
+  pub update-reply : (y t : ℕ) → replyOf s (Update y t) ≡ updateOf s y t .reply
+  unfolding replyOf
+  update-reply y t = number-same (change (update y t)) _ (network s) in-range refl ∙ sym (update-number s y t)
+
+  pub cut-reply : (l : ℕ) → replyOf s (Cut l) ≡ cutOf (s .bench) l .reply
+  unfolding replyOf refuse checks changeChecks noSuchLink already
+  cut-reply l = number-same (change (cut l)) _ (networkOf (s .bench) []) (network-bench _ _ _ _ in-range) refl ∙ sym (cut-number s l)
+
+  pub restore-reply : (l : ℕ) → replyOf s (Restore l) ≡ restoreOf (s .bench) l .reply
+  unfolding replyOf refuse checks changeChecks noSuchLink already
+  restore-reply l = number-same (change (restore l)) _ (networkOf (s .bench) []) (network-bench _ _ _ _ in-range) refl ∙ sym (restore-number s l)
+
+  pub send-reply : (y l : ℕ) → replyOf s (Send y l) ≡ sendOf (s .bench) (s .messages) y l .reply
+  unfolding replyOf refuse checks noSuchBridge noSuchLink notOnLink linkCut noRoom
+  send-reply y l = number-same (send y l) _ (networkOf (s .bench) (s .messages)) (flight-of s ok) refl ∙ sym (send-number s y l)
+
+  pub lose-reply : (p : ℕ) → replyOf s (Lose p) ≡ loseOf (s .bench) (s .messages) p .reply
+  unfolding replyOf refuse checks noMessage
+  lose-reply p = number-same (lose p) _ (networkOf (s .bench) (s .messages)) (flight-of s ok) refl ∙ sym (lose-number s p)
+
+  pub deliver-reply : (p : ℕ) → replyOf s (Deliver p) ≡ deliverOf s p .reply .number
+  unfolding replyOf
+  deliver-reply p = sym (deliver-number s p)
+
+  pub repeat-reply : (p : ℕ) → replyOf s (Repeat p) ≡ repeatOf s p .reply .number
+  unfolding replyOf
+  repeat-reply p = sym (repeat-number s p)
+
+  pub report-reply : (d : ℕ) → replyOf s (Report d) ≡ refusalOf (stateInRange s) (network s) (report d)
+  unfolding replyOf
+  report-reply d = number-same (report d) _ (network s) in-range refl
+
+  pub path-reply : (y d : ℕ) → replyOf s (Path y d) ≡ pathOf s y d .number
+  unfolding replyOf pathOf
+  path-reply y d = number-same (path y d) _ (network s) in-range refl ∙ sym (reply-is (λ o. o .number) _ refusedBy _ (λ j. refl) (λ z. refl))

@@ -1,0 +1,189 @@
+-- A list of events from its first one on, and the calls that it is. Assumes nothing.
+use Prim.Native.Nat.{ℕ, zero, suc, _+_, _-_, _≤_, _<_}
+use native.Mathlib.Omega.{arith}
+use mathlib.Core.Path.{_≡_, refl, sym, ap, _∙_}
+use mathlib.Core.Bool.{Bool, true, false, cond, false≢true}
+use mathlib.Core.List.{List, [], _∷_, _++_}
+use borrow.Author.Tests.{eqb-true, eqb-false, ltb-true, ltb-false, le-leb}
+use lib.ListN.{length, take, length-append}
+use lib.Dec.{eqb, ltb}
+use Rattle.bench.specs.State.{State}
+use Rattle.bench.specs.Whole.{stepBy, runBy}
+use Rattle.bench.specs.Deliveries.{deliveryReady, deliverOf, repeatOf}
+use Rattle.bench.specs.Answers.{pathOf}
+use Rattle.bench.specs.Batches.{callOf, replyOf, answersOf, answerSize, answerSizes, Batch, batch, happens, happensIn, runs, ran, ranOf, batchOf, callsOf, BatchesAreRuns}
+use Rattle.bench.specs.declared.Event.{Event}
+use Rattle.bench.specs.declared.Event.the-variants.{Update, Send, Deliver, Repeat, Lose, Cut, Restore, Report, Path}
+use Rattle.bench.specs.declared.Disposition.the-variants.{Complete, Refused, Full}
+use Rattle.bench.proofs.BatchReplies.{deliver-reply, repeat-reply, path-reply}
+use Rattle.bench.proofs.BatchSteps.{rows-length, delivered-length, repeated-length, path-length}
+use Rattle.bench.proofs.CallLengths.{step-kept}
+use Rattle.bench.proofs.FlightCalls.{refusal-none}
+use Rattle.bench.proofs.TieRanges.{told, plan-in-range}
+use Rattle.bench.proofs.TieRefusals.{refusal-out}
+
+-- ---- one event: it has no room, it is refused, or it is made
+
+pub data First (room : ℕ) (s : State) (e : Event) : Batch → Type 0 where
+  full : room < answerSize (s .bench .bridges) e → First room s e (batch 0 Full s [])
+  refused : (replyOf s e ≡ 0 → ⊥) → First room s e (batch 0 (Refused (replyOf s e)) s [])
+  made : replyOf s e ≡ 0 → answerSize (s .bench .bridges) e ≤ room → First room s e (batch 1 Complete (stepBy s (callOf e)) (answersOf s e))
+
+pub first-of : (room : ℕ) (s : State) (e : Event) → First room s e (happensIn room s e)
+unfolding happensIn happens
+first-of room s e = go (ltb room (answerSize (s .bench .bridges) e)) refl (eqb (replyOf s e) 0) refl
+  where
+    go :
+        (b : Bool) → ltb room (answerSize (s .bench .bridges) e) ≡ b → (c : Bool) → eqb (replyOf s e) 0 ≡ c →
+        First room s e (cond b (batch 0 Full s []) (cond c (batch 1 Complete (stepBy s (callOf e)) (answersOf s e)) (batch 0 (Refused (replyOf s e)) s [])))
+    go true p c q = full (ltb-true _ _ p)
+    go false p true q = made (eqb-true _ 0 q) (ltb-false _ _ p)
+    go false p false q = refused (eqb-false _ 0 q)
+
+-- a state that an event is accepted in is in range
+pub accepted-ready : (s : State) (e : Event) → replyOf s e ≡ 0 → deliveryReady s ≡ true
+unfolding replyOf
+accepted-ready s e none = refusal-none _ _ (callOf e) none .0
+
+-- and has document 01's number of bridges
+pub accepted-bridges : (s : State) (e : Event) → replyOf s e ≡ 0 → (2 ≤ s .bench .bridges) × (s .bench .bridges ≤ 16)
+accepted-bridges s e none =
+    let graph = plan-in-range (s .bench) (s .costs) (told s (accepted-ready s e none) .lasting) .graph in
+    (graph .least, graph .most)
+
+-- in range 32 numbers have room for any answer
+pub size-few : (s : State) (e : Event) → deliveryReady s ≡ true → answerSize (s .bench .bridges) e ≤ 32
+unfolding answerSize
+size-few s (Update b t) ok = omega arith
+size-few s (Send b l) ok = omega arith
+size-few s (Deliver p) ok = omega arith
+size-few s (Repeat p) ok = omega arith
+size-few s (Lose p) ok = omega arith
+size-few s (Cut l) ok = omega arith
+size-few s (Restore l) ok = omega arith
+size-few s (Report d) ok = omega (arith, plan-in-range (s .bench) (s .costs) (told s ok .lasting) .graph .most)
+size-few s (Path y d) ok = omega arith
+
+-- out of range every event is refused with 17
+pub refused-out : (s : State) (e : Event) → deliveryReady s ≡ false → replyOf s e ≡ 17
+unfolding replyOf
+refused-out s e out = sym (refusal-out _ _ (callOf e) out)
+
+-- its answers are as many as it has room for
+pub answers-length : (s : State) (e : Event) → replyOf s e ≡ 0 → length (answersOf s e) ≡ answerSize (s .bench .bridges) e
+unfolding answersOf answerSize
+answers-length s (Update b t) none = refl
+answers-length s (Send b l) none = refl
+answers-length s (Deliver p) none = delivered-length s p (sym (deliver-reply s (accepted-ready s (Deliver p) none) p) ∙ none)
+answers-length s (Repeat p) none = repeated-length s p (sym (repeat-reply s (accepted-ready s (Repeat p) none) p) ∙ none)
+answers-length s (Lose p) none = refl
+answers-length s (Cut l) none = refl
+answers-length s (Restore l) none = refl
+answers-length s (Report d) none = rows-length s d (s .bench .bridges)
+answers-length s (Path y d) none = path-length s y d (sym (path-reply s (accepted-ready s (Path y d) none) y d) ∙ none)
+
+-- ---- the list
+
+pub runs-none : (room : ℕ) (s : State) → runs room s [] ≡ batch 0 Complete s []
+unfolding runs
+runs-none room s = refl
+
+-- what follows an event that was made
+abbrev pub following : ℕ → State → Event → List Event → Batch
+following room s e es = runs (room - length (answersOf s e)) (stepBy s (callOf e)) es
+
+module _ (room : ℕ) (s : State) (e : Event) (es : List Event) where
+  pub runs-made :
+      happensIn room s e ≡ batch 1 Complete (stepBy s (callOf e)) (answersOf s e) →
+      let b : Batch = following room s e es in
+      runs room s (e ∷ es) ≡ batch (suc (b .made)) (b .disposition) (b .state) (answersOf s e ++ b .answers)
+  unfolding runs
+  runs-made is = rw is
+
+  pub runs-unmade : (b : Batch) → happensIn room s e ≡ b → b .made ≡ 0 → runs room s (e ∷ es) ≡ b
+  unfolding runs
+  runs-unmade b is none = rw (is, none)
+
+-- the calls of the events that were made, and their answers
+pub batches-are-runs : BatchesAreRuns
+unfolding runBy callsOf answerSizes runs
+batches-are-runs room s [] = (refl, refl)
+batches-are-runs room s (e ∷ es) =
+    go (batches-are-runs (room - length (answersOf s e)) (stepBy s (callOf e)) es) (happensIn room s e) refl (first-of room s e)
+  where
+    Is : Batch → Type 0
+    Is b = (b .state ≡ runBy s (callsOf (take (b .made) (e ∷ es)))) × (length (b .answers) ≡ answerSizes (s .bench .bridges) (take (b .made) (e ∷ es)))
+
+    then : Batch
+    then = following room s e es
+
+    Later : Type 0
+    Later =
+        (then .state ≡ runBy (stepBy s (callOf e)) (callsOf (take (then .made) es)))
+        × (length (then .answers) ≡ answerSizes (stepBy s (callOf e) .bench .bridges) (take (then .made) es))
+
+    go : Later → (b : Batch) → happensIn room s e ≡ b → First room s e b → Is (runs room s (e ∷ es))
+    go later b is (full few) = rw (runs-unmade room s e es b is refl) (refl, refl)
+    go later b is (refused some) = rw (runs-unmade room s e es b is refl) (refl, refl)
+    go later b is (made none fits) =
+        let kept = step-kept s (callOf e) in
+        rw (runs-made room s e es is) (
+          later .0,
+          length-append (answersOf s e) (then .answers)
+              ∙ omega (arith, answers-length s e none, later .1 ∙ ap (λ (n : ℕ). answerSizes n (take (then .made) es)) (kept .bridges)),
+        )
+
+-- no more numbers are answered with than there is room for
+pub answers-within : (room : ℕ) (s : State) (es : List Event) → length (runs room s es .answers) ≤ room
+answers-within room s [] = rw runs-none (omega arith)
+answers-within room s (e ∷ es) = go (answers-within (room - length (answersOf s e)) (stepBy s (callOf e)) es) (happensIn room s e) refl (first-of room s e)
+  where
+    then : Batch
+    then = following room s e es
+
+    go : length (then .answers) ≤ room - length (answersOf s e) → (b : Batch) → happensIn room s e ≡ b → First room s e b → length (runs room s (e ∷ es) .answers) ≤ room
+    go later b is (full few) = rw (runs-unmade room s e es b is refl) (omega arith)
+    go later b is (refused some) = rw (runs-unmade room s e es b is refl) (omega arith)
+    go later b is (made none fits) =
+        rw (runs-made room s e es is)
+        (omega (arith, later, fits, answers-length s e none, length-append (answersOf s e) (then .answers)))
+
+-- no more are made than there are
+pub runs-few : (room : ℕ) (s : State) (es : List Event) → runs room s es .made ≤ length es
+runs-few room s [] = rw runs-none (omega arith)
+runs-few room s (e ∷ es) = go (runs-few (room - length (answersOf s e)) (stepBy s (callOf e)) es) (happensIn room s e) refl (first-of room s e)
+  where
+    go : following room s e es .made ≤ length es → (b : Batch) → happensIn room s e ≡ b → First room s e b → runs room s (e ∷ es) .made ≤ length (e ∷ es)
+    go later b is (full few) = rw (runs-unmade room s e es b is refl) (omega arith)
+    go later b is (refused some) = rw (runs-unmade room s e es b is refl) (omega arith)
+    go later b is (made none fits) = rw (runs-made room s e es is) (omega (arith, later))
+
+-- a list of which no event was made leaves the state
+pub runs-unchanged : (room : ℕ) (s : State) (es : List Event) → runs room s es .made ≡ 0 → runs room s es .state ≡ s
+unfolding runBy callsOf
+runs-unchanged room s es none = batches-are-runs room s es .0 ∙ rw none
+
+-- the parts of the outcome, in range and out of range
+module _ (s : State) (events : List Event) (count : ℕ) (answers : List ℕ) where
+  pub batch-in : deliveryReady s ≡ true → count ≤ length events → batchOf s events count answers ≡ ranOf (runs (length answers) s (take count events)) answers
+  unfolding batchOf
+  batch-in ok few = rw (ok, le-leb count (length events) few)
+
+  pub batch-out : deliveryReady s ≡ false → batchOf s events count answers ≡ ran 0 0 (Refused 17) s answers
+  unfolding batchOf
+  batch-out out = rw out
+
+  -- out of range the first event is refused, if its answer has room
+  pub batch-first :
+      (e : Event) (es : List Event) → take count events ≡ e ∷ es → count ≤ length events → answerSize (s .bench .bridges) e ≤ length answers →
+      batchOf s events count answers ≡ ranOf (runs (length answers) s (take count events)) answers
+  batch-first e es head few room = go (deliveryReady s) refl
+    where
+      refused-first : deliveryReady s ≡ false → (b : Batch) → happensIn (length answers) s e ≡ b → First (length answers) s e b → ran 0 0 (Refused 17) s answers ≡ ranOf (runs (length answers) s (e ∷ es)) answers
+      refused-first q b is (full less) = absurd (omega (arith, less, room))
+      refused-first q b is (refused some) = rw (runs-unmade (length answers) s e es b is refl, refused-out s e q)
+      refused-first q b is (made none fits) = absurd (false≢true (sym q ∙ accepted-ready s e none))
+
+      go : (b : Bool) → deliveryReady s ≡ b → batchOf s events count answers ≡ ranOf (runs (length answers) s (take count events)) answers
+      go true q = batch-in q few
+      go false q = rw (batch-out q, head) (refused-first q (happensIn (length answers) s e) refl (first-of (length answers) s e))

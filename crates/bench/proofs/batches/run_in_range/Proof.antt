@@ -1,0 +1,205 @@
+-- `batches::run_in_range` meets its contract: the events go on from one to the next as the definition's do. Assumes nothing.
+use Prim.Native.Nat.{ℕ, _≤_, _<_, _+_, _*_}
+use native.Mathlib.Omega.{arith}
+use mathlib.Core.Path.{_≡_, refl, sym, _∙_}
+use mathlib.Core.Bool.{Bool, true, false, _&&_}
+use mathlib.Core.List.{List, _++_}
+use borrow.Author.Tests.{ltb-true, ltb-false}
+use lib.ListN.{length, take}
+use lib.Seq.{length-take-le, getD-take}
+use lib.Dec.{ltb, eqb}
+use Rattle.distances.proofs.Booleans.{both-true}
+use Rattle.bench.specs.State.{State, state}
+use Rattle.bench.specs.Deliveries.{deliveryReady}
+use Rattle.bench.specs.Batches.{runs, Batch}
+use Rattle.bench.specs.Steps.{Tables}
+use Rattle.bench.specs.declared.Bench.{Bench}
+use Rattle.bench.proofs.BatchTurns.{Underway, left, begins, turned, ended, shrinks, behind-all, none-behind}
+use Rattle.bench.proofs.TableSteps.{tables-none}
+use Rattle.bench.proofs.TieRanges.{told, few}
+use Rattle.bench.proofs.ChangeSteps.{length-mapped}
+use borrow.Author.Needs.{needs}
+use mir.Syntax.{w64}
+use mir.Val.{Fits}
+use native.Mathlib.Nat.{lt-of-lt-of-le, le-refl}
+use Rattle.bench.specs.declared.Event.{Event}
+use Rattle.bench.proofs.batches.run_in_range.Statement.{statement}
+use Rattle.bench.proofs.batches.run_in_range.Tie as tie
+
+abbrev Inv-loop : tie.InvT-loop
+Inv-loop costs sent₀ held₀ flight₀ count answers₀ events tables₀ known₀ current₀ how₀ made₀ answered₀ going₀ sent held flight answers tables known current how made answered going =
+    Underway (runs (length answers₀) (state current₀ costs sent₀ held₀ flight₀) (take count events)) (take count events) answers₀
+    (state current costs sent held flight) made answered answers going how
+    × (deliveryReady (state current costs sent held flight) ≡ true)
+    × Tables current costs tables known
+    × (length sent ≡ length sent₀)
+    × (length held ≡ length held₀)
+    × (length flight ≡ length flight₀)
+
+abbrev μ-loop : tie.MeasureT-loop
+μ-loop costs sent₀ held₀ flight₀ count answers₀ events tables₀ known₀ current₀ how₀ made₀ answered₀ going₀ sent held flight answers tables known current how made answered going =
+    left count made going
+
+-- a start of the loop
+abbrev Begun : Type 0
+Begun = tie.Start Inv-loop μ-loop
+
+-- the events, as many as are counted
+abbrev listed : Begun → List Event
+listed s = take (s .args .count) (s .args .t6)
+
+counted : (s : Begun) → length (listed s) ≡ s .args .count
+counted s =
+    let all : length (s .args .t6) ≡ 2048 = search (needs, length-mapped) in
+    length-take-le (s .args .count) (s .args .t6) (rw all (s .pre .1))
+
+-- the state, with what the loop changes
+abbrev At : Begun → Bench → List ℕ → List ℕ → List ℕ → State
+At s current sent held flight = state current (s .args .costs .now) sent held flight
+
+-- what the whole list comes to
+abbrev Whole : Begun → Batch
+Whole s = runs (length (s .args .answers .now)) (At s (s .args .bench) (s .args .sent .now) (s .args .held .now) (s .args .flight .now)) (listed s)
+
+-- a number of answers fits, and so does their size
+answers-fit : (s : Begun) {n : ℕ} → n ≤ length (s .args .answers .now) → Fits w64 n
+answers-fit s h = omega (arith, s .good)
+
+answers-scaled : (s : Begun) {n : ℕ} → n ≤ length (s .args .answers .now) → Fits w64 (n * 4)
+answers-scaled s h = omega (arith, s .good)
+
+made-fits : {made count : ℕ} → made ≤ count → count ≤ 2048 → Fits w64 made
+made-fits h few = omega arith
+
+event-scaled : {made count : ℕ} → made < count → count ≤ 2048 → Fits w64 (made * 3)
+event-scaled h few = omega arith
+
+goes : {b going : Bool} {made count : ℕ} → b ≡ (going && ltb made count) → b ≡ true → (going ≡ true) × (made < count)
+goes e taken = let h = both-true _ _ (sym e ∙ taken) in (h .0, ltb-true _ _ (h .1))
+
+past : {b going : Bool} {made count : ℕ} → b ≡ (going && ltb made count) → b ≡ false → going ≡ true → count ≤ made
+past {made} {count} e over on = ltb-false made count (rw on at (sym e ∙ over))
+
+-- a turn is made while the list goes on and has an event more
+going : (t : tie.Then1 Inv-loop μ-loop) → (t .before .before .loop .going ≡ true) × (t .before .before .loop .made < t .before .before .before .before .before .before .before .before .args .count)
+going t =
+    goes {going = t .before .before .loop .going} {made = t .before .before .loop .made} {count = t .before .before .before .before .before .before .before .before .args .count} (t .before .both .ensures)
+    (t .if1 .taken)
+
+-- what it leaves
+turn : (t : tie.After-carry-out-in Inv-loop μ-loop) →
+    let s : Begun = t .before .before .before .before .before .before .before .before .before .before .before .before .before .before .before .before in
+    Underway (Whole s) (listed s) (s .args .answers .now)
+    (At s (t .carry-out-in .result .bench) (t .carry-out-in .last .1 .1 .1 .1 .0) (t .carry-out-in .last .1 .1 .1 .1 .1 .0) (t .carry-out-in .last .1 .1 .1 .1 .1 .1 .0))
+    (t .before .before .before .before .before .before .before .before .before .before .loop .made + t .carry-out-in .result .made)
+    (t .before .before .before .before .before .before .before .before .before .before .loop .answered + t .carry-out-in .result .answered)
+    (take (t .before .before .before .before .before .before .before .before .before .before .loop .answered) (t .before .before .before .before .before .before .before .before .before .before .loop .answers) ++ t .carry-out-in .last .1 .1 .1 .1 .1 .1 .1 .1 .0)
+    (eqb (t .carry-out-in .result .made) 1)
+    (t .carry-out-in .result .disposition)
+turn t =
+    let s : Begun = t .before .before .before .before .before .before .before .before .before .before .before .before .before .before .before .before in
+    let l = t .before .before .before .before .before .before .before .before .before .before .loop in
+    let go = going (t .before .before .before .before .before .before .before .before) in
+    turned (Whole s) (listed s) (s .args .answers .now) (At s (l .current) (l .sent) (l .held) (l .flight)) (l .made) (l .answered) (l .answers) (l .how) (rw (go .0) at (l .inv .0)) _ _
+    (sym (getD-take (s .args .count) (s .args .t6) (l .made) _ (go .1))) (rw (counted s) (go .1)) _ _ (behind-all (l .answers) (l .answered)) (t .carry-out-in .kept .1 .1 .1 .1 .1 .1 .1 .1 .0)
+    (t .carry-out-in .ensures .0)
+
+loop-holds : tie.Need-loop-holds Inv-loop μ-loop
+loop-holds c = (begins _ _ _, c .before .before .before .before .before .pre .0, tables-none _ _, refl, refl, refl)
+
+both-requires : tie.Need-both-requires Inv-loop μ-loop
+both-requires c κs = tt
+
+mul-event : tie.Need-mul-event Inv-loop μ-loop
+mul-event c = event-scaled (going c .1) (c .before .before .before .before .before .before .before .before .pre .1)
+
+array-copy-out-event : tie.Need-array-copy-out-event Inv-loop μ-loop
+array-copy-out-event c = lt-of-lt-of-le (going c .1) (c .before .before .before .before .before .before .before .before .pre .1)
+
+slice-aggregate-carry-out-in : tie.Need-slice-aggregate-carry-out-in Inv-loop μ-loop
+slice-aggregate-carry-out-in c = sym (c .before .before .before .before .loop .inv .2 .long)
+
+slice-aggregate-carry-out-in-2 : tie.Need-slice-aggregate-carry-out-in-2 Inv-loop μ-loop
+slice-aggregate-carry-out-in-2 c = sym (c .before .before .before .before .before .loop .inv .2 .flags)
+
+mul-carry-out-in : tie.Need-mul-carry-out-in Inv-loop μ-loop
+mul-carry-out-in c = answers-scaled (c .before .before .before .before .before .before .before .before .before .before .before .before .before .before) (c .before .before .before .before .before .before .before .before .loop .inv .0 .within)
+
+sub-carry-out-in : tie.Need-sub-carry-out-in Inv-loop μ-loop
+sub-carry-out-in c = rw (c .before .before .before .before .before .before .before .before .loop .inv .0 .long) (c .before .before .before .before .before .before .before .before .loop .inv .0 .within)
+
+part-carry-out-in-start : tie.Need-part-carry-out-in-start Inv-loop μ-loop
+part-carry-out-in-start c = rw (c .before .before .before .before .before .before .before .before .loop .inv .0 .long) (c .before .before .before .before .before .before .before .before .loop .inv .0 .within)
+
+part-carry-out-in-end : tie.Need-part-carry-out-in-end Inv-loop μ-loop
+part-carry-out-in-end c = le-refl _
+
+carry-out-in-requires : tie.Need-carry-out-in-requires Inv-loop μ-loop
+carry-out-in-requires c κs =
+    let now = At (c .before .before .before .before .before .before .before .before .before .before .before .before .before .before .before) (c .before .before .before .before .before .before .before .before .before .loop .current) (c .before .before .before .before .before .before .before .before .before .loop .sent) (c .before .before .before .before .before .before .before .before .before .loop .held) (c .before .before .before .before .before .before .before .before .before .loop .flight) in
+    (c .before .before .before .before .before .before .before .before .before .loop .inv .1, (few (c .before .before .before .before .before .before .before .before .before .loop .current) (c .before .before .before .before .before .before .before .before .before .before .before .before .before .before .before .args .costs .now) (told now (c .before .before .before .before .before .before .before .before .before .loop .inv .1) .lasting) .0, c .before .before .before .before .before .before .before .before .before .loop .inv .2))
+
+add-answered : tie.Need-add-answered Inv-loop μ-loop
+add-answered c = answers-fit (c .before .before .before .before .before .before .before .before .before .before .before .before .before .before .before .before .before .before .before .before .before .before .before .before .before .before .before .before) (turn (c .before .before .before .before .before .before .before .before .before .before .before .before) .within)
+
+add-made : tie.Need-add-made Inv-loop μ-loop
+add-made c = made-fits (turn (c .before .before .before .before .before .before .before .before .before .before .before .before .before) .few) (rw (counted (c .before .before .before .before .before .before .before .before .before .before .before .before .before .before .before .before .before .before .before .before .before .before .before .before .before .before .before .before .before)) (c .before .before .before .before .before .before .before .before .before .before .before .before .before .before .before .before .before .before .before .before .before .before .before .before .before .before .before .before .before .pre .1))
+
+loop-less : tie.Need-loop-less Inv-loop μ-loop
+loop-less c = rw (going (c .before .before .before .before .before .before .before .before .before .before .before .before .before .before .before .before .before .before .before .before .before .before) .0) (shrinks (c .before .before .before .before .before .before .before .before .before .before .before .before .before .before .before .before .before .before .before .before .before .before .before .before .before .before .before .before .before .before .args .count) (c .before .before .before .before .before .before .before .before .before .before .before .before .before .before .before .before .before .before .before .before .before .before .before .before .loop .made) (c .before .before .before .before .before .before .before .before .before .before .before .before .before .before .carry-out-in .result .made) (going (c .before .before .before .before .before .before .before .before .before .before .before .before .before .before .before .before .before .before .before .before .before .before) .1))
+
+loop-again : tie.Need-loop-again Inv-loop μ-loop
+loop-again c =
+    let l = c .before .before .before .before .before .before .before .before .before .before .before .before .before .before .before .before .before .before .before .before .before .before .before .before .loop in
+    let done = c .before .before .before .before .before .before .before .before .before .before .before .before .before .before .carry-out-in in (
+      rw (none-behind (l .answers) _ (l .answered)) (turn (c .before .before .before .before .before .before .before .before .before .before .before .before .before .before)),
+      done .ensures .0 .ready,
+      done .ensures .1,
+      done .kept .1 .1 .1 .1 .0 ∙ l .inv .3,
+      done .kept .1 .1 .1 .1 .1 .0 ∙ l .inv .4,
+      done .kept .1 .1 .1 .1 .1 .1 .0 ∙ l .inv .5,
+    )
+
+same-length : tie.Need-same-length Inv-loop μ-loop
+same-length c = c .before .before .loop .inv .3
+
+same-length-2 : tie.Need-same-length-2 Inv-loop μ-loop
+same-length-2 c = c .before .before .loop .inv .4
+
+same-length-3 : tie.Need-same-length-3 Inv-loop μ-loop
+same-length-3 c = c .before .before .loop .inv .5
+
+same-length-4 : tie.Need-same-length-4 Inv-loop μ-loop
+same-length-4 c = c .before .before .loop .inv .0 .long
+
+returns : tie.Need-returns Inv-loop μ-loop
+returns c =
+    ended _ _ _ _ _ _ _ _ _ (c .before .before .loop .inv .0)
+    (λ on. rw (counted (c .before .before .before .before .before .before .before .before)) (past {going = c .before .before .loop .going} {made = c .before .before .loop .made} {count = c .before .before .before .before .before .before .before .before .args .count} (c .before .both .ensures) (c .if1 .left) on))
+
+pub run-in-range-spec : {M : Type 1} → statement M
+run-in-range-spec =
+    tie.close
+    (tie.spec
+    Inv-loop
+    μ-loop
+    loop-holds
+    both-requires
+    mul-event
+    array-copy-out-event
+    slice-aggregate-carry-out-in
+    slice-aggregate-carry-out-in-2
+    mul-carry-out-in
+    sub-carry-out-in
+    part-carry-out-in-start
+    part-carry-out-in-end
+    carry-out-in-requires
+    add-answered
+    add-made
+    loop-less
+    loop-again
+    same-length
+    same-length-2
+    same-length-3
+    same-length-4
+    returns)

@@ -1,0 +1,157 @@
+-- A list of events as calls, made one after the other up to the first that is refused or whose answer has no room. Assumes nothing.
+use Prim.Native.Nat.{ℕ, zero, suc, _+_, _-_, _*_}
+use mathlib.Core.Path.{_≡_}
+use mathlib.Core.Bool.{Bool, cond, _&&_}
+use mathlib.Core.List.{List, [], _∷_, _++_}
+use lib.ListN.{length, take, drop, getD}
+use lib.Dec.{eqb, leb, ltb}
+use Rattle.distances.specs.Table.{cell}
+use Rattle.agreement.specs.declared.Answer.{Answer}
+use Rattle.agreement.specs.declared.Answer.the-variants.{Stale, Agreed, Noted}
+use Rattle.bench.specs.declared.Event.{Event}
+use Rattle.bench.specs.declared.Event.the-variants.{Update, Send, Deliver, Repeat, Lose, Cut, Restore, Report, Path}
+use Rattle.protocol.specs.Calls.{Call, change, update, cut, restore, send, deliver, repeat, lose, report, path}
+use Rattle.protocol.specs.Paths as paths
+use Rattle.bench.specs.State.{State, network, lentView}
+use Rattle.bench.specs.Changes.{refusalOf, orRefused}
+use Rattle.bench.specs.Deliveries.{deliveryReady, deliverOf, repeatOf}
+use Rattle.bench.specs.Answers.{linkNumber, portIn, pathOf}
+use Rattle.bench.specs.Whole.{stepBy, runBy}
+use Rattle.bench.specs.declared.Disposition.{Disposition}
+use Rattle.bench.specs.declared.Disposition.the-variants.{Complete, Refused, Full}
+
+-- the call that an event is
+abbrev pub callOf : Event → Call
+callOf (Update b t) = change (update b t)
+callOf (Send b l) = send b l
+callOf (Deliver p) = deliver p
+callOf (Repeat p) = repeat p
+callOf (Lose p) = lose p
+callOf (Cut l) = change (cut l)
+callOf (Restore l) = change (restore l)
+callOf (Report d) = report d
+callOf (Path s d) = path s d
+
+-- its number in document 01, 0 where it is accepted: 17 where the state is out of range, then the table's checks of the call
+unfoldable pub replyOf : State → Event → ℕ
+replyOf s e = refusalOf (deliveryReady s) (network s) (callOf e)
+
+-- a report's rows: for each bridge below k its distance to d in its own view and its link, NONE for no port
+unfoldable pub reportRows : State → ℕ → ℕ → List ℕ
+reportRows s d zero = []
+reportRows s d (suc y) =
+    reportRows s d y
+    ++ (cell (lentView (s .bench) (s .costs) (getD (s .bench .view) y 0) .table) y d ∷ linkNumber (portIn s y d) ∷ [])
+
+-- what a delivery answered, in three numbers: 0 stale; 1 agreed, 2 noted, with the number and the view taken
+abbrev pub answerNumbers : Answer → List ℕ
+answerNumbers Stale = 0 ∷ 0 ∷ 0 ∷ []
+answerNumbers (Agreed n v) = 1 ∷ n ∷ v ∷ []
+answerNumbers (Noted n v) = 2 ∷ n ∷ v ∷ []
+
+unfoldable pub answeredNumbers : List Answer → List ℕ
+answeredNumbers [] = []
+answeredNumbers (a ∷ rest) = answerNumbers a
+
+-- a path in three numbers: 0, 0 and the hops where it is delivered; 1, the last bridge and the hops where it stops
+unfoldable pub wayNumbers : List paths.Way → List ℕ
+wayNumbers [] = []
+wayNumbers (paths.delivered h ∷ ws) = 0 ∷ 0 ∷ h ∷ []
+wayNumbers (paths.stops b h ∷ ws) = 1 ∷ b ∷ h ∷ []
+
+-- the numbers that an accepted event answers with
+unfoldable pub answersOf : State → Event → List ℕ
+answersOf s (Update b t) = []
+answersOf s (Send b l) = []
+answersOf s (Deliver p) = answeredNumbers (deliverOf s p .reply .value)
+answersOf s (Repeat p) = answeredNumbers (repeatOf s p .reply .value)
+answersOf s (Lose p) = []
+answersOf s (Cut l) = []
+answersOf s (Restore l) = []
+answersOf s (Report d) = reportRows s d (s .bench .bridges)
+answersOf s (Path y d) = wayNumbers (pathOf s y d .value)
+
+-- how many they are, with so many bridges
+unfoldable pub answerSize : ℕ → Event → ℕ
+answerSize bridges (Update b t) = 0
+answerSize bridges (Send b l) = 0
+answerSize bridges (Deliver p) = 3
+answerSize bridges (Repeat p) = 3
+answerSize bridges (Lose p) = 0
+answerSize bridges (Cut l) = 0
+answerSize bridges (Restore l) = 0
+answerSize bridges (Report d) = 2 * bridges
+answerSize bridges (Path y d) = 3
+
+-- of so many events
+unfoldable pub answerSizes : ℕ → List Event → ℕ
+answerSizes bridges [] = 0
+answerSizes bridges (e ∷ es) = answerSize bridges e + answerSizes bridges es
+
+-- after a list of calls: how many were made, why it ended, the state, and the answers one behind the other
+pub record Batch : Type 0 where
+  pub made : ℕ
+  pub disposition : Disposition
+  pub state : State
+  pub answers : List ℕ
+
+abbrev pub batch : ℕ → Disposition → State → List ℕ → Batch
+batch made disposition s answers = record { made = made; disposition = disposition; state = s; answers = answers }
+
+-- document 01's number of the event that was refused, 0 where a list ended otherwise
+abbrev pub refusalIn : Disposition → ℕ
+refusalIn Complete = 0
+refusalIn (Refused k) = k
+refusalIn Full = 0
+
+-- one event: refused, it changes nothing
+unfoldable pub happens : State → Event → Batch
+happens s e =
+    orRefused (replyOf s e) (λ k. batch 0 (Refused k) s []) (batch 1 Complete (stepBy s (callOf e)) (answersOf s e))
+
+-- where its answer has room
+unfoldable pub happensIn : ℕ → State → Event → Batch
+happensIn room s e = cond (ltb room (answerSize (s .bench .bridges) e)) (batch 0 Full s []) (happens s e)
+
+-- one after the other, with room for so many numbers
+unfoldable pub runs : ℕ → State → List Event → Batch
+runs room s [] = batch 0 Complete s []
+runs room s (e ∷ es) =
+    let first : Batch = happensIn room s e in
+    let then : Batch = runs (room - length (first .answers)) (first .state) es in
+    cond (eqb (first .made) 0) first (batch (suc (then .made)) (then .disposition) (then .state) (first .answers ++ then .answers))
+
+-- the counts, why it ended, the state, and the lent numbers
+pub record Ran : Type 0 where
+  pub made : ℕ
+  pub answered : ℕ
+  pub disposition : Disposition
+  pub state : State
+  pub answers : List ℕ
+
+abbrev pub ran : ℕ → ℕ → Disposition → State → List ℕ → Ran
+ran made answered disposition s answers =
+    record { made = made; answered = answered; disposition = disposition; state = s; answers = answers }
+
+-- the answers stand at the head of the lent numbers, and the others are as they were
+abbrev pub ranOf : Batch → List ℕ → Ran
+ranOf b answers =
+    ran (b .made) (length (b .answers)) (b .disposition) (b .state) (b .answers ++ drop (length (b .answers)) answers)
+
+-- the first `count` of a list of events: 17 where the state is out of range or there are fewer, and then nothing is changed
+unfoldable pub batchOf : State → List Event → ℕ → List ℕ → Ran
+batchOf s events count answers =
+    cond (deliveryReady s && leb count (length events)) (ranOf (runs (length answers) s (take count events)) answers)
+    (ran 0 0 (Refused 17) s answers)
+
+-- the calls of so many events, in order
+unfoldable pub callsOf : List Event → List Call
+callsOf [] = []
+callsOf (e ∷ es) = callOf e ∷ callsOf es
+
+-- the state after a list is that after the calls of the events that were made, in that order: what is said of lists of calls is said of it
+abbrev pub BatchesAreRuns : Type 0
+BatchesAreRuns =
+    (room : ℕ) (s : State) (es : List Event) →
+    let b : Batch = runs room s es in
+    (b .state ≡ runBy s (callsOf (take (b .made) es))) × (length (b .answers) ≡ answerSizes (s .bench .bridges) (take (b .made) es))

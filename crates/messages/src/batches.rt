@@ -1,0 +1,98 @@
+// A list of events over message structs: the bench's list, run on the messages' numbers.
+use crate::Message;
+use crate::copies;
+use crate::decisions::room;
+use crate::numbers::numbers_in;
+use crate::plain::messages_in;
+use bench::BatchResult;
+use bench::Bench;
+use bench::Event;
+ghost use mathlib.Core.Path.{_≡_};
+ghost use lib.ListN.{length, drop, replicate};
+ghost use Rattle.bench.specs.State.{state};
+ghost use Rattle.bench.specs.Batches.{ran, batchOf};
+ghost use Rattle.messages.specs.Slices.{numbersIn, flight};
+ghost use Rattle.messages.specs.Steps.{took};
+
+const MOST_EVENTS: usize = 2048;
+
+// A list that was run, beside the messages that are then in flight.
+pub struct RanMessages {
+    pub ran: BatchResult,
+    pub messages: [Message; 64],
+}
+
+// No message in flight.
+pub fn no_messages() -> [Message; 64]
+    ensures { λ r. ⌜ numbersIn r ≡ replicate 320 0 ⌝ }
+{
+    messages_in([0u32; 320])
+}
+
+// The list on the numbers of a slice of `len` messages: only those that the slice has room for are lent to the bench.
+pub(crate) fn run_numbers(
+    bench: Bench,
+    costs: &[u32],
+    sent: &mut [u32],
+    held: &mut [u32],
+    numbers: &mut [u32],
+    events: [Event; MOST_EVENTS],
+    count: usize,
+    answers: &mut [u32],
+    len: usize,
+) -> BatchResult
+    requires { ⌜ length (now numbers) ≡ 320 ⌝ }
+    ensures { λ r. ⌜ ran (r .made) (r .answered) (r .disposition) (state (r .bench) (now (costs .entry)) (now (sent .exit)) (now (held .exit)) (took len (now (numbers .exit)))) (now (answers .exit)) ≡ batchOf (state bench (now (costs .entry)) (now (sent .entry)) (now (held .entry)) (took len (now (numbers .entry)))) events count (now (answers .entry)) ⌝ }
+{
+    let taken = &mut numbers[..5 * room(len)];
+    bench::batches::run(bench, costs, sent, held, taken, events, count, answers)
+}
+
+// The list over a lent slice: its messages are read once before the list, and written once after it.
+pub fn run(
+    bench: Bench,
+    costs: &[u32],
+    sent: &mut [u32],
+    held: &mut [u32],
+    ms: &mut [Message],
+    events: [Event; MOST_EVENTS],
+    count: usize,
+    answers: &mut [u32],
+) -> BatchResult
+    ensures { λ r. ⌜ ran (r .made) (r .answered) (r .disposition) (state (r .bench) (now (costs .entry)) (now (sent .exit)) (now (held .exit)) (flight (now (ms .exit)))) (now (answers .exit)) ≡ batchOf (state bench (now (costs .entry)) (now (sent .entry)) (now (held .entry)) (flight (now (ms .entry)))) events count (now (answers .entry)) ⌝ }
+    ensures { λ _. ⌜ drop 64 (now (ms .exit)) ≡ drop 64 (now (ms .entry)) ⌝ }
+{
+    let mut numbers = numbers_in(ms);
+    let len = ms.len();
+    let ran = run_numbers(
+        bench,
+        costs,
+        sent,
+        held,
+        &mut numbers,
+        events,
+        count,
+        answers,
+        len,
+    );
+    copies::append(ms, &numbers, 0, room(len));
+    ran
+}
+
+// The list for whoever keeps the messages by value, and lends no slice of structs itself.
+pub fn run_by_value(
+    bench: Bench,
+    costs: &[u32],
+    sent: &mut [u32],
+    held: &mut [u32],
+    messages: [Message; 64],
+    events: [Event; MOST_EVENTS],
+    count: usize,
+    answers: &mut [u32],
+) -> RanMessages
+    ensures { λ r. ⌜ ran (r .ran .made) (r .ran .answered) (r .ran .disposition) (state (r .ran .bench) (now (costs .entry)) (now (sent .exit)) (now (held .exit)) (numbersIn (r .messages))) (now (answers .exit)) ≡ batchOf (state bench (now (costs .entry)) (now (sent .entry)) (now (held .entry)) (numbersIn messages)) events count (now (answers .entry)) ⌝ }
+{
+    let mut ms = messages;
+    let ran = run(bench, costs, sent, held, &mut ms, events, count, answers);
+    RanMessages { ran, messages: ms }
+}

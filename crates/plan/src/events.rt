@@ -1,0 +1,131 @@
+// The events at the head of the bytes that are left, read once for a list of calls.
+use crate::Field;
+use crate::Progress;
+use crate::Read;
+use crate::fields::read_field;
+use crate::sizes::MOST_EVENTS;
+use bench::Bench;
+use bench::Event;
+use distances::ready::both;
+ghost use mathlib.Core.Path.{_≡_};
+ghost use mathlib.Core.Bool.{cond};
+ghost use Prim.Native.Nat.{suc, _<_};
+ghost use lib.ListN.{length};
+ghost use lib.Dec.{eqb};
+ghost use Rattle.plan.specs.Events.{mostListed, listing, eventsReply, listProgress, bytesBy};
+ghost use Rattle.plan.specs.Steps.{noEvent, nextEvent};
+
+// The next event, the bytes that it takes and the numbers that it answers with; no bytes where a list goes no further.
+pub(crate) struct NextEvent {
+    pub(crate) event: Event,
+    pub(crate) used: usize,
+    pub(crate) size: usize,
+}
+
+fn no_event() -> NextEvent
+    ensures { λ r. ⌜ r ≡ noEvent ⌝ }
+{
+    NextEvent {
+        event: Event::Lose(0),
+        used: 0,
+        size: 0,
+    }
+}
+
+// The event at the head, if the numbers that it answers with have room.
+fn next_event(rest: &[u8], p: Progress, room: usize) -> NextEvent
+    ensures { λ r. ⌜ r ≡ nextEvent (now (rest .entry)) p room ⌝ }
+{
+    let read = read_field(rest, p);
+    let Read::Field(field, used) = read else {
+        return no_event();
+    };
+    let Field::Event(event) = field else {
+        return no_event();
+    };
+    let size = bench::batches::answer_size(p.bridges as u8, event);
+    if room < size {
+        return no_event();
+    }
+    NextEvent { event, used, size }
+}
+
+// How many events a list has room for, with so many lent numbers.
+fn most_listed(lent: usize) -> usize
+    ensures { λ r. ⌜ r ≡ mostListed lent ⌝ }
+{
+    if lent == 0 {
+        return 0;
+    }
+    if lent <= MOST_EVENTS {
+        return lent - 1;
+    }
+    MOST_EVENTS
+}
+
+// One event more, if bytes were used.
+fn counted(count: usize, used: usize) -> usize
+    requires { ⌜ count < 18446744073709551615 ⌝ }
+    ensures { λ r. ⌜ r ≡ cond (eqb used 0) count (suc count) ⌝ }
+{
+    if used == 0 { count } else { count + 1 }
+}
+
+// As many events as stand at the head of the bytes, up to the first field that is none, to the most that a list has room for, and to one
+// whose answer has no room behind the others in so many numbers. How many goes to ends[0], the bytes up to the end of event k to
+// ends[k + 1].
+pub fn read_events(
+    rest: &[u8],
+    p: Progress,
+    room: usize,
+    ends: &mut [usize],
+) -> [Event; MOST_EVENTS]
+    ensures { λ r. ⌜ listing r (now (ends .exit)) ≡ eventsReply (now (rest .entry)) p room (now (ends .entry)) ⌝ }
+{
+    let mut events = [Event::Lose(0); MOST_EVENTS];
+    let most = most_listed(ends.len());
+    let mut left = room;
+    let mut at = 0;
+    let mut count = 0;
+    let mut going = true;
+    while both(going, count < most) {
+        let next = next_event(&rest[at..], p, left);
+        let event = next.event;
+        let used = next.used;
+        events[count] = event;
+        at += used;
+        left -= next.size;
+        count = counted(count, used);
+        ends[count] = at;
+        going = used != 0;
+    }
+    if 0 < ends.len() {
+        ends[0] = count;
+    }
+    events
+}
+
+// How far a plan has come whose network stands in a bench.
+pub fn list_progress(bench: Bench) -> Progress
+    ensures { λ p. ⌜ p ≡ listProgress bench ⌝ }
+{
+    Progress {
+        stage: 3,
+        bridges: bench.bridges,
+        links: bench.links,
+        views: bench.views,
+    }
+}
+
+// The bytes of the first `made` events, by where each ends; 0 for more than there are.
+pub fn bytes_of(ends: &[usize], made: usize) -> usize
+    ensures { λ r. ⌜ r ≡ bytesBy (now (ends .entry)) made ⌝ }
+{
+    if made == 0 {
+        return 0;
+    }
+    if ends.len() <= made {
+        return 0;
+    }
+    ends[made]
+}

@@ -1,0 +1,95 @@
+-- Document 01's known examples E1 to E8, one table: what is computed and what the document states. Assumes nothing.
+use Prim.Native.Nat.{ℕ, zero, suc}
+use mathlib.Core.List.{List, [], _∷_, _++_}
+use Rattle.distances.specs.View.{Costs, NONE}
+use Rattle.distances.specs.Examples.{Example, AllHold, examples, triangle, view0, view1}
+use Rattle.agreement.specs.Record.{heldLimit}
+use Rattle.agreement.specs.declared.Answer.{Answer}
+use Rattle.agreement.specs.declared.Answer.the-variants.{Stale, Agreed, Noted}
+use Rattle.agreement.specs.declared.Port.{Port}
+use Rattle.agreement.specs.declared.Port.the-variants.{Closed, Open}
+use Rattle.protocol.specs.Net.{Network, Plan, fresh}
+use Rattle.protocol.specs.Calls.{Call, change, update, cut, send, deliver, run, messageAt, answerAt}
+use Rattle.protocol.specs.Ports.{portOf, ownDistance}
+use Rattle.protocol.specs.Paths.{Way, delivered, stops, path}
+
+-- the triangle with its two views
+unfoldable pub costsIn : ℕ → Costs
+costsIn zero = view0
+costsIn (suc t) = view1
+
+abbrev pub plan : Plan
+plan = record { graph = triangle; views = 2; costs = costsIn }
+
+abbrev pub after : List Call → Network
+after cs = run (fresh plan) cs
+
+-- a round: every bridge sends over each of its links, and all those messages are delivered
+abbrev pub round : List Call
+round =
+    send 0 0 ∷ send 0 2 ∷ send 1 0 ∷ send 1 1 ∷ send 2 1 ∷ send 2 2
+    ∷ deliver 0 ∷ deliver 0 ∷ deliver 0 ∷ deliver 0 ∷ deliver 0 ∷ deliver 0 ∷ []
+
+-- two rounds in view 0; a message of bridge 1 then stays in flight until E8
+abbrev pub callsE3 : List Call
+callsE3 = round ++ round ++ (send 1 1 ∷ [])
+
+abbrev pub callsE4 : List Call
+callsE4 = callsE3 ++ (change (cut 0) ∷ change (update 1 1) ∷ [])
+
+abbrev pub callsE5 : List Call
+callsE5 = callsE4 ++ (change (update 2 1) ∷ [])
+
+abbrev pub callsE6 : List Call
+callsE6 = callsE5 ++ (send 2 1 ∷ deliver 1 ∷ [])
+
+abbrev pub callsE7 : List Call
+callsE7 = callsE6 ++ (send 1 1 ∷ deliver 1 ∷ send 2 1 ∷ deliver 1 ∷ [])
+
+-- numbers for the table: a port's link (NONE: no port), a path (0 delivered, 1 stops), a delivery's answer (0 stale, 1 agreed, 2 noted)
+abbrev pub linkUsed : Port → ℕ
+linkUsed Closed = NONE
+linkUsed (Open l) = l
+
+abbrev pub wayNumbers : Way → List ℕ
+wayNumbers (delivered h) = 0 ∷ h ∷ []
+wayNumbers (stops b h) = 1 ∷ b ∷ h ∷ []
+
+abbrev pub answerNumber : Answer → ℕ
+answerNumber Stale = 0
+answerNumber (Agreed number view) = 1
+answerNumber (Noted number view) = 2
+
+-- for destination 0
+abbrev pub uses : List Call → ℕ → ℕ
+uses cs y = linkUsed (portOf (after cs) y 0)
+
+abbrev pub way : List Call → ℕ → List ℕ
+way cs y = wayNumbers (path (after cs) y 0)
+
+abbrev pub answered : List Call → ℕ → ℕ
+answered cs p = answerNumber (answerAt (after cs) p)
+
+-- E1 is layer 1's; end 2 is bridge 1's end of link 1
+abbrev pub allExamples : List Example
+allExamples =
+    examples
+    ++ (record { found = uses [] 0 ∷ uses [] 1 ∷ uses [] 2 ∷ []; stated = NONE ∷ NONE ∷ NONE ∷ [] }
+    ∷ record { found = uses callsE3 1 ∷ uses callsE3 2 ∷ way callsE3 2; stated = 0 ∷ 1 ∷ 0 ∷ 2 ∷ [] }
+    ∷ record { found = ownDistance (after callsE4) 1 0 ∷ uses callsE4 1 ∷ way callsE4 2; stated = 4 ∷ NONE ∷ 1 ∷ 1 ∷ 1 ∷ [] }
+    ∷ record { found = uses callsE5 2 ∷ []; stated = 2 ∷ [] }
+    ∷ record {
+      found =
+          heldLimit (after callsE6 .records .ends 2) (after callsE6 .records .held 2) 0
+          ∷ after callsE6 .records .sent 2 0
+          ∷ uses callsE6 1
+          ∷ [];
+      stated = 4 ∷ 2 ∷ NONE ∷ [];
+    }
+    ∷ record { found = uses callsE7 1 ∷ []; stated = 1 ∷ [] }
+    ∷ record { found = messageAt (after callsE7) 0 .agreement .number ∷ answered callsE7 0 ∷ []; stated = 1 ∷ 0 ∷ [] }
+    ∷ [])
+
+-- E1 to E8 hold
+abbrev pub ExamplesHold : Type 0
+ExamplesHold = AllHold allExamples

@@ -1,0 +1,9 @@
+pub mod Net
+pub mod Calls
+pub mod Ports
+pub mod Paths
+pub mod Rounds
+pub mod Demand3
+pub mod LimitViews
+pub mod Examples
+pub mod SettlingMet

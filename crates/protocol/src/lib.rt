@@ -1,0 +1,1 @@
+// The protocol of the network: definitions and laws only; there is nothing to run.

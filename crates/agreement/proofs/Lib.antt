@@ -13,3 +13,4 @@ pub mod Told
 pub mod RecordLaws
 pub mod InRange
 pub mod Outcomes
+pub mod BetweenLaws

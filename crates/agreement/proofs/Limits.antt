@@ -86,18 +86,6 @@ module _ (n e : ℕ) (f : ℕ → ℕ) (t : List ℕ) where
           let past = ltb-false _ _ w in
           List·getD-eq-default (withLimits n e f t) 0 (rw withLimits-length past) ∙ sym (List·getD-eq-default t 0 past)
 
-  -- limits that stay
-  pub withLimits-keep : ((d : ℕ) → d < n → f d ≡ cell t e d) → withLimits n e f t ≡ t
-  withLimits-keep same = sym (withLimits-is t refl (λ p b. cond-by (isInRow n e p) (λ w. at p (row-true n e p w)) (λ w. refl)))
-    where
-      at : (p : ℕ) → (p / 16 ≡ e) × (p % 16 < n) → getD t p 0 ≡ f (p % 16)
-      at p h = ap (λ (q : ℕ). getD t q 0) (omega arith) ∙ sym (cell-is t e (p % 16)) ∙ sym (same (p % 16) (h .1))
-
-pub withLimits-cong : (n e : ℕ) (f g : ℕ → ℕ) (t : List ℕ) → ((d : ℕ) → d < n → f d ≡ g d) → withLimits n e f t ≡ withLimits n e g t
-withLimits-cong n e f g t same =
-    withLimits-is n e g t (withLimits n e f t) (withLimits-length n e f t)
-    (λ p b. withLimits-at n e f t p b ∙ cond-by (isInRow n e p) (λ w. rw w (same (p % 16) (row-true n e p w .1))) (λ w. rw w))
-
 -- ---- a part lent from inside a list: it comes back between what stands before it and what stands after it
 
 -- the k numbers from place a on are ys

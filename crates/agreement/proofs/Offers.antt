@@ -15,11 +15,11 @@ use Rattle.distances.proofs.Laws.{dist-bound, dist-le-none}
 use Rattle.distances.proofs.Joined.{present-is}
 use Rattle.agreement.specs.Offer.{opposite, offer}
 use Rattle.agreement.specs.Limits.{limitOf}
-use Rattle.agreement.specs.Call.{Lent, lentGraph, lentInRange, lentOffer, LentOffersAreOffers}
+use Rattle.agreement.specs.Call.{ViewData, lentGraph, lentInRange, lentOffer, LentOffersAreOffers}
 
 -- as the code computes it
 pub lent-offer :
-    (v : Lent) (e d : ℕ) →
+    (v : ViewData) (e d : ℕ) →
     lentOffer v e d
     ≡ limitOf (getD (v .costs) (e / 2) 0) (cell (v .table) (getD (v .ends) e 0) d) (cell (v .table) (getD (v .ends) (opposite e) 0) d)
 unfolding lentOffer offer limitOf
@@ -27,14 +27,14 @@ lent-offer v e d = rw present-is
 
 -- the whole row of end e, o being that end, a its opposite and l its link
 pub lent-offers :
-    (v : Lent) (e o a l : ℕ) →
+    (v : ViewData) (e o a l : ℕ) →
     o ≡ e →
     a ≡ opposite e →
     l ≡ e / 2 →
     (λ d. limitOf (getD (v .costs) l 0) (cell (v .table) (getD (v .ends) o 0) d) (cell (v .table) (getD (v .ends) a 0) d)) ≡ lentOffer v e
 lent-offers v e o a l p q r = fun-ext (λ d. rw (p, q, r) (sym (lent-offer v e d)))
 
-module _ (v : Lent) (ok : lentInRange v ≡ true) where
+module _ (v : ViewData) (ok : lentInRange v ≡ true) where
   -- no offer is above NONE
   pub offer-most : (e d : ℕ) → e < 2 * v .links → offer (lentGraph v) (costsOf (v .costs)) (dist (lentGraph v) (costsOf (v .costs))) e d ≤ NONE
   unfolding offer

@@ -13,7 +13,7 @@ use Rattle.agreement.specs.Record.{freshRecord, updated, sentUpdated, he
 use Rattle.agreement.specs.Limits.{withLimits}
 use Rattle.agreement.specs.Ranges.{isView, recordInRange, deliveryInRange, portInRange}
 use Rattle.agreement.specs.Forwarding.{port}
-use Rattle.agreement.specs.Call.{Lent, lentGraph, lentOffer, lentEndInRange, lentRecords, outcome, says, refused, freshOutcome, updateOutcome, carryOutcome, deliverOutcome, portOutcome}
+use Rattle.agreement.specs.Call.{ViewData, lentGraph, lentOffer, lentEndInRange, lentRecords, outcome, says, refused, freshOutcome, updateOutcome, carryOutcome, deliverOutcome, portOutcome}
 use Rattle.agreement.specs.Choice.{nextChoice, portBy, nextOutcome, choiceOutcome}
 use Rattle.agreement.specs.declared.EndRecord.{EndRecord}
 use Rattle.agreement.specs.declared.Agreement.{Agreement}
@@ -29,7 +29,7 @@ module _ (views t n : ℕ) (r : EndRecord) where
   carry-refused ok = rw ok
 
 -- the calls on one end
-module _ (v : Lent) (e : ℕ) (sent held : List ℕ) where
+module _ (v : ViewData) (e : ℕ) (sent held : List ℕ) where
   pub fresh-accepted :
       lentEndInRange v sent held e ≡ true →
       freshOutcome v e sent held
@@ -96,7 +96,7 @@ unfolding choiceOutcome
 choice-refused c high = rw (le-ltb (c .link) 32 high)
 
 -- the forwarding port
-module _ (v : Lent) (views : ℕ) (cut : List Bool) (records : List EndRecord) (sent held : List ℕ) (y d : ℕ) where
+module _ (v : ViewData) (views : ℕ) (cut : List Bool) (records : List EndRecord) (sent held : List ℕ) (y d : ℕ) where
   abbrev pub portReady : Bool
   portReady = portInRange (v .bridges) (v .links) (v .ends) (v .costs) (v .table) views records (length sent) (length held) y d
 

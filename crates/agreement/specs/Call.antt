@@ -1,4 +1,4 @@
--- What each public call does, for every input: its reply, the record, the lent tables. Assumes nothing.
+-- What each call on a lent view does, for every input: its reply, the record, the lent tables. Assumes nothing.
 use Prim.Native.Nat.{ℕ, _*_, _<_, min}
 use mathlib.Core.Path.{_≡_}
 use mathlib.Core.Bool.{Bool, true, false, cond, _&&_}
@@ -24,14 +24,14 @@ use Rattle.agreement.specs.declared.Reaction.{Reaction}
 use Rattle.agreement.specs.declared.Forwarding.{Forwarding}
 
 -- what a reply says: document 01's number, 17 where the call is refused at entry and 0 where it is not, and the value that it brings
-pub record Said (A : Type 0) : Type 0 where
+pub record Response (A : Type 0) : Type 0 where
   pub number : ℕ
   pub value : List A
 
-abbrev pub refused : {A : Type 0} → Said A
+abbrev pub refused : {A : Type 0} → Response A
 refused = record { number = 17; value = [] }
 
-abbrev pub says : {A : Type 0} → A → Said A
+abbrev pub says : {A : Type 0} → A → Response A
 says x = record { number = 0; value = x ∷ [] }
 
 -- each enum's cases
@@ -39,51 +39,51 @@ abbrev pub number : Reply → ℕ
 number Reply.Refused = 17
 number Reply.Done = 0
 
-abbrev pub offeredSays : Offered → Said ℕ
+abbrev pub offeredSays : Offered → Response ℕ
 offeredSays Offered.Refused = refused
 offeredSays (Offered.Offers x) = says x
 
-abbrev pub carryingSays : Carrying → Said Agreement
+abbrev pub carryingSays : Carrying → Response Agreement
 carryingSays Carrying.Refused = refused
 carryingSays (Carrying.Carries m) = says m
 
-abbrev pub reactionSays : Reaction → Said Answer
+abbrev pub reactionSays : Reaction → Response Answer
 reactionSays Reaction.Refused = refused
 reactionSays (Reaction.Answered a) = says a
 
-abbrev pub forwardingSays : Forwarding → Said Port
+abbrev pub forwardingSays : Forwarding → Response Port
 forwardingSays Forwarding.Refused = refused
 forwardingSays (Forwarding.Found p) = says p
 
 -- A view as it is lent: the graph, its costs, and a table that holds its distances
-pub record Lent : Type 0 where
+pub record ViewData : Type 0 where
   pub bridges : ℕ
   pub links : ℕ
   pub ends : List ℕ
   pub costs : List ℕ
   pub table : List ℕ
 
-abbrev pub lent : ℕ → ℕ → List ℕ → List ℕ → List ℕ → Lent
-lent bridges links ends costs table = record { bridges = bridges; links = links; ends = ends; costs = costs; table = table }
+abbrev pub viewData : ℕ → ℕ → List ℕ → List ℕ → List ℕ → ViewData
+viewData bridges links ends costs table = record { bridges = bridges; links = links; ends = ends; costs = costs; table = table }
 
-abbrev pub lentGraph : Lent → Graph
+abbrev pub lentGraph : ViewData → Graph
 lentGraph v = graphOf (v .bridges) (v .links) (v .ends)
 
-abbrev pub lentInRange : Lent → Bool
+abbrev pub lentInRange : ViewData → Bool
 lentInRange v = viewInRange (v .bridges) (v .links) (v .ends) (v .costs) (v .table)
 
 -- the offer of the bridge at end e, as a limit
-unfoldable pub lentOffer : Lent → ℕ → ℕ → ℕ
+unfoldable pub lentOffer : ViewData → ℕ → ℕ → ℕ
 lentOffer v e d = min NONE (offer (lentGraph v) (costsOf (v .costs)) (cell (v .table)) e d)
 
 -- the lent table holds the view's distances, as layer 1 leaves it
-abbrev pub HoldsDistances : Lent → Type 0
+abbrev pub HoldsDistances : ViewData → Type 0
 HoldsDistances v = (i j : ℕ) → i < v .bridges → j < v .bridges → cell (v .table) i j ≡ dist (lentGraph v) (costsOf (v .costs)) i j
 
 -- with such a table the offers that limits are made of are document 01's
 abbrev pub LentOffersAreOffers : Type 0
 LentOffersAreOffers =
-    (v : Lent) →
+    (v : ViewData) →
     lentInRange v ≡ true →
     HoldsDistances v →
     (e d : ℕ) →
@@ -92,7 +92,7 @@ LentOffersAreOffers =
     lentOffer v e d ≡ offer (lentGraph v) (costsOf (v .costs)) (dist (lentGraph v) (costsOf (v .costs))) e d
 
 -- The offer over the link of end e for destination d
-unfoldable pub offerOutcome : Lent → ℕ → ℕ → Said ℕ
+unfoldable pub offerOutcome : ViewData → ℕ → ℕ → Response ℕ
 offerOutcome v e d =
     cond (lentInRange v && (ltb e (2 * v .links) && ltb d (v .bridges))) (says (lentOffer v e d)) refused
 
@@ -107,11 +107,11 @@ abbrev pub outcome : {A : Type 0} → A → EndRecord → List ℕ → List ℕ 
 outcome reply end sent held = record { reply = reply; end = end; sent = sent; held = held }
 
 -- what every call on an end is handed, in range
-abbrev pub lentEndInRange : Lent → List ℕ → List ℕ → ℕ → Bool
+abbrev pub lentEndInRange : ViewData → List ℕ → List ℕ → ℕ → Bool
 lentEndInRange v sent held e = endInRange (v .bridges) (v .links) (v .ends) (v .costs) (v .table) (length sent) (length held) e
 
 -- A fresh end: sent limits from the view's offers, held limits all NONE
-unfoldable pub freshOutcome : Lent → ℕ → List ℕ → List ℕ → Outcome ℕ
+unfoldable pub freshOutcome : ViewData → ℕ → List ℕ → List ℕ → Outcome ℕ
 freshOutcome v e sent held =
     cond (lentEndInRange v sent held e)
     (outcome
@@ -122,7 +122,7 @@ freshOutcome v e sent held =
     (outcome 17 freshRecord sent held)
 
 -- Update of an end to view t, which the lent view is and which differs from the bridge's
-unfoldable pub updateOutcome : Lent → ℕ → ℕ → ℕ → EndRecord → List ℕ → List ℕ → Outcome ℕ
+unfoldable pub updateOutcome : ViewData → ℕ → ℕ → ℕ → EndRecord → List ℕ → List ℕ → Outcome ℕ
 updateOutcome v views t e r sent held =
     cond (lentEndInRange v sent held e && (isView views t && recordInRange views r))
     (outcome
@@ -133,11 +133,11 @@ updateOutcome v views t e r sent held =
     (outcome 17 r sent held)
 
 -- What a send of a bridge on view t with number n carries from an end
-unfoldable pub carryOutcome : ℕ → ℕ → ℕ → EndRecord → Said Agreement
+unfoldable pub carryOutcome : ℕ → ℕ → ℕ → EndRecord → Response Agreement
 carryOutcome views t n r = cond (isView views t && recordInRange views r) (says (carried t n r)) refused
 
 -- A delivery of m at an end of a bridge on view t, which the lent view is, with number n
-unfoldable pub deliverOutcome : Lent → ℕ → ℕ → ℕ → ℕ → EndRecord → Agreement → List ℕ → List ℕ → Outcome (Said Answer)
+unfoldable pub deliverOutcome : ViewData → ℕ → ℕ → ℕ → ℕ → EndRecord → Agreement → List ℕ → List ℕ → Outcome (Response Answer)
 deliverOutcome v views t n e r m sent held =
     cond (lentEndInRange v sent held e && deliveryInRange views t r (m .view))
     (outcome
@@ -152,7 +152,7 @@ abbrev pub lentRecords : List Bool → List EndRecord → List ℕ → List ℕ 
 lentRecords cut records sent held =
     record { cut = λ l. getD cut l false; ends = λ e. getD records e freshRecord; sent = cell sent; held = cell held }
 
-unfoldable pub portOutcome : Lent → ℕ → List Bool → List EndRecord → List ℕ → List ℕ → ℕ → ℕ → Said Port
+unfoldable pub portOutcome : ViewData → ℕ → List Bool → List EndRecord → List ℕ → List ℕ → ℕ → ℕ → Response Port
 portOutcome v views cut records sent held y d =
     cond (portInRange (v .bridges) (v .links) (v .ends) (v .costs) (v .table) views records (length sent) (length held) y d)
     (says (port (lentGraph v) (costsOf (v .costs)) (cell (v .table)) (lentRecords cut records sent held) y d))

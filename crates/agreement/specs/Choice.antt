@@ -9,7 +9,7 @@ use lib.Dec.{eqb, leb, ltb}
 use Rattle.distances.specs.View.{Graph, Costs, NONE, maxCost}
 use Rattle.agreement.specs.Offer.{linkOf, farBridge}
 use Rattle.agreement.specs.Forwarding.{Records, port}
-use Rattle.agreement.specs.Call.{Said, says, refused}
+use Rattle.agreement.specs.Call.{Response, says, refused}
 use Rattle.agreement.specs.declared.Port.{Port}
 use Rattle.agreement.specs.declared.Port.the-variants.{Closed, Open}
 use Rattle.agreement.specs.declared.Choice.{Choice}
@@ -47,15 +47,15 @@ unfoldable pub portBy : Choice → Port
 portBy c = cond (c .found && (c .usable && c .allowed)) (Open (c .link)) Closed
 
 -- what the calls answer: 17 for a link or a cost out of document 01's ranges
-abbrev pub chosenSays : Chosen → Said Choice
+abbrev pub chosenSays : Chosen → Response Choice
 chosenSays Chosen.Refused = refused
 chosenSays (Chosen.So c) = says c
 
-unfoldable pub nextOutcome : Choice → ℕ → ℕ → ℕ → Bool → Bool → ℕ → ℕ → Said Choice
+unfoldable pub nextOutcome : Choice → ℕ → ℕ → ℕ → Bool → Bool → ℕ → ℕ → Response Choice
 nextOutcome old link cost far cut holding sent held =
     cond (ltb link 32 && leb cost maxCost) (says (nextChoice old link cost far cut holding sent held)) refused
 
-unfoldable pub choiceOutcome : Choice → Said Port
+unfoldable pub choiceOutcome : Choice → Response Port
 choiceOutcome c = cond (ltb (c .link) 32) (says (portBy c)) refused
 
 -- the choice with end e of a bridge

@@ -1,3 +1,4 @@
+pub mod Sizes
 pub mod Tests
 pub mod Offer
 pub mod Record
@@ -8,3 +9,4 @@ pub mod Ranges
 pub mod Steps
 pub mod Call
 pub mod Choice
+pub mod Ends

@@ -1,11 +1,10 @@
 -- The limit tables that a caller lends: a row of 16 limits for each end, of which the first `bridges` are limits. Assumes nothing.
-use Prim.Native.Nat.{ℕ, _+_, _*_, _%_, min}
+use Prim.Native.Nat.{ℕ, _+_, _%_, min}
 use mathlib.Core.Bool.{Bool, cond, _&&_, not}
 use mathlib.Core.List.{List}
-use lib.ListN.{getD}
 use lib.Dec.{eqb, ltb}
 use Rattle.distances.specs.View.{NONE}
-use Rattle.distances.specs.Table.{cell, rewritten, isInRow}
+use Rattle.distances.specs.Table.{rewritten, isInRow}
 use Rattle.agreement.specs.declared.Rewrite.{Rewrite}
 use Rattle.agreement.specs.declared.Rewrite.the-variants.{Keep, Lower, Renew, Empty}
 

@@ -1,6 +1,6 @@
 -- Link ends, and the offer of a bridge over a link in a view (document 01, "Records of a bridge"). Assumes nothing.
-use Prim.Native.Nat.{ℕ, _+_, _-_, _*_, _/_, _%_}
-use mathlib.Core.Bool.{Bool, cond, _&&_}
+use Prim.Native.Nat.{ℕ, _+_, _*_, _/_, _%_, _-_}
+use mathlib.Core.Bool.{cond, _&&_}
 use lib.Dec.{ltb}
 use Rattle.distances.specs.View.{Graph, Costs, NONE}
 use Rattle.distances.specs.Distance.{present}

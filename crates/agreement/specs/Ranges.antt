@@ -7,6 +7,7 @@ use lib.Dec.{eqb, leb, ltb}
 use Rattle.distances.specs.Call.{inRange, allBelow}
 use Rattle.agreement.specs.Record.{noView, freshRecord}
 use Rattle.agreement.specs.declared.EndRecord.{EndRecord}
+use Rattle.agreement.specs.Sizes.{limitNumbers}
 
 -- the graph, the view's costs and the lent table of its distances
 abbrev pub viewInRange : ℕ → ℕ → List ℕ → List ℕ → List ℕ → Bool
@@ -27,7 +28,7 @@ recordsInRange views links records = leb links 32 && allBelow (2 * links) (λ e.
 -- what a call on one end is handed: the view, two limit tables of 64 rows of 16, by their lengths, and an end
 unfoldable pub endInRange : ℕ → ℕ → List ℕ → List ℕ → List ℕ → ℕ → ℕ → ℕ → Bool
 endInRange bridges links ends costs table sent held e =
-    viewInRange bridges links ends costs table && (leb 1024 sent && (leb 1024 held && ltb e (2 * links)))
+    viewInRange bridges links ends costs table && (leb limitNumbers sent && (leb limitNumbers held && ltb e (2 * links)))
 
 -- what a delivery is handed besides: the receiver's view, its record, the message's view
 unfoldable pub deliveryInRange : ℕ → ℕ → EndRecord → ℕ → Bool
@@ -37,5 +38,5 @@ deliveryInRange views t r received = isView views t && (recordInRange views r &&
 unfoldable pub portInRange : ℕ → ℕ → List ℕ → List ℕ → List ℕ → ℕ → List EndRecord → ℕ → ℕ → ℕ → ℕ → Bool
 portInRange bridges links ends costs table views records sent held y d =
     viewInRange bridges links ends costs table
-    && (leb 1024 sent && leb 1024 held
+    && (leb limitNumbers sent && leb limitNumbers held
     && (leb 1 views && leb views 32 && (recordsInRange views links records && (ltb y bridges && ltb d bridges))))

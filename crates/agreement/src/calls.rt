@@ -1,4 +1,4 @@
-// The public calls. Every input gets a reply: 17 for what is out of range or too short, and then nothing is changed.
+// The calls on a lent view. Every input gets a reply: 17 for what is out of range or too short, and then nothing is changed.
 use crate::Agreement;
 use crate::Carrying;
 use crate::Changed;
@@ -9,15 +9,17 @@ use crate::Reaction;
 use crate::Received;
 use crate::Reply;
 use crate::Rewrite;
+use crate::between::deliver_between;
+use crate::between::update_between;
 use crate::ports;
 use crate::ready;
-use crate::records;
 use crate::rows;
+use crate::sizes::LIMITS;
 use distances::ready::both;
 ghost use mathlib.Core.Path.{_≡_};
 ghost use Rattle.agreement.specs.Ranges.{endInRange};
 ghost use Rattle.agreement.specs.Record.{freshRecord};
-ghost use Rattle.agreement.specs.Call.{lent, outcome, number, offeredSays, carryingSays, reactionSays, forwardingSays, offerOutcome, freshOutcome, updateOutcome, carryOutcome, deliverOutcome, portOutcome};
+ghost use Rattle.agreement.specs.Call.{viewData, outcome, number, offeredSays, carryingSays, reactionSays, forwardingSays, offerOutcome, freshOutcome, updateOutcome, carryOutcome, deliverOutcome, portOutcome};
 
 // The record of a fresh end.
 pub fn fresh_record() -> EndRecord
@@ -63,7 +65,7 @@ fn end_in_range(
 {
     let size = table.len();
     if distances::ready::in_range(bridges, links, ends, costs, size) {
-        both(1024 <= sent, both(1024 <= held, end < 2 * links))
+        both(LIMITS <= sent, both(LIMITS <= held, end < 2 * links))
     } else {
         false
     }
@@ -79,9 +81,9 @@ pub fn offer_over(
     end: usize,
     dest: usize,
 ) -> Offered
-    ensures { λ r. ⌜ offeredSays r ≡ offerOutcome (lent bridges links (now (ends .entry)) (now (costs .entry)) (now (table .entry))) end dest ⌝ }
+    ensures { λ r. ⌜ offeredSays r ≡ offerOutcome (viewData bridges links (now (ends .entry)) (now (costs .entry)) (now (table .entry))) end dest ⌝ }
 {
-    if end_in_range(bridges, links, ends, costs, table, 1024, 1024, end) {
+    if end_in_range(bridges, links, ends, costs, table, LIMITS, LIMITS, end) {
         if dest < bridges {
             return Offered::Offers(rows::offer_at(bridges, links, ends, costs, table, end, dest));
         }
@@ -100,7 +102,7 @@ pub fn start_end(
     sent: &mut [u32],
     held: &mut [u32],
 ) -> Changed
-    ensures { λ r. ⌜ outcome (number (r .reply)) (r .end) (now (sent .exit)) (now (held .exit)) ≡ freshOutcome (lent bridges links (now (ends .entry)) (now (costs .entry)) (now (table .entry))) end (now (sent .entry)) (now (held .entry)) ⌝ }
+    ensures { λ r. ⌜ outcome (number (r .reply)) (r .end) (now (sent .exit)) (now (held .exit)) ≡ freshOutcome (viewData bridges links (now (ends .entry)) (now (costs .entry)) (now (table .entry))) end (now (sent .entry)) (now (held .entry)) ⌝ }
 {
     let fresh = fresh_record();
     let sent_size = sent.len();
@@ -153,44 +155,37 @@ pub fn update_end(
     sent: &mut [u32],
     held: &mut [u32],
 ) -> Changed
-    ensures { λ r. ⌜ outcome (number (r .reply)) (r .end) (now (sent .exit)) (now (held .exit)) ≡ updateOutcome (lent bridges links (now (ends .entry)) (now (costs .entry)) (now (table .entry))) views view end old (now (sent .entry)) (now (held .entry)) ⌝ }
+    ensures { λ r. ⌜ outcome (number (r .reply)) (r .end) (now (sent .exit)) (now (held .exit)) ≡ updateOutcome (viewData bridges links (now (ends .entry)) (now (costs .entry)) (now (table .entry))) views view end old (now (sent .entry)) (now (held .entry)) ⌝ }
 {
     let sent_size = sent.len();
     let held_size = held.len();
-    let known = both(
-        ready::is_view(views, view),
-        ready::record_in_range(views, old),
-    );
-    if both(
-        end_in_range(
-            bridges,
-            links,
-            ends,
-            costs,
-            table,
-            sent_size,
-            held_size,
-            end,
-        ),
-        known,
+    if end_in_range(
+        bridges,
+        links,
+        ends,
+        costs,
+        table,
+        sent_size,
+        held_size,
+        end,
     ) {
-        let how = records::renew_if(old.view == view);
-        rows::rewrite_end(
-            Rewrite::Lower,
-            how,
+        let other = ready::opposite_end(end);
+        let near = ends[end] as usize;
+        let far = ends[other] as usize;
+        let cost = costs[end / 2];
+        update_between(
             bridges,
-            links,
-            ends,
-            costs,
+            near,
+            far,
+            cost,
             table,
+            views,
+            view,
             end,
+            old,
             sent,
             held,
-        );
-        Changed {
-            reply: Reply::Done,
-            end: records::updated_record(view, old),
-        }
+        )
     } else {
         Changed {
             reply: Reply::Refused,
@@ -215,43 +210,39 @@ pub fn deliver_end(
     sent: &mut [u32],
     held: &mut [u32],
 ) -> Received
-    ensures { λ r. ⌜ outcome (reactionSays (r .reply)) (r .end) (now (sent .exit)) (now (held .exit)) ≡ deliverOutcome (lent bridges links (now (ends .entry)) (now (costs .entry)) (now (table .entry))) views view number end old message (now (sent .entry)) (now (held .entry)) ⌝ }
+    ensures { λ r. ⌜ outcome (reactionSays (r .reply)) (r .end) (now (sent .exit)) (now (held .exit)) ≡ deliverOutcome (viewData bridges links (now (ends .entry)) (now (costs .entry)) (now (table .entry))) views view number end old message (now (sent .entry)) (now (held .entry)) ⌝ }
 {
     let sent_size = sent.len();
     let held_size = held.len();
-    let known = ready::delivery_in_range(views, view, old, message);
-    if both(
-        end_in_range(
-            bridges,
-            links,
-            ends,
-            costs,
-            table,
-            sent_size,
-            held_size,
-            end,
-        ),
-        known,
+    if end_in_range(
+        bridges,
+        links,
+        ends,
+        costs,
+        table,
+        sent_size,
+        held_size,
+        end,
     ) {
-        let sent_how = records::renew_if(records::is_clearing(number, old, message));
-        let held_how = records::renew_if(records::is_adopting(view, old, message));
-        rows::rewrite_end(
-            sent_how,
-            held_how,
+        let other = ready::opposite_end(end);
+        let near = ends[end] as usize;
+        let far = ends[other] as usize;
+        let cost = costs[end / 2];
+        deliver_between(
             bridges,
-            links,
-            ends,
-            costs,
+            near,
+            far,
+            cost,
             table,
+            views,
+            view,
+            number,
             end,
+            old,
+            message,
             sent,
             held,
-        );
-        let answer = records::answer_of(view, old, message);
-        Received {
-            reply: Reaction::Answered(answer),
-            end: records::recorded_by(old, answer),
-        }
+        )
     } else {
         Received {
             reply: Reaction::Refused,
@@ -275,7 +266,7 @@ pub fn port(
     bridge: usize,
     dest: usize,
 ) -> Forwarding
-    ensures { λ r. ⌜ forwardingSays r ≡ portOutcome (lent bridges links (now (ends .entry)) (now (costs .entry)) (now (table .entry))) views cut records (now (sent .entry)) (now (held .entry)) bridge dest ⌝ }
+    ensures { λ r. ⌜ forwardingSays r ≡ portOutcome (viewData bridges links (now (ends .entry)) (now (costs .entry)) (now (table .entry))) views cut records (now (sent .entry)) (now (held .entry)) bridge dest ⌝ }
 {
     if ready::port_in_range(
         bridges,

@@ -1,11 +1,14 @@
-// Layer 2: one bridge's agreement records and its forwarding choice. Each call is handed a view as `distances` has it: the graph,
-// the view's costs, and the lent table that holds its distances; and the lent limit tables, a row of 16 limits for each end.
+// Layer 2: one bridge's agreement records and its forwarding choice. A call of `calls` is handed a view as `distances` has it: the graph,
+// the view's costs, and the lent table that holds its distances; and the lent limit tables, a row of 16 limits for each end. Those of
+// `between` and `choices` take the plain numbers of one end.
+pub mod between;
 pub mod calls;
 pub mod choices;
 mod ports;
 pub mod ready;
 mod records;
 mod rows;
+pub mod sizes;
 
 // The record of a link end. `received` is the highest received number, `view` the view received with it (255: none),
 // `discarded` the discarded number; `holding` says whether a view is held from the neighbour.

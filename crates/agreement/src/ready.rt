@@ -1,6 +1,7 @@
 // The entry checks: document 01's ranges, and lent buffers that are long enough.
 use crate::Agreement;
 use crate::EndRecord;
+use crate::sizes::LIMITS;
 use distances::ready::both;
 ghost use mathlib.Core.Path.{_≡_};
 ghost use mathlib.Core.Bool.{_||_};
@@ -105,7 +106,7 @@ pub(crate) fn port_in_range(
 {
     let size = table.len();
     if distances::ready::in_range(bridges, links, ends, costs, size) {
-        let long = both(1024 <= sent, 1024 <= held);
+        let long = both(LIMITS <= sent, LIMITS <= held);
         let counted = both(1 <= views, views <= 32);
         let known = records_in_range(views, links, records);
         both(

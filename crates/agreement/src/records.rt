@@ -6,7 +6,6 @@ use crate::Rewrite;
 use distances::ready::both;
 ghost use mathlib.Core.Path.{_≡_};
 ghost use mathlib.Core.Bool.{not, _&&_};
-ghost use lib.Dec.{eqb};
 ghost use Rattle.agreement.specs.Record.{updated, answer, recorded, isStale, isAgreed, isClearing};
 ghost use Rattle.agreement.specs.Limits.{renewed};
 

@@ -2,14 +2,14 @@
 use crate::Rewrite;
 use crate::ready::opposite_end;
 ghost use mathlib.Core.Path.{_≡_};
-ghost use Prim.Native.Nat.{ℕ, _*_, _≤_, _<_};
+ghost use Prim.Native.Nat.{_*_, _≤_, _<_};
 ghost use lib.ListN.{length, getD};
 ghost use lib.Dec.{ltb};
 ghost use Rattle.distances.specs.Table.{cell, rewritten};
 ghost use Rattle.agreement.specs.Offer.{opposite};
 ghost use Rattle.agreement.specs.Limits.{withLimits, limitAfter, rowAfter, limitOf};
 ghost use Rattle.agreement.specs.Steps.{ViewReady};
-ghost use Rattle.agreement.specs.Call.{lent, lentOffer};
+ghost use Rattle.agreement.specs.Call.{viewData, lentOffer};
 
 const NONE: u32 = 4294967295;
 
@@ -105,8 +105,8 @@ pub(crate) fn rewrite_end(
 )
     requires { ⌜ ViewReady bridges links (now ends) (now costs) (now table) ⌝ }
     requires { ⌜ (end < 2 * links) × (1024 ≤ length (now sent)) × (1024 ≤ length (now held)) ⌝ }
-    ensures { λ r. ⌜ now (sent .exit) ≡ withLimits bridges end (rowAfter «sent_how» (lentOffer (lent bridges links (now (ends .entry)) (now (costs .entry)) (now (table .entry))) end) (cell (now (sent .entry)) end)) (now (sent .entry)) ⌝ }
-    ensures { λ r. ⌜ now (held .exit) ≡ withLimits bridges end (rowAfter «held_how» (lentOffer (lent bridges links (now (ends .entry)) (now (costs .entry)) (now (table .entry))) (opposite end)) (cell (now (held .entry)) end)) (now (held .entry)) ⌝ }
+    ensures { λ r. ⌜ now (sent .exit) ≡ withLimits bridges end (rowAfter «sent_how» (lentOffer (viewData bridges links (now (ends .entry)) (now (costs .entry)) (now (table .entry))) end) (cell (now (sent .entry)) end)) (now (sent .entry)) ⌝ }
+    ensures { λ r. ⌜ now (held .exit) ≡ withLimits bridges end (rowAfter «held_how» (lentOffer (viewData bridges links (now (ends .entry)) (now (costs .entry)) (now (table .entry))) (opposite end)) (cell (now (held .entry)) end)) (now (held .entry)) ⌝ }
 {
     let other = opposite_end(end);
     let near = ends[end] as usize;
@@ -127,7 +127,7 @@ pub(crate) fn offer_at(
 ) -> u32
     requires { ⌜ ViewReady bridges links (now ends) (now costs) (now table) ⌝ }
     requires { ⌜ (end < 2 * links) × (dest < bridges) ⌝ }
-    ensures { λ r. ⌜ r ≡ lentOffer (lent bridges links (now (ends .entry)) (now (costs .entry)) (now (table .entry))) end dest ⌝ }
+    ensures { λ r. ⌜ r ≡ lentOffer (viewData bridges links (now (ends .entry)) (now (costs .entry)) (now (table .entry))) end dest ⌝ }
 {
     let other = opposite_end(end);
     let near = ends[end] as usize;

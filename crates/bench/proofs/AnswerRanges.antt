@@ -8,7 +8,7 @@ use mathlib.Core.List.{List}
 use lib.ListN.{length}
 use lib.Dec.{eqb, leb}
 use Rattle.distances.proofs.Booleans.{both-true}
-use Rattle.agreement.specs.Call.{Said, says}
+use Rattle.agreement.specs.Call.{Response, says}
 use Rattle.protocol.specs.Calls as calls
 use Rattle.protocol.specs.Calls.{refuse, checks}
 use Rattle.protocol.specs.Ports.{Hop, stays, crosses}
@@ -16,7 +16,7 @@ use Rattle.protocol.specs.Paths.{Way, delivered, stops, follow, onward, hops}
 use Rattle.bench.specs.State.{State, network}
 use Rattle.bench.specs.Changes.{refusalOf, stateInRange}
 use Rattle.bench.specs.Deliveries.{refusedBy}
-use Rattle.bench.specs.Answers.{WayFits, waySays, report, reported, reportOf, hopIn, pathOf}
+use Rattle.bench.specs.Answers.{WayFits, waySays, reportOutcome, reported, reportOf, hopIn, pathOf}
 use Rattle.bench.specs.Steps.{Ready}
 use Rattle.bench.specs.declared.Way as code
 use Rattle.bench.proofs.EntrySettled.{reply-is}
@@ -61,7 +61,7 @@ module _ (s : State) where
       let k : ℕ = refusalOf (stateInRange s) (network s) (calls.path y d) in
       let bridges : ℕ = s .bench .bridges in
       let way : Way = onward (hopIn s d) d (bridges - 1) 0 y in
-      let none : k ≡ 0 = sym (reply-is (λ o. o .number) k refusedBy (says way) (λ j. refl) (λ z. refl)) ∙ ap (λ (o : Said Way). o .number) e in
+      let none : k ≡ 0 = sym (reply-is (λ o. o .number) k refusedBy (says way) (λ j. refl) (λ z. refl)) ∙ ap (λ (o : Response Way). o .number) e in
       let pass = refusal-none (stateInRange s) (network s) (calls.path y d) none in
       let ready : Ready (s .bench) (s .costs) = network-told _ _ _ _ (pass .0) in
       let start : y < bridges = bridge-listed (network s) y _ (pass .1) in
@@ -71,15 +71,6 @@ module _ (s : State) where
         short = omega (arith, onward-short (hopIn s d) d (bridges - 1) 0 y);
         last = onward-below (hopIn s d) bridges (hop-leads s ready d) d (bridges - 1) 0 y start;
       })
-
-  pub report-few : (d : ℕ) (rows : List ℕ) → reportOf s d rows .reply ≡ 0 → s .bench .bridges ≤ 16
-  unfolding reportOf
-  report-few d rows e =
-      let ok : Bool = stateInRange s && leb 32 (length rows) in
-      let k : ℕ = refusalOf ok (network s) (calls.report d) in
-      let none : k ≡ 0 = sym (reply-is (λ o. o .reply) k (λ j. report j rows) (report 0 (reported s d (s .bench .bridges) rows)) (λ j. refl) (λ z. refl)) ∙ e in
-      let ready = network-told _ (s .costs) _ _ (both-true (stateInRange s) _ (refusal-none ok (network s) (calls.report d) none .0) .0) in
-      ready .fewBridges
 
 -- a path's numbers are few
 pub way-fits : (s : State) (y d : ℕ) (answer : code.Way) → waySays answer ≡ pathOf s y d → WayFits answer

@@ -11,7 +11,7 @@ use Rattle.bench.specs.State.{State}
 use Rattle.bench.specs.Whole.{stepBy, runBy}
 use Rattle.bench.specs.Deliveries.{deliveryReady, deliverOf, repeatOf}
 use Rattle.bench.specs.Answers.{pathOf}
-use Rattle.bench.specs.Batches.{callOf, replyOf, answersOf, answerSize, answerSizes, Batch, batch, happens, happensIn, runs, ran, ranOf, batchOf, callsOf, BatchesAreRuns}
+use Rattle.bench.specs.Batches.{callOf, replyOf, answersOf, answerSize, answerSizes, Batch, batch, eventBatch, eventBatchIn, batchFrom, batchOutcome, batchOutcomeOf, batchOf, callsOf, BatchesAreRuns}
 use Rattle.bench.specs.declared.Event.{Event}
 use Rattle.bench.specs.declared.Event.the-variants.{Update, Send, Deliver, Repeat, Lose, Cut, Restore, Report, Path}
 use Rattle.bench.specs.declared.Disposition.the-variants.{Complete, Refused, Full}
@@ -29,8 +29,8 @@ pub data First (room : ℕ) (s : State) (e : Event) : Batch → Type 0 where
   refused : (replyOf s e ≡ 0 → ⊥) → First room s e (batch 0 (Refused (replyOf s e)) s [])
   made : replyOf s e ≡ 0 → answerSize (s .bench .bridges) e ≤ room → First room s e (batch 1 Complete (stepBy s (callOf e)) (answersOf s e))
 
-pub first-of : (room : ℕ) (s : State) (e : Event) → First room s e (happensIn room s e)
-unfolding happensIn happens
+pub first-of : (room : ℕ) (s : State) (e : Event) → First room s e (eventBatchIn room s e)
+unfolding eventBatchIn eventBatch
 first-of room s e = go (ltb room (answerSize (s .bench .bridges) e)) refl (eqb (replyOf s e) 0) refl
   where
     go :
@@ -84,32 +84,32 @@ answers-length s (Path y d) none = path-length s y d (sym (path-reply s (accepte
 
 -- ---- the list
 
-pub runs-none : (room : ℕ) (s : State) → runs room s [] ≡ batch 0 Complete s []
-unfolding runs
+pub runs-none : (room : ℕ) (s : State) → batchFrom room s [] ≡ batch 0 Complete s []
+unfolding batchFrom
 runs-none room s = refl
 
 -- what follows an event that was made
 abbrev pub following : ℕ → State → Event → List Event → Batch
-following room s e es = runs (room - length (answersOf s e)) (stepBy s (callOf e)) es
+following room s e es = batchFrom (room - length (answersOf s e)) (stepBy s (callOf e)) es
 
 module _ (room : ℕ) (s : State) (e : Event) (es : List Event) where
   pub runs-made :
-      happensIn room s e ≡ batch 1 Complete (stepBy s (callOf e)) (answersOf s e) →
+      eventBatchIn room s e ≡ batch 1 Complete (stepBy s (callOf e)) (answersOf s e) →
       let b : Batch = following room s e es in
-      runs room s (e ∷ es) ≡ batch (suc (b .made)) (b .disposition) (b .state) (answersOf s e ++ b .answers)
-  unfolding runs
+      batchFrom room s (e ∷ es) ≡ batch (suc (b .made)) (b .disposition) (b .state) (answersOf s e ++ b .answers)
+  unfolding batchFrom
   runs-made is = rw is
 
-  pub runs-unmade : (b : Batch) → happensIn room s e ≡ b → b .made ≡ 0 → runs room s (e ∷ es) ≡ b
-  unfolding runs
+  pub runs-unmade : (b : Batch) → eventBatchIn room s e ≡ b → b .made ≡ 0 → batchFrom room s (e ∷ es) ≡ b
+  unfolding batchFrom
   runs-unmade b is none = rw (is, none)
 
 -- the calls of the events that were made, and their answers
 pub batches-are-runs : BatchesAreRuns
-unfolding runBy callsOf answerSizes runs
+unfolding runBy callsOf answerSizes batchFrom
 batches-are-runs room s [] = (refl, refl)
 batches-are-runs room s (e ∷ es) =
-    go (batches-are-runs (room - length (answersOf s e)) (stepBy s (callOf e)) es) (happensIn room s e) refl (first-of room s e)
+    go (batches-are-runs (room - length (answersOf s e)) (stepBy s (callOf e)) es) (eventBatchIn room s e) refl (first-of room s e)
   where
     Is : Batch → Type 0
     Is b = (b .state ≡ runBy s (callsOf (take (b .made) (e ∷ es)))) × (length (b .answers) ≡ answerSizes (s .bench .bridges) (take (b .made) (e ∷ es)))
@@ -122,7 +122,7 @@ batches-are-runs room s (e ∷ es) =
         (then .state ≡ runBy (stepBy s (callOf e)) (callsOf (take (then .made) es)))
         × (length (then .answers) ≡ answerSizes (stepBy s (callOf e) .bench .bridges) (take (then .made) es))
 
-    go : Later → (b : Batch) → happensIn room s e ≡ b → First room s e b → Is (runs room s (e ∷ es))
+    go : Later → (b : Batch) → eventBatchIn room s e ≡ b → First room s e b → Is (batchFrom room s (e ∷ es))
     go later b is (full few) = rw (runs-unmade room s e es b is refl) (refl, refl)
     go later b is (refused some) = rw (runs-unmade room s e es b is refl) (refl, refl)
     go later b is (made none fits) =
@@ -134,14 +134,14 @@ batches-are-runs room s (e ∷ es) =
         )
 
 -- no more numbers are answered with than there is room for
-pub answers-within : (room : ℕ) (s : State) (es : List Event) → length (runs room s es .answers) ≤ room
+pub answers-within : (room : ℕ) (s : State) (es : List Event) → length (batchFrom room s es .answers) ≤ room
 answers-within room s [] = rw runs-none (omega arith)
-answers-within room s (e ∷ es) = go (answers-within (room - length (answersOf s e)) (stepBy s (callOf e)) es) (happensIn room s e) refl (first-of room s e)
+answers-within room s (e ∷ es) = go (answers-within (room - length (answersOf s e)) (stepBy s (callOf e)) es) (eventBatchIn room s e) refl (first-of room s e)
   where
     then : Batch
     then = following room s e es
 
-    go : length (then .answers) ≤ room - length (answersOf s e) → (b : Batch) → happensIn room s e ≡ b → First room s e b → length (runs room s (e ∷ es) .answers) ≤ room
+    go : length (then .answers) ≤ room - length (answersOf s e) → (b : Batch) → eventBatchIn room s e ≡ b → First room s e b → length (batchFrom room s (e ∷ es) .answers) ≤ room
     go later b is (full few) = rw (runs-unmade room s e es b is refl) (omega arith)
     go later b is (refused some) = rw (runs-unmade room s e es b is refl) (omega arith)
     go later b is (made none fits) =
@@ -149,41 +149,41 @@ answers-within room s (e ∷ es) = go (answers-within (room - length (answersOf 
         (omega (arith, later, fits, answers-length s e none, length-append (answersOf s e) (then .answers)))
 
 -- no more are made than there are
-pub runs-few : (room : ℕ) (s : State) (es : List Event) → runs room s es .made ≤ length es
+pub runs-few : (room : ℕ) (s : State) (es : List Event) → batchFrom room s es .made ≤ length es
 runs-few room s [] = rw runs-none (omega arith)
-runs-few room s (e ∷ es) = go (runs-few (room - length (answersOf s e)) (stepBy s (callOf e)) es) (happensIn room s e) refl (first-of room s e)
+runs-few room s (e ∷ es) = go (runs-few (room - length (answersOf s e)) (stepBy s (callOf e)) es) (eventBatchIn room s e) refl (first-of room s e)
   where
-    go : following room s e es .made ≤ length es → (b : Batch) → happensIn room s e ≡ b → First room s e b → runs room s (e ∷ es) .made ≤ length (e ∷ es)
+    go : following room s e es .made ≤ length es → (b : Batch) → eventBatchIn room s e ≡ b → First room s e b → batchFrom room s (e ∷ es) .made ≤ length (e ∷ es)
     go later b is (full few) = rw (runs-unmade room s e es b is refl) (omega arith)
     go later b is (refused some) = rw (runs-unmade room s e es b is refl) (omega arith)
     go later b is (made none fits) = rw (runs-made room s e es is) (omega (arith, later))
 
 -- a list of which no event was made leaves the state
-pub runs-unchanged : (room : ℕ) (s : State) (es : List Event) → runs room s es .made ≡ 0 → runs room s es .state ≡ s
+pub runs-unchanged : (room : ℕ) (s : State) (es : List Event) → batchFrom room s es .made ≡ 0 → batchFrom room s es .state ≡ s
 unfolding runBy callsOf
 runs-unchanged room s es none = batches-are-runs room s es .0 ∙ rw none
 
 -- the parts of the outcome, in range and out of range
 module _ (s : State) (events : List Event) (count : ℕ) (answers : List ℕ) where
-  pub batch-in : deliveryReady s ≡ true → count ≤ length events → batchOf s events count answers ≡ ranOf (runs (length answers) s (take count events)) answers
+  pub batch-in : deliveryReady s ≡ true → count ≤ length events → batchOf s events count answers ≡ batchOutcomeOf (batchFrom (length answers) s (take count events)) answers
   unfolding batchOf
   batch-in ok few = rw (ok, le-leb count (length events) few)
 
-  pub batch-out : deliveryReady s ≡ false → batchOf s events count answers ≡ ran 0 0 (Refused 17) s answers
+  pub batch-out : deliveryReady s ≡ false → batchOf s events count answers ≡ batchOutcome 0 0 (Refused 17) s answers
   unfolding batchOf
   batch-out out = rw out
 
   -- out of range the first event is refused, if its answer has room
   pub batch-first :
       (e : Event) (es : List Event) → take count events ≡ e ∷ es → count ≤ length events → answerSize (s .bench .bridges) e ≤ length answers →
-      batchOf s events count answers ≡ ranOf (runs (length answers) s (take count events)) answers
+      batchOf s events count answers ≡ batchOutcomeOf (batchFrom (length answers) s (take count events)) answers
   batch-first e es head few room = go (deliveryReady s) refl
     where
-      refused-first : deliveryReady s ≡ false → (b : Batch) → happensIn (length answers) s e ≡ b → First (length answers) s e b → ran 0 0 (Refused 17) s answers ≡ ranOf (runs (length answers) s (e ∷ es)) answers
+      refused-first : deliveryReady s ≡ false → (b : Batch) → eventBatchIn (length answers) s e ≡ b → First (length answers) s e b → batchOutcome 0 0 (Refused 17) s answers ≡ batchOutcomeOf (batchFrom (length answers) s (e ∷ es)) answers
       refused-first q b is (full less) = absurd (omega (arith, less, room))
       refused-first q b is (refused some) = rw (runs-unmade (length answers) s e es b is refl, refused-out s e q)
       refused-first q b is (made none fits) = absurd (false≢true (sym q ∙ accepted-ready s e none))
 
-      go : (b : Bool) → deliveryReady s ≡ b → batchOf s events count answers ≡ ranOf (runs (length answers) s (take count events)) answers
+      go : (b : Bool) → deliveryReady s ≡ b → batchOf s events count answers ≡ batchOutcomeOf (batchFrom (length answers) s (take count events)) answers
       go true q = batch-in q few
-      go false q = rw (batch-out q, head) (refused-first q (happensIn (length answers) s e) refl (first-of (length answers) s e))
+      go false q = rw (batch-out q, head) (refused-first q (eventBatchIn (length answers) s e) refl (first-of (length answers) s e))

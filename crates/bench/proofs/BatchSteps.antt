@@ -10,7 +10,7 @@ use borrow.Author.Tests.{eqb-true, eqb-false, eq-eqb, ne-eqb, lt-ltb, le-ltb}
 use lib.ListN.{length, set, take, drop, length-append, length-drop}
 use lib.Seq.{sets, sets-eq, take-at, drop-at, drop-drop}
 use lib.Dec.{eqb}
-use Rattle.agreement.specs.Call.{Said, says}
+use Rattle.agreement.specs.Call.{Response, says}
 use Rattle.agreement.specs.declared.Answer.{Answer}
 use Rattle.agreement.specs.declared.Answer.the-variants.{Stale, Agreed, Noted}
 use Rattle.bench.specs.declared.Event.{Event}
@@ -19,33 +19,74 @@ use Rattle.protocol.specs.Calls as calls
 use Rattle.protocol.specs.Calls.{refuse}
 use Rattle.protocol.specs.Paths as paths
 use Rattle.bench.specs.State.{State, state, network, networkOf}
-use Rattle.bench.specs.Changes.{Changed, Rewritten, refusalOf, orRefused, stateInRange, updateOf, cutOf, restoreOf}
-use Rattle.bench.specs.Flights.{Flown, sendOf, loseOf}
-use Rattle.bench.specs.Deliveries.{Delivered, refusedBy, deliveryReady, deliverOf, repeatOf}
+use Rattle.bench.specs.Ranges.{benchInRange}
+use Rattle.bench.specs.Changes.{BenchOutcome, benchOutcome, ChangeOutcome, refusalOf, orRefused, stateInRange, benchWithCut, updateOf, cutOf, restoreOf}
+use Rattle.bench.specs.Flights.{QueueOutcome, queueOutcome, sendOf, loseOf}
+use Rattle.bench.specs.Deliveries.{DeliveryOutcome, deliveryOutcome, refusedBy, deliveryReady, deliverOf, repeatOf}
 use Rattle.bench.specs.Answers.{reported, reportedRow, hopIn, pathOf}
 use Rattle.bench.specs.Batches.{callOf, wayNumbers}
-use Rattle.bench.specs.Batches.{replyOf, reportRows, answerNumbers, answeredNumbers, answersOf, answerSize, batch, happens, happensIn}
+use Rattle.bench.specs.Batches.{replyOf, reportNumbers, answerNumbers, answeredNumbers, answersOf, answerSize, Batch, batch, eventBatch, eventBatchIn}
 use Rattle.bench.specs.Whole.{stepBy}
-use Rattle.bench.specs.Steps.{resultOf, ReportsTo, Leaves}
+use Rattle.bench.specs.Effects.{queueNumber, queueBench, queueEffect, receptionSays, receptionBench, receptionEffect, ReceptionTold, updatingTo, updatingNumber, updatingEffect, UpdatingTold, stateOf, appliedTo, EffectTold, eventResult}
+use Rattle.bench.specs.Steps.{ReportsTo, Leaves}
 use Rattle.bench.specs.declared.Bench.{Bench}
-use Rattle.bench.specs.declared.BatchResult.{BatchResult}
+use Rattle.bench.specs.declared.effects.EventResult.{EventResult}
+use Rattle.bench.specs.declared.effects.Effect.the-variants.{Same}
+use Rattle.bench.specs.declared.effects.Effect.the-variants.{Cut as CutFlag}
+use Rattle.bench.specs.declared.effects.Queue.{Queue}
+use Rattle.bench.specs.declared.effects.Reception.{Reception}
+use Rattle.bench.specs.declared.effects.Updating.{Updating}
 use Rattle.bench.specs.declared.Disposition.{Disposition}
 use Rattle.bench.specs.declared.Disposition.the-variants.{Complete, Refused, Full}
 use Rattle.bench.proofs.CallKept.{update-kept, cut-kept, restore-kept, send-kept, lose-kept, deliver-kept, repeat-kept, deliver-says, repeat-says, deliver-silent, repeat-silent}
 use Rattle.bench.proofs.BatchReplies.{update-reply, cut-reply, restore-reply, send-reply, lose-reply, deliver-reply, repeat-reply, report-reply, path-reply}
-use Rattle.bench.proofs.CallReads.{update-reads, reported-reads, path-reads}
+use Rattle.bench.proofs.CallReads.{reported-reads, path-reads}
 use Rattle.bench.proofs.CallSteps.{update-step, cut-step, restore-step, send-step, lose-step, deliver-step, repeat-step, path-step, report-step}
 use Rattle.bench.proofs.CallLengths.{step-kept}
 use Rattle.bench.proofs.TieRefusals.{refusal-ready}
+use Rattle.bench.proofs.TieRanges.{told, few, bench-ready}
+use Rattle.bench.proofs.EntrySettled.{link-listed}
 
 -- what an event leaves, by the event that it is and the result that it comes to
 pub leaves-by :
-    (s : State) {answers costs sent held m after : List ℕ} {e is : Event} {r by : BatchResult} →
+    (s z : State) {answers after : List ℕ} {e is : Event} {r by : EventResult} →
     e ≡ is →
     r ≡ by →
-    Leaves (happens s is) answers (by .made) (by .disposition) (state (by .bench) costs sent held m) (by .answered) after →
-    Leaves (happens s e) answers (r .made) (r .disposition) (state (r .bench) costs sent held m) (r .answered) after
-leaves-by s event result leaves = rw (event, result) leaves
+    Leaves (eventBatch s is) answers (by .made) (by .disposition) (appliedTo (by .effect) z) (by .answered) after →
+    Leaves (eventBatch s e) answers (r .made) (r .disposition) (appliedTo (r .effect) z) (r .answered) after
+leaves-by s z event result leaves = rw (event, result) leaves
+
+-- and that its effect can be carried out
+pub told-by : (b : Bench) (known : List Bool) {r by : EventResult} → r ≡ by → EffectTold (by .effect) b known → EffectTold (r .effect) b known
+told-by b known result told = rw result told
+
+-- under another name for the number and the state
+renumbered :
+    {done : Batch} {answers out : List ℕ} {j k : ℕ} (n : ℕ) {z next : State} →
+    j ≡ k →
+    z ≡ next →
+    Leaves done answers (cond (eqb j 0) 1 0) (cond (eqb j 0) Complete (Refused j)) z (cond (eqb j 0) n 0) out →
+    Leaves done answers (cond (eqb k 0) 1 0) (cond (eqb k 0) Complete (Refused k)) next (cond (eqb k 0) n 0) out
+renumbered n number state leaves = rw (← number, ← state) leaves
+
+flag-told : (k l : ℕ) (so : Bool) (b : Bench) (known : List Bool) → (k ≡ 0 → l < 32) → EffectTold (cond (eqb k 0) (CutFlag l so) Same) b known
+flag-told k l so b known low = go (eqb k 0) refl
+  where
+    go : (t : Bool) → eqb k 0 ≡ t → EffectTold (cond t (CutFlag l so) Same) b known
+    go true e = low (eqb-true k 0 e)
+    go false e = tt
+
+-- nothing becomes of the bench, whether the event is refused or not
+same-either : (t : Bool) (z : State) → appliedTo (cond t Same Same) z ≡ z
+same-either true z = refl
+same-either false z = refl
+
+same-told : (t : Bool) (b : Bench) (known : List Bool) → EffectTold (cond t Same Same) b known
+same-told true b known = tt
+same-told false b known = tt
+
+pub quiet-told : (k n : ℕ) (b : Bench) (known : List Bool) {r : EventResult} → r ≡ eventResult k n Same → EffectTold (r .effect) b known
+quiet-told k n b known is = rw is (same-told (eqb k 0) b known)
 
 -- ---- numbers at the head of a list
 
@@ -65,18 +106,18 @@ two-more l rows n a b long room =
     ∙ rw (take-at l (drop n rows) n long, sym (drop-drop 2 n whole), drop-at l (drop n rows) n long, drop-drop 2 n rows))
 
 module _ (s : State) (d : ℕ) where
-  pub rows-length : (k : ℕ) → length (reportRows s d k) ≡ 2 * k
-  unfolding reportRows
+  pub rows-length : (k : ℕ) → length (reportNumbers s d k) ≡ 2 * k
+  unfolding reportNumbers
   rows-length zero = refl
-  rows-length (suc y) = length-append (reportRows s d y) _ ∙ omega (arith, rows-length y)
+  rows-length (suc y) = length-append (reportNumbers s d y) _ ∙ omega (arith, rows-length y)
 
   -- the rows as they are written, one bridge after the other
-  reported-head : (rows : List ℕ) (k : ℕ) → 2 * k ≤ length rows → reported s d k rows ≡ reportRows s d k ++ drop (2 * k) rows
-  unfolding reported reportedRow reportRows
+  reported-head : (rows : List ℕ) (k : ℕ) → 2 * k ≤ length rows → reported s d k rows ≡ reportNumbers s d k ++ drop (2 * k) rows
+  unfolding reported reportedRow reportNumbers
   reported-head rows zero h = refl
   reported-head rows (suc y) h =
       let past : 2 * suc y ≡ 2 * y + 2 = omega arith in
-      rw (reported-head rows y (omega arith), past) (two-more (reportRows s d y) rows (2 * y) _ _ (rows-length y) (omega arith))
+      rw (reported-head rows y (omega arith), past) (two-more (reportNumbers s d y) rows (2 * y) _ _ (rows-length y) (omega arith))
 
 -- ---- an event, by the number k that its call replies
 
@@ -89,8 +130,8 @@ module _ (s : State) (e : Event) where
       (k ≡ 0 → (n ≡ length (answersOf s e)) × (out ≡ answersOf s e ++ drop n answers)) →
       ((k ≡ 0 → ⊥) → out ≡ answers) →
       deliveryReady (stepBy s (callOf e)) ≡ true →
-      Leaves (happens s e) answers (cond (eqb k 0) 1 0) (cond (eqb k 0) Complete (Refused k)) after (cond (eqb k 0) n 0) out
-  unfolding happens
+      Leaves (eventBatch s e) answers (cond (eqb k 0) 1 0) (cond (eqb k 0) Complete (Refused k)) after (cond (eqb k 0) n 0) out
+  unfolding eventBatch
   settled k after n answers out asks leaves kept done refused ok = rw asks (go (eqb k 0) refl)
     where
       stays : deliveryReady after ≡ true
@@ -122,7 +163,7 @@ module _ (s : State) (e : Event) where
       stepBy s (callOf e) ≡ after →
       ((k ≡ 0 → ⊥) → stepBy s (callOf e) ≡ s) →
       deliveryReady (stepBy s (callOf e)) ≡ true →
-      Leaves (happens s e) answers (cond (eqb k 0) 1 0) (cond (eqb k 0) Complete (Refused k)) after (cond (eqb k 0) 0 0) answers
+      Leaves (eventBatch s e) answers (cond (eqb k 0) 1 0) (cond (eqb k 0) Complete (Refused k)) after (cond (eqb k 0) 0 0) answers
   quiet k after answers none asks leaves kept ok =
       settled k after 0 answers answers asks leaves kept (λ z. (ap (λ (l : List ℕ). length l) (sym none), rw none)) (λ z. refl) ok
 
@@ -154,7 +195,7 @@ module _ (s : State) where
       go :
           (t : Bool) →
           eqb k 0 ≡ t →
-          let o : Said paths.Way = cond t (says w) (refusedBy k) in
+          let o : Response paths.Way = cond t (says w) (refusedBy k) in
           (o .number ≡ 0 → (v : paths.Way) × (o .value ≡ v ∷ [])) × ((o .number ≡ 0 → ⊥) → o .value ≡ [])
       go true q = (λ z. (w, refl), λ some. absurd (some refl))
       go false q = (λ z. absurd (eqb-false k 0 q z), λ some. refl)
@@ -179,66 +220,165 @@ module _ (b : Bench) (costs sent held m answers : List ℕ) where
   abbrev Short : State
   Short = state b costs sent held []
 
-  pub update-leaves :
-      (y t : ℕ) {o : Rewritten} →
+  updated :
+      (y t : ℕ) (o : ChangeOutcome) →
       deliveryReady Whole ≡ true →
-      o ≡ updateOf Short y t →
+      o ≡ updateOf Whole y t →
       deliveryReady (stepBy Whole (callOf (Update y t))) ≡ true →
       let k = o .reply in
-      Leaves (happens Whole (Update y t)) answers (cond (eqb k 0) 1 0) (cond (eqb k 0) Complete (Refused k))
-      (state (o .bench) costs (o .sent) (o .held) m) (cond (eqb k 0) 0 0) answers
-  unfolding answersOf
-  update-leaves y t ready is ok =
-      rw (is, update-reads Whole [] y t)
-      (quiet Whole (Update y t) (updateOf Whole y t .reply) _ answers refl (update-reply Whole ready y t) (update-step Whole y t) (update-kept Whole y t) ok)
-
-  pub cut-leaves :
-      (l : ℕ) {o : Changed} →
-      deliveryReady Whole ≡ true →
-      o ≡ cutOf b l →
-      deliveryReady (stepBy Whole (callOf (Cut l))) ≡ true →
-      let k = o .reply in
-      Leaves (happens Whole (Cut l)) answers (cond (eqb k 0) 1 0) (cond (eqb k 0) Complete (Refused k)) (state (o .bench) costs sent held m)
+      Leaves (eventBatch Whole (Update y t)) answers (cond (eqb k 0) 1 0) (cond (eqb k 0) Complete (Refused k)) (stateOf Whole o)
       (cond (eqb k 0) 0 0) answers
   unfolding answersOf
-  cut-leaves l ready is ok = rw is (quiet Whole (Cut l) (cutOf b l .reply) _ answers refl (cut-reply Whole ready l) (cut-step Whole l) (cut-kept Whole l) ok)
+  updated y t o ready is ok =
+      rw is
+      (quiet Whole (Update y t) (updateOf Whole y t .reply) _ answers refl (update-reply Whole ready y t) (update-step Whole y t) (update-kept Whole y t) ok)
 
-  pub restore-leaves :
-      (l : ℕ) {o : Changed} →
+  pub update-leaves :
+      (y t : ℕ) (u : Updating) →
       deliveryReady Whole ≡ true →
-      o ≡ restoreOf b l →
-      deliveryReady (stepBy Whole (callOf (Restore l))) ≡ true →
-      let k = o .reply in
-      Leaves (happens Whole (Restore l)) answers (cond (eqb k 0) 1 0) (cond (eqb k 0) Complete (Refused k))
-      (state (o .bench) costs sent held m) (cond (eqb k 0) 0 0) answers
-  unfolding answersOf
-  restore-leaves l ready is ok = rw is (quiet Whole (Restore l) (restoreOf b l .reply) _ answers refl (restore-reply Whole ready l) (restore-step Whole l) (restore-kept Whole l) ok)
+      updatingTo u Whole y t ≡ updateOf Whole y t →
+      deliveryReady (stepBy Whole (callOf (Update y t))) ≡ true →
+      let k = updatingNumber u in
+      Leaves (eventBatch Whole (Update y t)) answers (cond (eqb k 0) 1 0) (cond (eqb k 0) Complete (Refused k))
+      (appliedTo (cond (eqb k 0) (updatingEffect u y t) Same) Whole) (cond (eqb k 0) 0 0) answers
+  update-leaves y t (Updating.Refused k) ready is ok = rw (same-either (eqb k 0) Whole) (updated y t _ ready is ok)
+  update-leaves y t Updating.Stays ready is ok = updated y t _ ready is ok
+  update-leaves y t Updating.Moves ready is ok = updated y t _ ready is ok
 
-  pub send-leaves :
-      (y l : ℕ) {o : Flown} →
+  pub update-told : (known : List Bool) (y t : ℕ) (u : Updating) → UpdatingTold u b known y t → EffectTold (cond (eqb (updatingNumber u) 0) (updatingEffect u y t) Same) b known
+  update-told known y t (Updating.Refused k) told = same-told (eqb k 0) b known
+  update-told known y t Updating.Stays told = tt
+  update-told known y t Updating.Moves told = told
+
+  -- a link cut or restored, by the table's number
+  flagged :
+      (k l : ℕ) (so : Bool) (o : BenchOutcome) →
+      o ≡ orRefused k (λ j. benchOutcome j b) (benchOutcome 0 (benchWithCut b l so)) →
+      (o .reply ≡ k) × (state (o .bench) costs sent held m ≡ appliedTo (cond (eqb k 0) (CutFlag l so) Same) Whole)
+  flagged k l so o is = rw is (go (eqb k 0) refl)
+    where
+      go :
+          (t : Bool) →
+          eqb k 0 ≡ t →
+          let o : BenchOutcome = cond t (benchOutcome 0 (benchWithCut b l so)) (benchOutcome k b) in
+          (o .reply ≡ k) × (state (o .bench) costs sent held m ≡ appliedTo (cond t (CutFlag l so) Same) Whole)
+      go true e = (sym (eqb-true k 0 e), refl)
+      go false e = (refl, refl)
+
+  module _ (l : ℕ) (ready : deliveryReady Whole ≡ true) where
+    in-range : benchInRange b ≡ true
+    in-range = bench-ready Whole (told Whole ready)
+
+    abbrev cutNumber : ℕ
+    cutNumber = refuse (networkOf b []) (calls.change (calls.cut l))
+
+    abbrev restoreNumber : ℕ
+    restoreNumber = refuse (networkOf b []) (calls.change (calls.restore l))
+
+    cut-flagged : (cutOf b l .reply ≡ cutNumber) × (state (cutOf b l .bench) costs sent held m ≡ appliedTo (cond (eqb cutNumber 0) (CutFlag l true) Same) Whole)
+    unfolding cutOf
+    cut-flagged =
+        flagged cutNumber l true (cutOf b l)
+        (ap (λ (k : ℕ). orRefused k (λ j. benchOutcome j b) (benchOutcome 0 (benchWithCut b l true))) (refusal-ready (benchInRange b) (networkOf b []) (calls.change (calls.cut l)) in-range))
+
+    restore-flagged : (restoreOf b l .reply ≡ restoreNumber) × (state (restoreOf b l .bench) costs sent held m ≡ appliedTo (cond (eqb restoreNumber 0) (CutFlag l false) Same) Whole)
+    unfolding restoreOf
+    restore-flagged =
+        flagged restoreNumber l false (restoreOf b l)
+        (ap (λ (k : ℕ). orRefused k (λ j. benchOutcome j b) (benchOutcome 0 (benchWithCut b l false))) (refusal-ready (benchInRange b) (networkOf b []) (calls.change (calls.restore l)) in-range))
+
+    pub cut-leaves :
+        deliveryReady (stepBy Whole (callOf (Cut l))) ≡ true →
+        Leaves (eventBatch Whole (Cut l)) answers (cond (eqb cutNumber 0) 1 0) (cond (eqb cutNumber 0) Complete (Refused cutNumber))
+        (appliedTo (cond (eqb cutNumber 0) (CutFlag l true) Same) Whole) (cond (eqb cutNumber 0) 0 0) answers
+    unfolding answersOf
+    cut-leaves ok =
+        renumbered 0 (cut-flagged .0) (cut-flagged .1)
+        (quiet Whole (Cut l) (cutOf b l .reply) _ answers refl (cut-reply Whole ready l) (cut-step Whole l) (cut-kept Whole l) ok)
+
+    pub restore-leaves :
+        deliveryReady (stepBy Whole (callOf (Restore l))) ≡ true →
+        Leaves (eventBatch Whole (Restore l)) answers (cond (eqb restoreNumber 0) 1 0) (cond (eqb restoreNumber 0) Complete (Refused restoreNumber))
+        (appliedTo (cond (eqb restoreNumber 0) (CutFlag l false) Same) Whole) (cond (eqb restoreNumber 0) 0 0) answers
+    unfolding answersOf
+    restore-leaves ok =
+        renumbered 0 (restore-flagged .0) (restore-flagged .1)
+        (quiet Whole (Restore l) (restoreOf b l .reply) _ answers refl (restore-reply Whole ready l) (restore-step Whole l) (restore-kept Whole l) ok)
+
+    -- a link that is there
+    cut-listed : cutNumber ≡ 0 → l < 32
+    unfolding refuse calls.checks calls.changeChecks
+    cut-listed none = omega (arith, link-listed (networkOf b []) l _ none, few b costs (told Whole ready .lasting))
+
+    restore-listed : restoreNumber ≡ 0 → l < 32
+    unfolding refuse calls.checks calls.changeChecks
+    restore-listed none = omega (arith, link-listed (networkOf b []) l _ none, few b costs (told Whole ready .lasting))
+
+    pub cut-told : (known : List Bool) → EffectTold (cond (eqb cutNumber 0) (CutFlag l true) Same) b known
+    cut-told known = flag-told cutNumber l true b known cut-listed
+
+    pub restore-told : (known : List Bool) → EffectTold (cond (eqb restoreNumber 0) (CutFlag l false) Same) b known
+    restore-told known = flag-told restoreNumber l false b known restore-listed
+
+  queued :
+      (e : Event) (q : Queue) (m' : List ℕ) →
+      let k = queueNumber q in
+      Leaves (eventBatch Whole e) answers (cond (eqb k 0) 1 0) (cond (eqb k 0) Complete (Refused k)) (state (queueBench q b) costs sent held m')
+      (cond (eqb k 0) 0 0) answers →
+      Leaves (eventBatch Whole e) answers (cond (eqb k 0) 1 0) (cond (eqb k 0) Complete (Refused k))
+      (appliedTo (cond (eqb k 0) (queueEffect q) Same) (state b costs sent held m')) (cond (eqb k 0) 0 0) answers
+  queued e (Queue.Refused k) m' leaves = rw (same-either (eqb k 0) (state b costs sent held m')) leaves
+  queued e (Queue.Length n) m' leaves = leaves
+
+  pub queue-told : (known : List Bool) (q : Queue) → EffectTold (cond (eqb (queueNumber q) 0) (queueEffect q) Same) b known
+  queue-told known (Queue.Refused k) = same-told (eqb k 0) b known
+  queue-told known (Queue.Length n) = tt
+
+  sent-by :
+      (y l : ℕ) (o : QueueOutcome) →
       deliveryReady Whole ≡ true →
       o ≡ sendOf b m y l →
       deliveryReady (stepBy Whole (callOf (Send y l))) ≡ true →
       let k = o .reply in
-      Leaves (happens Whole (Send y l)) answers (cond (eqb k 0) 1 0) (cond (eqb k 0) Complete (Refused k))
+      Leaves (eventBatch Whole (Send y l)) answers (cond (eqb k 0) 1 0) (cond (eqb k 0) Complete (Refused k))
       (state (o .bench) costs sent held (o .messages)) (cond (eqb k 0) 0 0) answers
   unfolding answersOf
-  send-leaves y l ready is ok = rw is (quiet Whole (Send y l) (sendOf b m y l .reply) _ answers refl (send-reply Whole ready y l) (send-step Whole y l) (send-kept Whole y l) ok)
+  sent-by y l o ready is ok = rw is (quiet Whole (Send y l) (sendOf b m y l .reply) _ answers refl (send-reply Whole ready y l) (send-step Whole y l) (send-kept Whole y l) ok)
 
-  pub lose-leaves :
-      (p : ℕ) {o : Flown} →
+  pub send-leaves :
+      (y l : ℕ) (q : Queue) {m' : List ℕ} →
+      deliveryReady Whole ≡ true →
+      queueOutcome (queueNumber q) (queueBench q b) m' ≡ sendOf b m y l →
+      deliveryReady (stepBy Whole (callOf (Send y l))) ≡ true →
+      let k = queueNumber q in
+      Leaves (eventBatch Whole (Send y l)) answers (cond (eqb k 0) 1 0) (cond (eqb k 0) Complete (Refused k))
+      (appliedTo (cond (eqb k 0) (queueEffect q) Same) (state b costs sent held m')) (cond (eqb k 0) 0 0) answers
+  send-leaves y l q {m'} ready is ok = queued (Send y l) q m' (sent-by y l _ ready is ok)
+
+  lost-by :
+      (p : ℕ) (o : QueueOutcome) →
       deliveryReady Whole ≡ true →
       o ≡ loseOf b m p →
       deliveryReady (stepBy Whole (callOf (Lose p))) ≡ true →
       let k = o .reply in
-      Leaves (happens Whole (Lose p)) answers (cond (eqb k 0) 1 0) (cond (eqb k 0) Complete (Refused k))
+      Leaves (eventBatch Whole (Lose p)) answers (cond (eqb k 0) 1 0) (cond (eqb k 0) Complete (Refused k))
       (state (o .bench) costs sent held (o .messages)) (cond (eqb k 0) 0 0) answers
   unfolding answersOf
-  lose-leaves p ready is ok = rw is (quiet Whole (Lose p) (loseOf b m p .reply) _ answers refl (lose-reply Whole ready p) (lose-step Whole p) (lose-kept Whole p) ok)
+  lost-by p o ready is ok = rw is (quiet Whole (Lose p) (loseOf b m p .reply) _ answers refl (lose-reply Whole ready p) (lose-step Whole p) (lose-kept Whole p) ok)
+
+  pub lose-leaves :
+      (p : ℕ) (q : Queue) {m' : List ℕ} →
+      deliveryReady Whole ≡ true →
+      queueOutcome (queueNumber q) (queueBench q b) m' ≡ loseOf b m p →
+      deliveryReady (stepBy Whole (callOf (Lose p))) ≡ true →
+      let k = queueNumber q in
+      Leaves (eventBatch Whole (Lose p)) answers (cond (eqb k 0) 1 0) (cond (eqb k 0) Complete (Refused k))
+      (appliedTo (cond (eqb k 0) (queueEffect q) Same) (state b costs sent held m')) (cond (eqb k 0) 0 0) answers
+  lose-leaves p q {m'} ready is ok = queued (Lose p) q m' (lost-by p _ ready is ok)
 
   -- a delivery's answer, at the head
   answer-head :
-      (o : Said Answer) →
+      (o : Response Answer) →
       (o .number ≡ 0 → (a : Answer) × (o ≡ says a)) →
       3 ≤ length answers →
       o .number ≡ 0 →
@@ -257,54 +397,95 @@ module _ (b : Bench) (costs sent held m answers : List ℕ) where
   unfolding wayNumbers
   none-way ws none = rw none
 
-  pub deliver-leaves :
-      (p : ℕ) {o : Delivered} {out : List ℕ} →
+  -- what a reception leaves, by the bench that it comes to
+  received :
+      (e : Event) (r : Reception) (count : ℕ) (sent' held' m' out : List ℕ) →
+      let k = receptionSays r .number in
+      Leaves (eventBatch Whole e) answers (cond (eqb k 0) 1 0) (cond (eqb k 0) Complete (Refused k))
+      (state (receptionBench r b count) costs sent' held' m') (cond (eqb k 0) 3 0) out →
+      Leaves (eventBatch Whole e) answers (cond (eqb k 0) 1 0) (cond (eqb k 0) Complete (Refused k))
+      (appliedTo (cond (eqb k 0) (receptionEffect r count) Same) (state b costs sent' held' m')) (cond (eqb k 0) 3 0) out
+  received e (Reception.Refused k) count sent' held' m' out leaves = rw (same-either (eqb k 0) (state b costs sent' held' m')) leaves
+  received e (Reception.Accepted a end after) count sent' held' m' out leaves = leaves
+
+  pub reception-effect-told :
+      (known : List Bool) (r : Reception) (count : ℕ) → ReceptionTold r → EffectTold (cond (eqb (receptionSays r .number) 0) (receptionEffect r count) Same) b known
+  reception-effect-told known (Reception.Refused k) count told = same-told (eqb k 0) b known
+  reception-effect-told known (Reception.Accepted a end after) count told = told
+
+  delivered-by :
+      (p : ℕ) {o : DeliveryOutcome} {out : List ℕ} →
       deliveryReady Whole ≡ true →
       o ≡ deliverOf Whole p →
       3 ≤ length answers →
       out ≡ sets answers 0 (answeredNumbers (o .reply .value)) →
       deliveryReady (stepBy Whole (callOf (Deliver p))) ≡ true →
       let k = o .reply .number in
-      Leaves (happens Whole (Deliver p)) answers (cond (eqb k 0) 1 0) (cond (eqb k 0) Complete (Refused k))
+      Leaves (eventBatch Whole (Deliver p)) answers (cond (eqb k 0) 1 0) (cond (eqb k 0) Complete (Refused k))
       (state (o .bench) costs (o .sent) (o .held) (o .messages)) (cond (eqb k 0) 3 0) out
   unfolding answersOf
-  deliver-leaves p ready is room set ok =
+  delivered-by p ready is room set ok =
       rw (set, is)
       (settled Whole (Deliver p) (deliverOf Whole p .reply .number) _ 3 answers _ (deliver-reply Whole ready p) (deliver-step Whole p) (deliver-kept Whole p)
       (answer-head (deliverOf Whole p .reply) (deliver-says Whole p) room)
       (λ some. none-set _ (deliver-silent Whole p some))
       ok)
 
-  pub repeat-leaves :
-      (p : ℕ) {o : Delivered} {out : List ℕ} →
+  pub deliver-leaves :
+      (p : ℕ) (r : Reception) (count : ℕ) {sent' held' m' out : List ℕ} →
+      deliveryReady Whole ≡ true →
+      deliveryOutcome (receptionSays r) (receptionBench r b count) sent' held' m' ≡ deliverOf Whole p →
+      3 ≤ length answers →
+      out ≡ sets answers 0 (answeredNumbers (receptionSays r .value)) →
+      deliveryReady (stepBy Whole (callOf (Deliver p))) ≡ true →
+      let k = receptionSays r .number in
+      Leaves (eventBatch Whole (Deliver p)) answers (cond (eqb k 0) 1 0) (cond (eqb k 0) Complete (Refused k))
+      (appliedTo (cond (eqb k 0) (receptionEffect r count) Same) (state b costs sent' held' m')) (cond (eqb k 0) 3 0) out
+  deliver-leaves p r count {sent'} {held'} {m'} {out} ready is room set ok = received (Deliver p) r count sent' held' m' out (delivered-by p ready is room set ok)
+
+  repeated-by :
+      (p : ℕ) {o : DeliveryOutcome} {out : List ℕ} →
       deliveryReady Whole ≡ true →
       o ≡ repeatOf Whole p →
       3 ≤ length answers →
       out ≡ sets answers 0 (answeredNumbers (o .reply .value)) →
       deliveryReady (stepBy Whole (callOf (Repeat p))) ≡ true →
       let k = o .reply .number in
-      Leaves (happens Whole (Repeat p)) answers (cond (eqb k 0) 1 0) (cond (eqb k 0) Complete (Refused k))
+      Leaves (eventBatch Whole (Repeat p)) answers (cond (eqb k 0) 1 0) (cond (eqb k 0) Complete (Refused k))
       (state (o .bench) costs (o .sent) (o .held) (o .messages)) (cond (eqb k 0) 3 0) out
   unfolding answersOf
-  repeat-leaves p ready is room set ok =
+  repeated-by p ready is room set ok =
       rw (set, is)
       (settled Whole (Repeat p) (repeatOf Whole p .reply .number) _ 3 answers _ (repeat-reply Whole ready p) (repeat-step Whole p) (repeat-kept Whole p)
       (answer-head (repeatOf Whole p .reply) (repeat-says Whole p) room)
       (λ some. none-set _ (repeat-silent Whole p some))
       ok)
 
+  pub repeat-leaves :
+      (p : ℕ) (r : Reception) (count : ℕ) {sent' held' m' out : List ℕ} →
+      deliveryReady Whole ≡ true →
+      deliveryOutcome (receptionSays r) (receptionBench r b count) sent' held' m' ≡ repeatOf Whole p →
+      3 ≤ length answers →
+      out ≡ sets answers 0 (answeredNumbers (receptionSays r .value)) →
+      deliveryReady (stepBy Whole (callOf (Repeat p))) ≡ true →
+      let k = receptionSays r .number in
+      Leaves (eventBatch Whole (Repeat p)) answers (cond (eqb k 0) 1 0) (cond (eqb k 0) Complete (Refused k))
+      (appliedTo (cond (eqb k 0) (receptionEffect r count) Same) (state b costs sent' held' m')) (cond (eqb k 0) 3 0) out
+  repeat-leaves p r count {sent'} {held'} {m'} {out} ready is room set ok = received (Repeat p) r count sent' held' m' out (repeated-by p ready is room set ok)
+
   pub path-leaves :
-      (y d : ℕ) {o : Said paths.Way} {out : List ℕ} →
+      (y d : ℕ) {o : Response paths.Way} {out : List ℕ} →
       o ≡ pathOf Short y d →
       3 ≤ length answers →
       out ≡ sets answers 0 (wayNumbers (o .value)) →
       deliveryReady Whole ≡ true →
       let k = o .number in
-      Leaves (happens Whole (Path y d)) answers (cond (eqb k 0) 1 0) (cond (eqb k 0) Complete (Refused k)) Whole (cond (eqb k 0) 3 0) out
+      Leaves (eventBatch Whole (Path y d)) answers (cond (eqb k 0) 1 0) (cond (eqb k 0) Complete (Refused k))
+      (appliedTo (cond (eqb k 0) Same Same) Whole) (cond (eqb k 0) 3 0) out
   unfolding answersOf
-  path-leaves y d is room set ok =
+  path-leaves y d {o} is room set ok =
       let told = path-value Whole y d in
-      rw (set, is, path-reads Whole [] y d)
+      rw (same-either (eqb (o .number) 0) Whole, set, is, path-reads Whole [] y d)
       (settled Whole (Path y d) (pathOf Whole y d .number) Whole 3 answers _ (path-reply Whole ok y d) (path-step Whole y d) (λ some. path-step Whole y d)
       (λ e. let h = told .0 e in
       let three = way-length (h .0) in
@@ -317,17 +498,23 @@ module _ (b : Bench) (costs sent held m answers : List ℕ) where
   unfolding refusalOf calls.checks calls.noSuchBridge
   report-number d = refl
 
+  pub report-told :
+      (d : ℕ) (known : List Bool) {r : EventResult} →
+      r ≡ eventResult (refusalOf (stateInRange Short) (network Short) (calls.report d)) (2 * b .bridges) Same →
+      EffectTold (r .effect) b known
+  report-told d known is = quiet-told (refusalOf (stateInRange Short) (network Short) (calls.report d)) (2 * b .bridges) b known is
+
   pub report-leaves :
       (d : ℕ) {out : List ℕ} →
       let k = refusalOf (stateInRange Short) (network Short) (calls.report d) in
       2 * b .bridges ≤ length answers →
       out ≡ cond (eqb k 0) (reported Short d (b .bridges) answers) answers →
       deliveryReady Whole ≡ true →
-      Leaves (happens Whole (Report d)) answers (cond (eqb k 0) 1 0) (cond (eqb k 0) Complete (Refused k)) Whole
-      (cond (eqb k 0) (2 * b .bridges) 0) out
+      Leaves (eventBatch Whole (Report d)) answers (cond (eqb k 0) 1 0) (cond (eqb k 0) Complete (Refused k))
+      (appliedTo (cond (eqb k 0) Same Same) Whole) (cond (eqb k 0) (2 * b .bridges) 0) out
   unfolding answersOf
   report-leaves d room rows ok =
-      rw (rows, report-number d, reported-reads Whole [] d (b .bridges) answers)
+      rw (same-either (eqb (refusalOf (stateInRange Short) (network Short) (calls.report d)) 0) Whole, rows, report-number d, reported-reads Whole [] d (b .bridges) answers)
       (settled Whole (Report d) (refusalOf (stateInRange Whole) (network Whole) (calls.report d)) Whole (2 * b .bridges) answers _ (report-reply Whole ok d) (report-step Whole d)
       (λ some. report-step Whole d)
       (λ e. rw (eq-eqb _ 0 e) (sym (rows-length Whole d (b .bridges)), reported-head Whole d answers (b .bridges) room))
@@ -342,39 +529,24 @@ module _ (s : State) (ok : stateInRange s ≡ true) (d : ℕ) (answers : List �
   unfolding refuse calls.checks calls.noSuchBridge
   same-number = refusal-ready _ _ _ ok ∙ sym is
 
-  pub report-refused : (k ≡ 0 → ⊥) → {r : BatchResult} → r ≡ resultOf k (s .bench) 0 → ReportsTo s d answers r answers
+  pub report-refused : (k ≡ 0 → ⊥) → {r : EventResult} → r ≡ eventResult k 0 Same → ReportsTo s d answers r answers
   report-refused some by = rw (same-number, by, ne-eqb k 0 some) (refl, refl)
 
   pub report-done :
-      k ≡ 0 → {r : BatchResult} {after : List ℕ} → r ≡ resultOf 0 (s .bench) (2 * s .bench .bridges) → after ≡ reported s d (s .bench .bridges) answers → ReportsTo s d answers r after
+      k ≡ 0 → {r : EventResult} {after : List ℕ} → r ≡ eventResult 0 (2 * s .bench .bridges) Same → after ≡ reported s d (s .bench .bridges) answers → ReportsTo s d answers r after
   report-done none by rows = rw (same-number, by, rows, none) (refl, refl)
 
 -- an answer that has no room, and one that has
 module _ (s : State) (e : Event) (answers : List ℕ) (ok : deliveryReady s ≡ true) where
-  pub full-leaves : length answers < answerSize (s .bench .bridges) e → Leaves (happensIn (length answers) s e) answers 0 Full s 0 answers
-  unfolding happensIn
+  pub full-leaves : length answers < answerSize (s .bench .bridges) e → Leaves (eventBatchIn (length answers) s e) answers 0 Full s 0 answers
+  unfolding eventBatchIn
   full-leaves few =
       rw (lt-ltb _ _ few) (record { made = refl; disposition = refl; state = refl; counted = refl; rest = refl; ready = ok })
 
   pub room-leaves :
       answerSize (s .bench .bridges) e ≤ length answers →
       {count answered : ℕ} {how : Disposition} {next : State} {after : List ℕ} →
-      Leaves (happens s e) answers count how next answered after →
-      Leaves (happensIn (length answers) s e) answers count how next answered after
-  unfolding happensIn
+      Leaves (eventBatch s e) answers count how next answered after →
+      Leaves (eventBatchIn (length answers) s e) answers count how next answered after
+  unfolding eventBatchIn
   room-leaves room leaves = rw (le-ltb _ _ room) leaves
-
--- the graph stays
-pub happens-graph :
-    (s : State) (e : Event) →
-    let z = happens s e .state in
-    (s .bench .bridges ≡ z .bench .bridges) × (s .bench .links ≡ z .bench .links) × (s .bench .ends ≡ z .bench .ends)
-unfolding happens
-happens-graph s e = go (eqb (replyOf s e) 0)
-  where
-    go :
-        (b : Bool) →
-        let z = cond b (batch 1 Complete (stepBy s (callOf e)) (answersOf s e)) (batch 0 (Refused (replyOf s e)) s []) .state in
-        (s .bench .bridges ≡ z .bench .bridges) × (s .bench .links ≡ z .bench .links) × (s .bench .ends ≡ z .bench .ends)
-    go true = let kept = step-kept s (callOf e) in (sym (kept .bridges), sym (kept .links), sym (kept .ends))
-    go false = (refl, refl, refl)

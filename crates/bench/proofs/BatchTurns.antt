@@ -14,7 +14,7 @@ use lib.Dec.{eqb, ltb}
 use Rattle.bench.specs.declared.Event.{Event}
 use Rattle.bench.specs.State.{State}
 use Rattle.bench.specs.Batches.{callOf}
-use Rattle.bench.specs.Batches.{replyOf, answersOf, answerSize, Batch, batch, happens, happensIn, runs, ran, ranOf}
+use Rattle.bench.specs.Batches.{replyOf, answersOf, answerSize, Batch, batch, eventBatch, eventBatchIn, batchFrom, batchOutcome, batchOutcomeOf}
 use Rattle.bench.specs.Whole.{stepBy}
 use Rattle.bench.specs.Steps.{Leaves}
 use Rattle.bench.specs.declared.Disposition.{Disposition}
@@ -30,8 +30,8 @@ pub record Unmade (s : State) (b : Batch) : Type 0 where
   pub none : b .made ≡ 0
   pub same : b ≡ batch 0 (b .disposition) s []
 
-pub made-or-not : (room : ℕ) (s : State) (e : Event) → Made (happensIn room s e) ⊎ Unmade s (happensIn room s e)
-unfolding happensIn happens
+pub made-or-not : (room : ℕ) (s : State) (e : Event) → Made (eventBatchIn room s e) ⊎ Unmade s (eventBatchIn room s e)
+unfolding eventBatchIn eventBatch
 made-or-not room s e = go (ltb room (answerSize (s .bench .bridges) e)) (eqb (replyOf s e) 0)
   where
     go :
@@ -47,7 +47,7 @@ made-or-not room s e = go (ltb room (answerSize (s .bench .bridges) e)) (eqb (re
 
 -- the events that are still ahead, if the list goes on
 abbrev pub ahead : Bool → Disposition → ℕ → State → List Event → Batch
-ahead true how room s events = runs room s events
+ahead true how room s events = batchFrom room s events
 ahead false how room s events = batch 0 how s []
 
 -- what is made after so many
@@ -62,18 +62,26 @@ pub record Underway (all : Batch) (events : List Event) (first : List ℕ) (s : 
   pub few : made ≤ length events
   pub complete : going ≡ true → how ≡ Complete
 
-pub begins : (events : List Event) (s : State) (answers : List ℕ) → Underway (runs (length answers) s events) events answers s 0 0 answers true Complete
+pub begins : (events : List Event) (s : State) (answers : List ℕ) → Underway (batchFrom (length answers) s events) events answers s 0 0 answers true Complete
 begins events s answers =
     let whole : length answers - 0 ≡ length answers = omega arith in
     let zero : (b : Batch) → 0 + b .made ≡ b .made = λ b. omega arith in
     record {
-      same = rw (whole, zero (runs (length answers) s events));
+      same = rw (whole, zero (batchFrom (length answers) s events));
       behind = refl;
       long = refl;
       within = omega arith;
       few = omega arith;
       complete = λ e. refl;
     }
+
+-- in another form of its state
+pub stands :
+    {all : Batch} {events : List Event} {first : List ℕ} {x z : State} {made answered : ℕ} {answers : List ℕ} {going : Bool} {how : Disposition} →
+    x ≡ z →
+    Underway all events first z made answered answers going how →
+    Underway all events first x made answered answers going how
+stands same old = rw same old
 
 joins : {c d : ℕ} {h g : Disposition} {x y : State} {l k : List ℕ} → c ≡ d → h ≡ g → x ≡ y → l ≡ k → batch c h x l ≡ batch d g y k
 joins counts how state answers = rw (counts, how, state, answers)
@@ -98,9 +106,9 @@ module _
     {m n : ℕ}
     {by : Disposition}
     {next : State}
-    (done : Leaves (happensIn (length lent) s e) lent m by next n after) where
+    (done : Leaves (eventBatchIn (length lent) s e) lent m by next n after) where
   abbrev b : Batch
-  b = happensIn (length lent) s e
+  b = eventBatchIn (length lent) s e
 
   abbrev pre : List ℕ
   pre = take answered answers
@@ -146,16 +154,16 @@ module _
   events-on : drop made events ≡ e ∷ drop (suc made) events
   events-on = drop-cons events made none more ∙ rw is
 
-  so-far : all ≡ onto made pre (runs (length lent) s (e ∷ drop (suc made) events))
+  so-far : all ≡ onto made pre (batchFrom (length lent) s (e ∷ drop (suc made) events))
   so-far = old .same ∙ rw (events-on, lent-long)
 
   goes-on : Made b → Underway all events first next (made + m) (answered + n) (pre ++ after) true by
-  unfolding runs
+  unfolding batchFrom
   goes-on made-one =
       let one : m ≡ 1 = done .made ∙ made-one .one in
       let room : length lent - length (b .answers) ≡ length first - (answered + n) = omega (arith, done .counted, lent-long, fits) in
       let sum : made + m ≡ suc made = omega (arith, one) in
-      let then : Batch = runs (length first - (answered + n)) next (drop (suc made) events) in
+      let then : Batch = batchFrom (length first - (answered + n)) next (drop (suc made) events) in
       let count : made + suc (then .made) ≡ suc made + then .made = omega arith in
       record {
         same = so-far ∙ rw (made-one .one, room, sym (done .state), sum, head, count, append-assoc pre (b .answers) (then .answers));
@@ -166,10 +174,10 @@ module _
         complete = λ z. done .disposition ∙ made-one .complete;
       }
 
-  runs-stop : Unmade s b → runs (length lent) s (e ∷ drop (suc made) events) ≡ b
-  unfolding runs
+  runs-stop : Unmade s b → batchFrom (length lent) s (e ∷ drop (suc made) events) ≡ b
+  unfolding batchFrom
   runs-stop unmade =
-      let later : Batch = runs (length lent - length (b .answers)) (b .state) (drop (suc made) events) in
+      let later : Batch = batchFrom (length lent - length (b .answers)) (b .state) (drop (suc made) events) in
       ap (λ (k : ℕ). cond (eqb k 0) b (batch (suc (later .made)) (later .disposition) (later .state) (b .answers ++ later .answers))) (unmade .none)
 
   stops : Unmade s b → Underway all events first next (made + m) (answered + n) (pre ++ after) false by
@@ -203,8 +211,8 @@ pub ended :
     (all : Batch) (events : List Event) (first : List ℕ) (s : State) (made answered : ℕ) (answers : List ℕ) (going : Bool) (how : Disposition) →
     Underway all events first s made answered answers going how →
     (going ≡ true → length events ≤ made) →
-    ran made answered how s answers ≡ ranOf all first
-unfolding runs
+    batchOutcome made answered how s answers ≡ batchOutcomeOf all first
+unfolding batchFrom
 ended all events first s made answered answers going how w past = go going refl
   where
     counted : length (take answered answers) ≡ answered
@@ -213,12 +221,12 @@ ended all events first s made answered answers going how w past = go going refl
     whole : answers ≡ take answered answers ++ drop answered first
     whole = sym (take-append-drop answered answers) ∙ ap (λ (l : List ℕ). take answered answers ++ l) (w .behind)
 
-    finish : all ≡ onto made (take answered answers) (batch 0 how s []) → ran made answered how s answers ≡ ranOf all first
+    finish : all ≡ onto made (take answered answers) (batch 0 how s []) → batchOutcome made answered how s answers ≡ batchOutcomeOf all first
     finish is =
         let sum : made + 0 ≡ made = omega arith in
-        rw (is, sum, append-nil (take answered answers), counted) (ap (ran made answered how s) whole)
+        rw (is, sum, append-nil (take answered answers), counted) (ap (batchOutcome made answered how s) whole)
 
-    go : (b : Bool) → going ≡ b → ran made answered how s answers ≡ ranOf all first
+    go : (b : Bool) → going ≡ b → batchOutcome made answered how s answers ≡ batchOutcomeOf all first
     go false q = finish (rw q at (w .same))
     go true q =
         let none : drop made events ≡ [] = drop-of-length-le events (past q) in

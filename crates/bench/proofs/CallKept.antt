@@ -7,7 +7,7 @@ use mathlib.Core.List.{List, [], _∷_}
 use lib.ListN.{length, getD}
 use lib.Dec.{eqb, leb}
 use Rattle.agreement.specs.Offer.{opposite}
-use Rattle.agreement.specs.Call.{Said, says}
+use Rattle.agreement.specs.Call.{Response, says}
 use Rattle.agreement.specs.declared.Answer.{Answer}
 use borrow.Author.Tests.{eq-eqb}
 use Rattle.protocol.specs.Net.{sender}
@@ -15,10 +15,10 @@ use Rattle.protocol.specs.Calls.{Call, Check, change, update, cut, restore, sen
 use Rattle.protocol.specs.Calls as calls
 use Rattle.bench.specs.State.{State, network, networkOf, messageFrom}
 use Rattle.bench.specs.Ranges.{benchInRange, messagesInRange}
-use Rattle.bench.specs.Changes.{Changed, changed, Rewritten, rewritten, refusalOf, orRefused, stateInRange, updateOf, cutOf, restoreOf}
-use Rattle.bench.specs.Flights.{Flown, flown, sendOf, loseOf}
-use Rattle.bench.specs.Deliveries.{Delivered, received, deliveryReady, deliveryRefused, deliverOf, repeatOf}
-use Rattle.bench.specs.Answers.{Reported, report, reportOf}
+use Rattle.bench.specs.Changes.{BenchOutcome, benchOutcome, ChangeOutcome, changeOutcome, refusalOf, orRefused, stateInRange, updateOf, cutOf, restoreOf}
+use Rattle.bench.specs.Flights.{QueueOutcome, queueOutcome, sendOf, loseOf}
+use Rattle.bench.specs.Deliveries.{DeliveryOutcome, received, deliveryReady, deliveryRefused, deliverOf, repeatOf}
+use Rattle.bench.specs.Answers.{ReportOutcome, reportOutcome, reportOf}
 use Rattle.bench.specs.Whole.{stepBy}
 use Rattle.protocol.proofs.Accepted.{place-listed}
 use Rattle.bench.proofs.CallSteps.{withChanged, withRewritten, withFlown, withDelivered}
@@ -30,7 +30,7 @@ use Rattle.bench.proofs.TieRanges.{told}
 use Rattle.bench.proofs.TieReceived.{received-says}
 
 -- an accepted update, moved or not
-either-accepted : (b : Bool) (x y : Rewritten) → x .reply ≡ 0 → y .reply ≡ 0 → cond b x y .reply ≡ 0
+either-accepted : (b : Bool) (x y : ChangeOutcome) → x .reply ≡ 0 → y .reply ≡ 0 → cond b x y .reply ≡ 0
 either-accepted true x y first second = first
 either-accepted false x y first second = second
 
@@ -38,28 +38,28 @@ module _ (s : State) where
   -- ---- the bench alone, and update
 
   changed-kept :
-      (k : ℕ) (done : Changed) →
+      (k : ℕ) (done : BenchOutcome) →
       done .reply ≡ 0 →
-      let o : Changed = orRefused k (λ j. changed j (s .bench)) done in
+      let o : BenchOutcome = orRefused k (λ j. benchOutcome j (s .bench)) done in
       (o .reply ≡ 0 → ⊥) →
       withChanged s o ≡ s
-  changed-kept k done zero some = ap (withChanged s) (reply-some (λ o. o .reply) k (λ j. changed j (s .bench)) done (λ j. refl) (λ e. zero) some)
+  changed-kept k done zero some = ap (withChanged s) (reply-some (λ o. o .reply) k (λ j. benchOutcome j (s .bench)) done (λ j. refl) (λ e. zero) some)
 
   abbrev benchNumber : Call → ℕ
   benchNumber c = refusalOf (benchInRange (s .bench)) (networkOf (s .bench) []) c
 
   pub cut-number : (l : ℕ) → cutOf (s .bench) l .reply ≡ benchNumber (change (cut l))
   unfolding cutOf
-  cut-number l = reply-is (λ o. o .reply) _ (λ k. changed k (s .bench)) _ (λ j. refl) (λ z. refl)
+  cut-number l = reply-is (λ o. o .reply) _ (λ k. benchOutcome k (s .bench)) _ (λ j. refl) (λ z. refl)
 
   pub restore-number : (l : ℕ) → restoreOf (s .bench) l .reply ≡ benchNumber (change (restore l))
   unfolding restoreOf
-  restore-number l = reply-is (λ o. o .reply) _ (λ k. changed k (s .bench)) _ (λ j. refl) (λ z. refl)
+  restore-number l = reply-is (λ o. o .reply) _ (λ k. benchOutcome k (s .bench)) _ (λ j. refl) (λ z. refl)
 
   pub update-number : (y t : ℕ) → updateOf s y t .reply ≡ refusalOf (stateInRange s) (network s) (change (update y t))
   unfolding updateOf
   update-number y t =
-      reply-is (λ o. o .reply) _ (λ k. rewritten k (s .bench) (s .sent) (s .held)) _ (λ j. refl)
+      reply-is (λ o. o .reply) _ (λ k. changeOutcome k (s .bench) (s .sent) (s .held)) _ (λ j. refl)
       (λ z. either-accepted (eqb (getD (s .bench .view) y 0) t) _ _ refl refl)
 
   pub cut-kept : (l : ℕ) → (cutOf (s .bench) l .reply ≡ 0 → ⊥) → stepBy s (change (cut l)) ≡ s
@@ -74,30 +74,30 @@ module _ (s : State) where
   unfolding stepBy updateOf
   update-kept y t some =
       ap (withRewritten s)
-      (reply-some (λ o. o .reply) (refusalOf (stateInRange s) (network s) (change (update y t))) (λ k. rewritten k (s .bench) (s .sent) (s .held)) _ (λ k. refl)
+      (reply-some (λ o. o .reply) (refusalOf (stateInRange s) (network s) (change (update y t))) (λ k. changeOutcome k (s .bench) (s .sent) (s .held)) _ (λ k. refl)
       (λ e. either-accepted (eqb (getD (s .bench .view) y 0) t) _ _ refl refl)
       some)
 
   -- ---- the messages alone
 
   flown-kept :
-      (k : ℕ) (done : Flown) →
+      (k : ℕ) (done : QueueOutcome) →
       done .reply ≡ 0 →
-      let o : Flown = orRefused k (λ j. flown j (s .bench) (s .messages)) done in
+      let o : QueueOutcome = orRefused k (λ j. queueOutcome j (s .bench) (s .messages)) done in
       (o .reply ≡ 0 → ⊥) →
       withFlown s o ≡ s
-  flown-kept k done zero some = ap (withFlown s) (reply-some (λ o. o .reply) k (λ j. flown j (s .bench) (s .messages)) done (λ j. refl) (λ e. zero) some)
+  flown-kept k done zero some = ap (withFlown s) (reply-some (λ o. o .reply) k (λ j. queueOutcome j (s .bench) (s .messages)) done (λ j. refl) (λ e. zero) some)
 
   abbrev flightNumber : Call → ℕ
   flightNumber c = refusalOf (benchInRange (s .bench) && messagesInRange (s .bench) (s .messages)) (networkOf (s .bench) (s .messages)) c
 
   pub send-number : (y l : ℕ) → sendOf (s .bench) (s .messages) y l .reply ≡ flightNumber (send y l)
   unfolding sendOf
-  send-number y l = reply-is (λ o. o .reply) _ (λ k. flown k (s .bench) (s .messages)) _ (λ j. refl) (λ z. refl)
+  send-number y l = reply-is (λ o. o .reply) _ (λ k. queueOutcome k (s .bench) (s .messages)) _ (λ j. refl) (λ z. refl)
 
   pub lose-number : (p : ℕ) → loseOf (s .bench) (s .messages) p .reply ≡ flightNumber (lose p)
   unfolding loseOf
-  lose-number p = reply-is (λ o. o .reply) _ (λ k. flown k (s .bench) (s .messages)) _ (λ j. refl) (λ z. refl)
+  lose-number p = reply-is (λ o. o .reply) _ (λ k. queueOutcome k (s .bench) (s .messages)) _ (λ j. refl) (λ z. refl)
 
   pub send-kept : (y l : ℕ) → (sendOf (s .bench) (s .messages) y l .reply ≡ 0 → ⊥) → stepBy s (send y l) ≡ s
   unfolding stepBy sendOf
@@ -127,7 +127,7 @@ module _ (s : State) where
       checks (network s) c ≡ noMessage (network s) p ∷ cs →
       refusalOf (deliveryReady s) (network s) c ≡ 0 →
       received s p .reply .number ≡ 0
-  placed-taken p c cs asks none = ap (λ (o : Said Answer). o .number) (placed-says p c cs asks none .1)
+  placed-taken p c cs asks none = ap (λ (o : Response Answer). o .number) (placed-says p c cs asks none .1)
 
   pub deliver-number : (p : ℕ) → deliverOf s p .reply .number ≡ refusalOf (deliveryReady s) (network s) (deliver p)
   unfolding deliverOf checks
@@ -138,7 +138,7 @@ module _ (s : State) where
   repeat-number p = reply-is (λ o. o .reply .number) _ (deliveryRefused s) _ (λ j. refl) (placed-taken p (repeat p) _ refl)
 
   -- one that is accepted brings its answer
-  accepted-says : (k : ℕ) (done : Delivered) (a : Answer) → k ≡ 0 → done .reply ≡ says a → orRefused k (deliveryRefused s) done .reply ≡ says a
+  accepted-says : (k : ℕ) (done : DeliveryOutcome) (a : Answer) → k ≡ 0 → done .reply ≡ says a → orRefused k (deliveryRefused s) done .reply ≡ says a
   accepted-says k done a none is = rw (eq-eqb k 0 none) is
 
   pub deliver-says : (p : ℕ) → deliverOf s p .reply .number ≡ 0 → (a : Answer) × (deliverOf s p .reply ≡ says a)
@@ -156,22 +156,22 @@ module _ (s : State) where
       (h .0, accepted-says _ _ (h .0) none (h .1))
 
   delivered-kept :
-      (c : Call) (done : Delivered) →
+      (c : Call) (done : DeliveryOutcome) →
       (refusalOf (deliveryReady s) (network s) c ≡ 0 → done .reply .number ≡ 0) →
-      let o : Delivered = orRefused (refusalOf (deliveryReady s) (network s) c) (deliveryRefused s) done in
+      let o : DeliveryOutcome = orRefused (refusalOf (deliveryReady s) (network s) c) (deliveryRefused s) done in
       (o .reply .number ≡ 0 → ⊥) →
       withDelivered s o ≡ s
   delivered-kept c done zero some = ap (withDelivered s) (reply-some (λ o. o .reply .number) _ (deliveryRefused s) done (λ j. refl) zero some)
 
   -- and one that is refused brings none
   refused-silent :
-      (c : Call) (done : Delivered) →
+      (c : Call) (done : DeliveryOutcome) →
       (refusalOf (deliveryReady s) (network s) c ≡ 0 → done .reply .number ≡ 0) →
-      let o : Delivered = orRefused (refusalOf (deliveryReady s) (network s) c) (deliveryRefused s) done in
+      let o : DeliveryOutcome = orRefused (refusalOf (deliveryReady s) (network s) c) (deliveryRefused s) done in
       (o .reply .number ≡ 0 → ⊥) →
       o .reply .value ≡ []
   refused-silent c done zero some =
-      ap (λ (o : Delivered). o .reply .value) (reply-some (λ o. o .reply .number) _ (deliveryRefused s) done (λ j. refl) zero some)
+      ap (λ (o : DeliveryOutcome). o .reply .value) (reply-some (λ o. o .reply .number) _ (deliveryRefused s) done (λ j. refl) zero some)
 
   pub deliver-silent : (p : ℕ) → (deliverOf s p .reply .number ≡ 0 → ⊥) → deliverOf s p .reply .value ≡ []
   unfolding deliverOf checks
@@ -188,11 +188,4 @@ module _ (s : State) where
   pub repeat-kept : (p : ℕ) → (repeatOf s p .reply .number ≡ 0 → ⊥) → stepBy s (repeat p) ≡ s
   unfolding stepBy repeatOf checks
   repeat-kept p = delivered-kept (repeat p) _ (placed-taken p (repeat p) _ refl)
-
   -- ---- a report
-
-  pub report-kept : (d : ℕ) (rows : List ℕ) → (reportOf s d rows .reply ≡ 0 → ⊥) → reportOf s d rows .rows ≡ rows
-  unfolding reportOf
-  report-kept d rows some =
-      ap (λ (o : Reported). o .rows)
-      (reply-some (λ o. o .reply) (refusalOf (stateInRange s && leb 32 (length rows)) (network s) (calls.report d)) (λ k. report k rows) _ (λ k. refl) (λ e. refl) some)

@@ -8,7 +8,7 @@ use lib.Seq.{length-sets}
 use lib.Dec.{eqb}
 use Rattle.agreement.specs.Record.{freshRecord}
 use Rattle.agreement.specs.Ranges.{isView, recordInRange, deliveryInRange}
-use Rattle.agreement.specs.Call.{Lent, lentEndInRange, updateOutcome, deliverOutcome}
+use Rattle.agreement.specs.Call.{ViewData, lentEndInRange, updateOutcome, deliverOutcome}
 use Rattle.agreement.specs.declared.Agreement.{Agreement}
 use Rattle.agreement.specs.declared.EndRecord.{EndRecord}
 use Rattle.agreement.proofs.Limits.{withLimits-length}
@@ -16,9 +16,9 @@ use Rattle.agreement.proofs.Outcomes.{update-accepted, update-refused, deliver-
 use Rattle.protocol.specs.Calls.{Call, change, update, cut, restore, send, deliver, repeat, lose, port, report, path, messageOf}
 use Rattle.bench.specs.State.{State, network, networkOf, lentView}
 use Rattle.bench.specs.Ranges.{benchInRange, messagesInRange}
-use Rattle.bench.specs.Changes.{changed, benchWithCut, Ends, ends, ended, movedEnd, movedEnds, rewritten, movedBench, refusalOf, orRefused, stateInRange, updateOf, cutOf, restoreOf}
-use Rattle.bench.specs.Flights.{numbersOf, flown, withCount, sendOf, loseOf}
-use Rattle.bench.specs.Deliveries.{deliveryReady, deliveryRefused, receivedAt, received, deliverOf, repeatOf}
+use Rattle.bench.specs.Changes.{benchOutcome, benchWithCut, Ends, ends, ended, movedEnd, movedEnds, changeOutcome, movedBench, refusalOf, orRefused, stateInRange, updateOf, cutOf, restoreOf}
+use Rattle.bench.specs.Flights.{numbersOf, queueOutcome, withCount, sendOf, loseOf}
+use Rattle.bench.specs.Deliveries.{deliveryReady, deliveryRefused, deliveryAt, received, deliverOf, repeatOf}
 use Rattle.bench.specs.Whole.{stepBy}
 use Rattle.bench.proofs.CallSteps.{withChanged, withRewritten, withFlown, withDelivered}
 use Rattle.bench.proofs.TieFlights.{taken-length}
@@ -36,7 +36,7 @@ pub record Kept (s after : State) : Type 0 where
 abbrev SameLong : List ℕ → List ℕ → List ℕ → List ℕ → Type 0
 SameLong sent held before old = (length sent ≡ length before) × (length held ≡ length old)
 
-module _ (v : Lent) (e views t : ℕ) (r : EndRecord) (sent held : List ℕ) where
+module _ (v : ViewData) (e views t : ℕ) (r : EndRecord) (sent held : List ℕ) where
   update-long : let o = updateOutcome v views t e r sent held in SameLong (o .sent) (o .held) sent held
   update-long = go (lentEndInRange v sent held e && (isView views t && recordInRange views r)) refl
     where
@@ -67,7 +67,7 @@ module _ (v : Lent) (e views t : ℕ) (r : EndRecord) (sent held : List ℕ) whe
       go true = update-long
       go false = (refl, refl)
 
-ends-long : (v : Lent) (views y t k : ℕ) (x : Ends) → let z = movedEnds v views y t k x in SameLong (z .sent) (z .held) (x .sent) (x .held)
+ends-long : (v : ViewData) (views y t k : ℕ) (x : Ends) → let z = movedEnds v views y t k x in SameLong (z .sent) (z .held) (x .sent) (x .held)
 unfolding movedEnds
 ends-long v views y t zero x = (refl, refl)
 ends-long v views y t (suc e) x =
@@ -92,27 +92,27 @@ module _ (s : State) where
   flightNumber c = refusalOf (benchInRange (s .bench) && messagesInRange (s .bench) (s .messages)) (networkOf (s .bench) (s .messages)) c
 
   -- other messages, and another count of them
-  flown-kept : (k count : ℕ) (m : List ℕ) → length m ≡ length (s .messages) → Kept s (withFlown s (orRefused k (λ j. flown j (s .bench) (s .messages)) (flown 0 (withCount (s .bench) count) m)))
+  flown-kept : (k count : ℕ) (m : List ℕ) → length m ≡ length (s .messages) → Kept s (withFlown s (orRefused k (λ j. queueOutcome j (s .bench) (s .messages)) (queueOutcome 0 (withCount (s .bench) count) m)))
   flown-kept k count m long =
-      either (withFlown s) k (λ j. flown j (s .bench) (s .messages)) (flown 0 (withCount (s .bench) count) m) same
+      either (withFlown s) k (λ j. queueOutcome j (s .bench) (s .messages)) (queueOutcome 0 (withCount (s .bench) count) m) same
       (record { bridges = refl; links = refl; ends = refl; views = refl; sent = refl; held = refl; messages = long })
 
-  cut-kept : (k l : ℕ) (so : Bool) → Kept s (withChanged s (orRefused k (λ j. changed j (s .bench)) (changed 0 (benchWithCut (s .bench) l so))))
+  cut-kept : (k l : ℕ) (so : Bool) → Kept s (withChanged s (orRefused k (λ j. benchOutcome j (s .bench)) (benchOutcome 0 (benchWithCut (s .bench) l so))))
   cut-kept k l so =
-      either (withChanged s) k (λ j. changed j (s .bench)) (changed 0 (benchWithCut (s .bench) l so)) same
+      either (withChanged s) k (λ j. benchOutcome j (s .bench)) (benchOutcome 0 (benchWithCut (s .bench) l so)) same
       (record { bridges = refl; links = refl; ends = refl; views = refl; sent = refl; held = refl; messages = refl })
 
   update-kept : (y t : ℕ) → Kept s (stepBy s (change (update y t)))
   unfolding stepBy updateOf
   update-kept y t =
-      either (withRewritten s) (refusalOf (stateInRange s) (network s) (change (update y t))) (λ j. rewritten j (s .bench) (s .sent) (s .held)) _ same
+      either (withRewritten s) (refusalOf (stateInRange s) (network s) (change (update y t))) (λ j. changeOutcome j (s .bench) (s .sent) (s .held)) _ same
       (go (eqb (getD (s .bench .view) y 0) t))
     where
       go :
           (b : Bool) →
           Kept s
           (withRewritten s
-          (cond b (rewritten 0 (s .bench) (s .sent) (s .held))
+          (cond b (changeOutcome 0 (s .bench) (s .sent) (s .held))
           (movedBench (s .bench) y t
           (movedEnds (lentView (s .bench) (s .costs) t) (s .bench .views) y t (2 * s .bench .links) (ends (s .bench .records) (s .sent) (s .held))))))
       go true = same
@@ -121,18 +121,18 @@ module _ (s : State) where
           record { bridges = refl; links = refl; ends = refl; views = refl; sent = long .0; held = long .1; messages = refl }
 
   received-long : (p : ℕ) → let o = received s p in SameLong (o .sent) (o .held) (s .sent) (s .held)
-  unfolding receivedAt
+  unfolding deliveryAt
   received-long p = deliver-long _ _ _ _ _ (s .sent) (s .held) _ _
 
   repeat-kept : (p : ℕ) → Kept s (stepBy s (repeat p))
-  unfolding stepBy repeatOf receivedAt
+  unfolding stepBy repeatOf deliveryAt
   repeat-kept p =
       let long = received-long p in
       either (withDelivered s) (refusalOf (deliveryReady s) (network s) (repeat p)) (deliveryRefused s) (received s p) same
       (record { bridges = refl; links = refl; ends = refl; views = refl; sent = long .0; held = long .1; messages = refl })
 
   deliver-kept : (p : ℕ) → Kept s (stepBy s (deliver p))
-  unfolding stepBy deliverOf receivedAt
+  unfolding stepBy deliverOf deliveryAt
   deliver-kept p =
       let long = received-long p in
       either (withDelivered s) (refusalOf (deliveryReady s) (network s) (deliver p)) (deliveryRefused s) _ same

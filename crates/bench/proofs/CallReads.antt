@@ -12,18 +12,10 @@ module _ (s : State) (m : List ℕ) where
   abbrev other : State
   other = state (s .bench) (s .costs) (s .sent) (s .held) m
 
-  pub update-reads : (y t : ℕ) → updateOf other y t ≡ updateOf s y t
-  unfolding updateOf refusalOf checks changeChecks noSuchBridge noSuchView noNumberLeft
-  update-reads y t = refl
-
   pub reported-reads : (d k : ℕ) (rows : List ℕ) → reported other d k rows ≡ reported s d k rows
   unfolding reported reportedRow portIn
   reported-reads d zero rows = refl
   reported-reads d (suc k) rows = rw (reported-reads d k rows)
-
-  pub report-reads : (d : ℕ) (rows : List ℕ) → reportOf other d rows ≡ reportOf s d rows
-  unfolding reportOf refusalOf checks noSuchBridge
-  report-reads d rows = rw (reported-reads d (s .bench .bridges) rows)
 
   pub path-reads : (y d : ℕ) → pathOf other y d ≡ pathOf s y d
   unfolding pathOf refusalOf checks noSuchBridge hopIn portIn

@@ -4,25 +4,25 @@ use mathlib.Core.Path.{_≡_, refl}
 use mathlib.Core.List.{List, [], _∷_}
 use Rattle.protocol.specs.Calls.{Call, change, update, cut, restore, send, deliver, repeat, lose, port, report, path}
 use Rattle.bench.specs.State.{State, state}
-use Rattle.bench.specs.Changes.{Changed, Rewritten, cutOf, restoreOf, updateOf}
-use Rattle.bench.specs.Flights.{Flown, sendOf, loseOf}
-use Rattle.bench.specs.Deliveries.{Delivered, deliverOf, repeatOf}
+use Rattle.bench.specs.Changes.{BenchOutcome, ChangeOutcome, cutOf, restoreOf, updateOf}
+use Rattle.bench.specs.Flights.{QueueOutcome, sendOf, loseOf}
+use Rattle.bench.specs.Deliveries.{DeliveryOutcome, deliverOf, repeatOf}
 use Rattle.bench.specs.Whole.{stepBy, runBy}
 
 -- the state with what a call on the bench alone has made of it
-abbrev pub withChanged : State → Changed → State
+abbrev pub withChanged : State → BenchOutcome → State
 withChanged s o = state (o .bench) (s .costs) (s .sent) (s .held) (s .messages)
 
 -- with what an update has made of it
-abbrev pub withRewritten : State → Rewritten → State
+abbrev pub withRewritten : State → ChangeOutcome → State
 withRewritten s o = state (o .bench) (s .costs) (o .sent) (o .held) (s .messages)
 
 -- with what a call on the messages alone has made of it
-abbrev pub withFlown : State → Flown → State
+abbrev pub withFlown : State → QueueOutcome → State
 withFlown s o = state (o .bench) (s .costs) (s .sent) (s .held) (o .messages)
 
 -- and with what a delivery has made of it
-abbrev pub withDelivered : State → Delivered → State
+abbrev pub withDelivered : State → DeliveryOutcome → State
 withDelivered s o = state (o .bench) (s .costs) (o .sent) (o .held) (o .messages)
 
 module _ (s : State) where

@@ -23,11 +23,6 @@ module _ (b : Bench) (costs : List ℕ) (sent held : ℕ) where
   pub plan-lasting : (graphInRange b && (costsInRange b costs && limitsLong sent held)) ≡ true → LastingOf b costs
   plan-lasting ok = let g = both-true (graphInRange b) _ ok in rows-lasting (g .0) (g .1)
 
-  -- what most calls check
-  pub network-lasting : networkInRange b costs sent held ≡ true → LastingOf b costs
-  unfolding networkInRange benchInRange
-  network-lasting ok = let n = both-true (benchInRange b) _ ok in rows-lasting (both-true (graphInRange b) _ (n .0) .0) (n .1)
-
 -- an update's checks read the bench alone
 pub update-same : (s : State) (y t : ℕ) → refuse (networkOf (s .bench) []) (change (update y t)) ≡ refuse (network s) (change (update y t))
 unfolding refuse checks changeChecks noSuchBridge noSuchView noNumberLeft

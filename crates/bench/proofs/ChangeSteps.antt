@@ -5,18 +5,18 @@ use native.Mathlib.Numerals.{add-one}
 use mathlib.Core.List.{List, map}
 use mathlib.Core.Path.{_≡_, _∙_, sym, ap}
 use lib.ListN.{length, length-map, getD, set, take, drop}
-use Rattle.agreement.specs.Call.{Lent, lent, outcome, freshOutcome}
+use Rattle.agreement.specs.Call.{ViewData, viewData, outcome, freshOutcome}
 use Rattle.agreement.specs.Record.{freshRecord}
 use Rattle.agreement.specs.declared.EndRecord.{EndRecord}
 use Rattle.agreement.proofs.Basics.{getD-default}
 use Rattle.bench.specs.State.{lentView}
-use Rattle.bench.specs.Changes.{Ends, ends, ended, movedEnd, movedEnds, movedBench, Limits, limits, startedEnds}
+use Rattle.bench.specs.Changes.{Ends, ends, ended, movedEnd, movedEnds, movedBench, LimitTables, limitTables, startedEnds}
 use Rattle.bench.specs.Steps.{IsFilled}
 use Rattle.bench.specs.declared.Bench.{Bench}
 
 -- a record is read with the array's own default
 pub moved-more :
-    (v : Lent) (views y t e : ℕ) (start : Ends) (d : EndRecord)
+    (v : ViewData) (views y t e : ℕ) (start : Ends) (d : EndRecord)
     {records : List EndRecord} {sent held sent' held' : List ℕ} {r : EndRecord} →
     ends records sent held ≡ movedEnds v views y t e start →
     e < length records →
@@ -31,7 +31,7 @@ pub moved-all :
     IsFilled b costs tables t →
     ends records sent held
     ≡ movedEnds
-    (lent (b .bridges) (b .links) (b .ends) (take (32 * t + 32 - 32 * t) (drop (32 * t) costs))
+    (viewData (b .bridges) (b .links) (b .ends) (take (32 * t + 32 - 32 * t) (drop (32 * t) costs))
     (take (256 * t + 256 - 256 * t) (drop (256 * t) tables)))
     (b .views) y t (2 * b .links) start →
     movedBench b y t (ends records sent held) ≡ movedBench b y t (movedEnds (lentView b costs t) (b .views) y t (2 * b .links) start)
@@ -39,10 +39,10 @@ moved-all b costs tables y t start filled e =
     rw (add-sub-cancel-left (32 * t) 32, add-sub-cancel-left (256 * t) 256, filled) at (ap (movedBench b y t) e)
 
 pub started-more :
-    (v : Lent) (e : ℕ) (start : Limits) {sent held sent' held' : List ℕ} {k : ℕ} {r : EndRecord} →
-    limits sent held ≡ startedEnds v e start →
+    (v : ViewData) (e : ℕ) (start : LimitTables) {sent held sent' held' : List ℕ} {k : ℕ} {r : EndRecord} →
+    limitTables sent held ≡ startedEnds v e start →
     outcome k r sent' held' ≡ freshOutcome v e sent held →
-    limits sent' held' ≡ startedEnds v (e + 1) start
+    limitTables sent' held' ≡ startedEnds v (e + 1) start
 unfolding startedEnds
 started-more v e start i m = rw (add-one, ← i, ← m)
 

@@ -14,7 +14,7 @@ use Rattle.distances.proofs.Booleans.{both-true, true-both}
 use Rattle.distances.proofs.Tables.{cell-is}
 use Rattle.agreement.specs.Offer.{opposite}
 use Rattle.agreement.specs.Forwarding.{port}
-use Rattle.agreement.specs.Call.{Said, Lent, lentGraph, says, forwardingSays}
+use Rattle.agreement.specs.Call.{Response, ViewData, lentGraph, says, forwardingSays}
 use Rattle.agreement.specs.Choice.{firstChoice, nextChoice, portBy, chosenSays, nextOutcome, choiceOutcome}
 use Rattle.agreement.specs.declared.Choice.{Choice}
 use Rattle.agreement.specs.declared.Chosen.{Chosen}
@@ -42,13 +42,13 @@ use Rattle.bench.proofs.WalkSteps.{own-cell}
 -- ---- what the entry check tells
 
 module _ (b : Bench) (costs : List ℕ) (sent held : ℕ) (ok : networkInRange b costs sent held ≡ true) where
-  lasting : LastingOf b costs
+  pub lasting : LastingOf b costs
   unfolding benchInRange
   lasting =
       lasting-told b costs (both-true (graphInRange b) _ (network-bench b costs sent held ok) .0)
       (network-costs b costs sent held ok)
 
-  limits : (1024 ≤ sent) × (1024 ≤ held)
+  pub limits : (1024 ≤ sent) × (1024 ≤ held)
   unfolding networkInRange limitsLong
   limits =
       let h = both-true (leb 1024 sent) _ (both-true (costsInRange b costs) _ (both-true (benchInRange b) _ ok .1) .1) in
@@ -84,7 +84,7 @@ choiceSaid old Chosen.Refused = old
 choiceSaid old (Chosen.So c) = c
 
 said-choice : (old : Choice) (r : Chosen) (c : Choice) → chosenSays r ≡ says c → choiceSaid old r ≡ c
-said-choice old Chosen.Refused c e = absurd (let z : _≡_ {A = ℕ} 17 0 = ap (λ (o : Said Choice). o .number) e in omega arith)
+said-choice old Chosen.Refused c e = absurd (let z : _≡_ {A = ℕ} 17 0 = ap (λ (o : Response Choice). o .number) e in omega arith)
 said-choice old (Chosen.So x) c e = said-same x c e
 
 pub next-said :
@@ -101,13 +101,13 @@ portSaid (Forwarding.Found p) = p
 
 pub port-said : (c : Choice) (r : Forwarding) → c .link < 32 → forwardingSays r ≡ choiceOutcome c → portSaid r ≡ portBy c
 port-said c Forwarding.Refused low e =
-    absurd (let z : _≡_ {A = ℕ} 17 0 = ap (λ (o : Said _). o .number) (e ∙ choice-accepted c low) in omega arith)
+    absurd (let z : _≡_ {A = ℕ} 17 0 = ap (λ (o : Response _). o .number) (e ∙ choice-accepted c low) in omega arith)
 port-said c (Forwarding.Found p) low e = said-same p (portBy c) (e ∙ choice-accepted c low)
 
 -- ---- the port by layer 2's definition
 
 module _ (s : State) (ok : stateInRange s ≡ true) (y d : ℕ) (hy : y < s .bench .bridges) (hd : d < s .bench .bridges) where
-  abbrev pub lentTo : Lent
+  abbrev pub lentTo : ViewData
   lentTo = lentView (s .bench) (s .costs) (getD (s .bench .view) y 0)
 
   pub port-in : portIn s y d ≡ port (lentGraph lentTo) (costsOf (lentTo .costs)) (cell (lentTo .table)) (network s .records) y d

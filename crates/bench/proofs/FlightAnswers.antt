@@ -13,8 +13,8 @@ use Rattle.protocol.specs.Calls.{send, lose, deliver, checks, noMessage, linkCu
 use Rattle.bench.specs.State.{State, network, networkOf}
 use Rattle.bench.specs.Ranges.{benchInRange, messagesInRange}
 use Rattle.bench.specs.Changes.{refusalOf}
-use Rattle.bench.specs.Flights.{Flown, flown, numbersOf, withCount, takenOut, sendOf, loseOf}
-use Rattle.bench.specs.Deliveries.{Delivered, delivered, received, deliveryReady, deliveryRefused, deliverOf}
+use Rattle.bench.specs.Flights.{QueueOutcome, queueOutcome, numbersOf, withCount, takenOut, sendOf, loseOf}
+use Rattle.bench.specs.Deliveries.{DeliveryOutcome, deliveryOutcome, received, deliveryReady, deliveryRefused, deliverOf}
 use Rattle.bench.specs.declared.Bench.{Bench}
 use Rattle.bench.proofs.FlightRanges.{flight-told}
 use Rattle.bench.proofs.FlightCalls.{refusal-none, lose-told, send-told, DeliveryTold, delivery-told}
@@ -43,14 +43,14 @@ module _ (b : Bench) (m : List ℕ) where
     abbrev sendRefusal : ℕ
     sendRefusal = refusalOf (benchInRange b && messagesInRange b m) (networkOf b m) (send y l)
 
-    abbrev sendDone : Flown
-    sendDone = flown 0 (withCount b (b .messages + 1)) (sets m (5 * b .messages) (numbersOf (messageOf (networkOf b m) y l)))
+    abbrev sendDone : QueueOutcome
+    sendDone = queueOutcome 0 (withCount b (b .messages + 1)) (sets m (5 * b .messages) (numbersOf (messageOf (networkOf b m) y l)))
 
     pub send-left : sendOf b m y l .bench .messages ≤ b .messages → sendOf b m y l .messages ≡ m
     unfolding sendOf
     send-left = go (eqb sendRefusal 0)
       where
-        go : (t : Bool) → cond t sendDone (flown sendRefusal b m) .bench .messages ≤ b .messages → cond t sendDone (flown sendRefusal b m) .messages ≡ m
+        go : (t : Bool) → cond t sendDone (queueOutcome sendRefusal b m) .bench .messages ≤ b .messages → cond t sendDone (queueOutcome sendRefusal b m) .messages ≡ m
         go true h = absurd (omega arith)
         go false h = refl
 
@@ -59,8 +59,8 @@ module _ (b : Bench) (m : List ℕ) where
     send-put = go (eqb sendRefusal 0) refl
       where
         go :
-            (t : Bool) → eqb sendRefusal 0 ≡ t → b .messages < cond t sendDone (flown sendRefusal b m) .bench .messages →
-            Put b m (cond t sendDone (flown sendRefusal b m) .bench .messages) (cond t sendDone (flown sendRefusal b m) .messages)
+            (t : Bool) → eqb sendRefusal 0 ≡ t → b .messages < cond t sendDone (queueOutcome sendRefusal b m) .bench .messages →
+            Put b m (cond t sendDone (queueOutcome sendRefusal b m) .bench .messages) (cond t sendDone (queueOutcome sendRefusal b m) .messages)
         go true e h =
             let none = refusal-none (benchInRange b && messagesInRange b m) (networkOf b m) (send y l) (eqb-true sendRefusal 0 e) in
             let told = flight-told b m (none .0) in
@@ -79,8 +79,8 @@ module _ (b : Bench) (m : List ℕ) where
     abbrev loseRefusal : ℕ
     loseRefusal = refusalOf (benchInRange b && messagesInRange b m) (networkOf b m) (lose p)
 
-    abbrev loseDone : Flown
-    loseDone = flown 0 (withCount b (b .messages - 1)) (takenOut (b .messages) p m)
+    abbrev loseDone : QueueOutcome
+    loseDone = queueOutcome 0 (withCount b (b .messages - 1)) (takenOut (b .messages) p m)
 
     -- what an accepted one is told
     lose-listed : loseRefusal ≡ 0 → (p < b .messages) × ((b .messages ≤ 64) × (320 ≤ length m))
@@ -93,7 +93,7 @@ module _ (b : Bench) (m : List ℕ) where
     unfolding loseOf
     lose-left = go (eqb loseRefusal 0) refl
       where
-        go : (t : Bool) → eqb loseRefusal 0 ≡ t → b .messages ≤ cond t loseDone (flown loseRefusal b m) .bench .messages → cond t loseDone (flown loseRefusal b m) .messages ≡ m
+        go : (t : Bool) → eqb loseRefusal 0 ≡ t → b .messages ≤ cond t loseDone (queueOutcome loseRefusal b m) .bench .messages → cond t loseDone (queueOutcome loseRefusal b m) .messages ≡ m
         go true e h = let told = lose-listed (eqb-true loseRefusal 0 e) in absurd (omega (arith, told .0))
         go false e h = refl
 
@@ -102,8 +102,8 @@ module _ (b : Bench) (m : List ℕ) where
     lose-taken = go (eqb loseRefusal 0) refl
       where
         go :
-            (t : Bool) → eqb loseRefusal 0 ≡ t → cond t loseDone (flown loseRefusal b m) .bench .messages < b .messages →
-            Taken b m p (cond t loseDone (flown loseRefusal b m) .bench .messages) (cond t loseDone (flown loseRefusal b m) .messages)
+            (t : Bool) → eqb loseRefusal 0 ≡ t → cond t loseDone (queueOutcome loseRefusal b m) .bench .messages < b .messages →
+            Taken b m p (cond t loseDone (queueOutcome loseRefusal b m) .bench .messages) (cond t loseDone (queueOutcome loseRefusal b m) .messages)
         go true e h =
             let told = lose-listed (eqb-true loseRefusal 0 e) in
             record {
@@ -120,10 +120,10 @@ module _ (s : State) (p : ℕ) where
   abbrev deliverRefusal : ℕ
   deliverRefusal = refusalOf (deliveryReady s) (network s) (deliver p)
 
-  abbrev deliverDone : Delivered
+  abbrev deliverDone : DeliveryOutcome
   deliverDone =
-      let r : Delivered = received s p in
-      delivered (r .reply) (withCount (r .bench) (s .bench .messages - 1)) (r .sent) (r .held) (takenOut (s .bench .messages) p (s .messages))
+      let r : DeliveryOutcome = received s p in
+      deliveryOutcome (r .reply) (withCount (r .bench) (s .bench .messages - 1)) (r .sent) (r .held) (takenOut (s .bench .messages) p (s .messages))
 
   -- it is turned down by the messages and the cuts alone
   deliver-same : deliverRefusal ≡ refusalOf (deliveryReady s) (networkOf (s .bench) (s .messages)) (deliver p)

@@ -9,16 +9,16 @@ use lib.ListN.{length, getD}
 use Rattle.distances.specs.View.{graphOf}
 use Rattle.distances.proofs.Booleans.{both-true, true-both}
 use Rattle.agreement.specs.Record.{freshRecord}
-use Rattle.agreement.specs.Call.{Said, says, carryOutcome}
+use Rattle.agreement.specs.Call.{Response, says, carryOutcome}
 use Rattle.agreement.specs.declared.Agreement.{Agreement}
 use Rattle.agreement.specs.declared.Answer.{Answer}
 use Rattle.protocol.specs.Net.{Network}
 use Rattle.protocol.specs.Calls.{Call, send, deliver, repeat, lose, refuse, accepted, checks, noSuchBridge, noSuchLink, notOnLink, linkCut, noRoom, noMessage, endOf, messageOf}
 use Rattle.bench.specs.State.{State, network, networkOf}
 use Rattle.bench.specs.Ranges.{messageInRange}
-use Rattle.bench.specs.Changes.{Changed, changed, refusalOf, orRefused, stateInRange}
-use Rattle.bench.specs.Flights.{withCount, takenOut, flown, numbersOf}
-use Rattle.bench.specs.Deliveries.{Delivered, delivered, received, deliveryReady, deliveryRefused, deliverOf, repeatOf, refusedBy}
+use Rattle.bench.specs.Changes.{BenchOutcome, benchOutcome, refusalOf, orRefused, stateInRange}
+use Rattle.bench.specs.Flights.{withCount, takenOut, queueOutcome, numbersOf}
+use Rattle.bench.specs.Deliveries.{DeliveryOutcome, deliveryOutcome, received, deliveryReady, deliveryRefused, deliverOf, repeatOf, refusedBy}
 use Rattle.bench.specs.Steps.{Ready}
 use Rattle.bench.specs.declared.Bench.{Bench}
 use Rattle.agreement.proofs.Outcomes.{carry-accepted}
@@ -46,8 +46,8 @@ module _ {A : Type 0} (refused : ℕ → A) (done : A) (k n : ℕ) (same : k ≡
   settled-done none = rw (← same, none)
 
 -- a refused reply, beside the messages
-pub flown-refused : (m : List ℕ) {k j : ℕ} {b d : Bench} → changed k b ≡ changed j d → flown k b m ≡ flown j d m
-flown-refused m e = ap (λ (x : Changed). flown (x .reply) (x .bench) m) e
+pub flown-refused : (m : List ℕ) {k j : ℕ} {b d : Bench} → benchOutcome k b ≡ benchOutcome j d → queueOutcome k b m ≡ queueOutcome j d m
+flown-refused m e = ap (λ (x : BenchOutcome). queueOutcome (x .reply) (x .bench) m) e
 
 -- how many messages are in flight does not lie in their numbers
 module _ (b : Bench) (m : List ℕ) where
@@ -105,7 +105,7 @@ sent-numbers b m y l e x end same = rw (same, end)
 
 -- what is said twice is the same
 pub said-same : {A : Type 0} (x y : A) → says x ≡ says y → x ≡ y
-said-same {A} x y e = ap (λ (r : Said A). getD (r .value) 0 x) e
+said-same {A} x y e = ap (λ (r : Response A). getD (r .value) 0 x) e
 
 -- ---- deliver and repeat
 
@@ -127,12 +127,12 @@ module _ (s : State) (p k : ℕ) (same : k ≡ refusalOf (deliveryReady s) (netw
   unfolding refusalOf checks noMessage linkCut
   repeat-same = same
 
-  module _ (some : k ≡ 0 → ⊥) {reply : Said Answer} {b : Bench} (replied : reply ≡ refusedBy k) (kept : b ≡ s .bench) where
-    pub deliver-refused : delivered reply b (s .sent) (s .held) (s .messages) ≡ deliverOf s p
+  module _ (some : k ≡ 0 → ⊥) {reply : Response Answer} {b : Bench} (replied : reply ≡ refusedBy k) (kept : b ≡ s .bench) where
+    pub deliver-refused : deliveryOutcome reply b (s .sent) (s .held) (s .messages) ≡ deliverOf s p
     unfolding deliverOf
     deliver-refused = rw (replied, kept) (settled-refused (deliveryRefused s) _ k _ deliver-same some)
 
-    pub repeat-refused : delivered reply b (s .sent) (s .held) (s .messages) ≡ repeatOf s p
+    pub repeat-refused : deliveryOutcome reply b (s .sent) (s .held) (s .messages) ≡ repeatOf s p
     unfolding repeatOf
     repeat-refused = rw (replied, kept) (settled-refused (deliveryRefused s) _ k _ repeat-same some)
 
@@ -153,22 +153,22 @@ module _ (s : State) (p k : ℕ) (same : k ≡ refusalOf (deliveryReady s) (netw
           message = messages .each p low;
         }
 
-    module _ {reply : Said Answer} {b : Bench} {sent held : List ℕ} (taken : delivered reply b sent held (s .messages) ≡ received s p) where
+    module _ {reply : Response Answer} {b : Bench} {sent held : List ℕ} (taken : deliveryOutcome reply b sent held (s .messages) ≡ received s p) where
       -- taken out
       pub deliver-done :
           {next : Bench} {messages : List ℕ} →
           next ≡ withCount b (s .bench .messages - 1) →
           messages ≡ takenOut (s .bench .messages) p (s .messages) →
-          delivered reply next sent held messages ≡ deliverOf s p
+          deliveryOutcome reply next sent held messages ≡ deliverOf s p
       unfolding deliverOf
       deliver-done counted out =
           rw (counted, out)
           (ap
-          (λ (d : Delivered). delivered (d .reply) (withCount (d .bench) (s .bench .messages - 1)) (d .sent) (d .held) (takenOut (s .bench .messages) p (s .messages)))
+          (λ (d : DeliveryOutcome). deliveryOutcome (d .reply) (withCount (d .bench) (s .bench .messages - 1)) (d .sent) (d .held) (takenOut (s .bench .messages) p (s .messages)))
           taken
           ∙ settled-done (deliveryRefused s) _ k _ deliver-same none)
 
       -- left in
-      pub repeat-done : delivered reply b sent held (s .messages) ≡ repeatOf s p
+      pub repeat-done : deliveryOutcome reply b sent held (s .messages) ≡ repeatOf s p
       unfolding repeatOf
       repeat-done = taken ∙ settled-done (deliveryRefused s) _ k _ repeat-same none

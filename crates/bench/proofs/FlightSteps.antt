@@ -14,12 +14,12 @@ use Rattle.distances.proofs.Booleans.{not-both}
 use Rattle.distances.proofs.Tables.{rewritten-at, rewritten-none, rewritten-set}
 use Rattle.distances.proofs.Steps.{ltb-more}
 use Rattle.agreement.specs.Record.{freshRecord}
-use Rattle.agreement.specs.Call.{Said, Outcome, lent, outcome, deliverOutcome}
+use Rattle.agreement.specs.Call.{Response, Outcome, viewData, outcome, deliverOutcome}
 use Rattle.agreement.specs.declared.Agreement.{Agreement}
 use Rattle.agreement.specs.declared.Answer.{Answer}
 use Rattle.agreement.specs.declared.EndRecord.{EndRecord}
 use Rattle.bench.specs.State.{state}
-use Rattle.bench.specs.Deliveries.{Delivered, delivered, withRecords, receivedAt}
+use Rattle.bench.specs.Deliveries.{DeliveryOutcome, deliveryOutcome, benchWithRecords, deliveryAt}
 use Rattle.bench.specs.Steps.{Ready, IsFilled}
 use Rattle.bench.specs.declared.Bench.{Bench}
 
@@ -82,38 +82,10 @@ placed {b} ready e h =
       view = omega (arith, ready .fewViews, ready .areViews (getD (b .ends) e 0) low);
     }
 
--- what layer 2 makes of the end, with the view's parts as they are lent
-pub received-end :
-    (b : Bench) (costs tables sent held : List ℕ) (e t : ℕ) (m : Agreement) (old : EndRecord) →
-    IsFilled b costs tables (getD (b .view) (getD (b .ends) e 0) 0) →
-    t ≡ getD (b .view) (getD (b .ends) e 0) 0 →
-    old ≡ getD (b .records) e freshRecord →
-    {reply said : Said Answer} {end : EndRecord} {sent′ held′ : List ℕ} →
-    reply ≡ said →
-    outcome said end sent′ held′
-    ≡ deliverOutcome
-    (lent (b .bridges) (b .links) (b .ends) (take (32 * t + 32 - 32 * t) (drop (32 * t) costs)) (take (256 * t + 256 - 256 * t) (drop (256 * t) tables)))
-    (b .views)
-    t
-    (getD (b .number) (getD (b .ends) e 0) 0)
-    e
-    old
-    m
-    sent
-    held →
-    delivered reply (withRecords b (set (b .records) e end)) sent′ held′ [] ≡ receivedAt (state b costs sent held []) e m
-unfolding receivedAt
-received-end b costs tables sent held e t m old filled view same replied taken =
-    let row : 32 * t + 32 - 32 * t ≡ 32 = omega arith in
-    let block : 256 * t + 256 - 256 * t ≡ 256 = omega arith in
-    rw replied
-    (ap (λ (o : Outcome (Said Answer)). delivered (o .reply) (withRecords b (set (b .records) e (o .end))) (o .sent) (o .held) [])
-    (rw (row, block, view, same, filled) at taken))
-
 -- the messages stand beside what layer 2 makes of the end
 pub received-beside :
-    (m : List ℕ) (b : Bench) (costs sent held : List ℕ) (e : ℕ) (a : Agreement) {reply : Said Answer} {b′ : Bench} {sent′ held′ : List ℕ} →
-    delivered reply b′ sent′ held′ [] ≡ receivedAt (state b costs sent held []) e a →
-    delivered reply b′ sent′ held′ m ≡ receivedAt (state b costs sent held m) e a
-unfolding receivedAt
-received-beside m b costs sent held e a taken = ap (λ (d : Delivered). delivered (d .reply) (d .bench) (d .sent) (d .held) m) taken
+    (m : List ℕ) (b : Bench) (costs sent held : List ℕ) (e : ℕ) (a : Agreement) {reply : Response Answer} {b′ : Bench} {sent′ held′ : List ℕ} →
+    deliveryOutcome reply b′ sent′ held′ [] ≡ deliveryAt (state b costs sent held []) e a →
+    deliveryOutcome reply b′ sent′ held′ m ≡ deliveryAt (state b costs sent held m) e a
+unfolding deliveryAt
+received-beside m b costs sent held e a taken = ap (λ (d : DeliveryOutcome). deliveryOutcome (d .reply) (d .bench) (d .sent) (d .held) m) taken

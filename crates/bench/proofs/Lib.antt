@@ -17,6 +17,7 @@ pub mod TieSteps
 pub mod TieStarted
 pub mod TableSteps
 pub mod TieFresh
+pub mod FreshCalls
 pub mod TieWhole
 pub mod CallSteps
 pub mod CallReads
@@ -36,9 +37,13 @@ pub mod FlightRanges
 pub mod ChangeSteps
 pub mod WalkSteps
 pub mod ChoiceSteps
+pub mod ChainLaws
+pub mod ChainSteps
 pub mod LoopSteps
 pub mod ChoiceReads
 pub mod ViewReads
 pub mod ChangeEntry
 pub mod FlightCalls
 pub mod CallLengths
+pub mod ReceiveSteps
+pub mod UpdateSteps

@@ -10,7 +10,7 @@ use lib.Dec.{eqb, ltb}
 use borrow.Author.Tests.{ltb-true, ltb-false, lt-ltb}
 use Rattle.agreement.specs.Record.{freshRecord, updated}
 use Rattle.agreement.specs.Ranges.{recordInRange}
-use Rattle.agreement.specs.Call.{Lent}
+use Rattle.agreement.specs.Call.{ViewData}
 use Rattle.agreement.specs.declared.EndRecord.{EndRecord}
 use Rattle.agreement.proofs.RecordLaws.{holdingReceived, updated-by}
 use Rattle.agreement.proofs.InRange.{view-passes, record-same}
@@ -96,7 +96,7 @@ module _ (s : State) (r : StateReady s) where
   -- ---- bridge y moves to view t, another one
 
   module _ (y t : ℕ) where
-    abbrev pub lentOf : Lent
+    abbrev pub lentOf : ViewData
     lentOf = lentView (s .bench) (s .costs) t
 
     abbrev pub endsOf : Ends

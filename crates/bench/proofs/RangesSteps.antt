@@ -15,9 +15,9 @@ use Rattle.protocol.specs.Net.{sender}
 use Rattle.protocol.specs.Calls.{change, update, cut, restore, send, deliver, repeat, lose, refuse, accepted, checks, messageOf}
 use Rattle.bench.specs.State.{State, state, network, networkOf, messageFrom}
 use Rattle.bench.specs.Ranges.{graphInRange, benchInRange, costsInRange, messageInRange, messagesInRange, networkInRange}
-use Rattle.bench.specs.Changes.{changed, rewritten, movedBench, refusalOf, orRefused, stateInRange, benchWithCut, cutOf, restoreOf, updateOf}
-use Rattle.bench.specs.Flights.{Flown, flown, numbersOf, withCount, sendOf, loseOf}
-use Rattle.bench.specs.Deliveries.{deliveryReady, deliveryRefused, receivedAt, received, deliverOf, repeatOf}
+use Rattle.bench.specs.Changes.{benchOutcome, changeOutcome, movedBench, refusalOf, orRefused, stateInRange, benchWithCut, cutOf, restoreOf, updateOf}
+use Rattle.bench.specs.Flights.{QueueOutcome, queueOutcome, numbersOf, withCount, sendOf, loseOf}
+use Rattle.bench.specs.Deliveries.{deliveryReady, deliveryRefused, deliveryAt, received, deliverOf, repeatOf}
 use Rattle.bench.specs.Whole.{stepBy}
 use Rattle.bench.specs.declared.Bench.{Bench}
 use Rattle.protocol.proofs.Accepted.{SendListed, send-listed, place-listed}
@@ -43,7 +43,7 @@ module _ {A : Type 0} (after : A → State) (k : ℕ) (refused : ℕ → A) (don
 module _ (s : State) (r : StateReady s) where
   -- ---- changes
 
-  with-cut : (l : ℕ) (so : Bool) → StateReady (withChanged s (changed 0 (benchWithCut (s .bench) l so)))
+  with-cut : (l : ℕ) (so : Bool) → StateReady (withChanged s (benchOutcome 0 (benchWithCut (s .bench) l so)))
   with-cut l so =
       record {
         lasting = r .lasting;
@@ -59,26 +59,26 @@ module _ (s : State) (r : StateReady s) where
   pub cut-stays : (l : ℕ) → StateReady (stepBy s (change (cut l)))
   unfolding stepBy cutOf
   cut-stays l =
-      settled-kept (withChanged s) (refusalOf (benchInRange (s .bench)) (networkOf (s .bench) []) (change (cut l))) (λ k. changed k (s .bench))
-      (changed 0 (benchWithCut (s .bench) l true))
+      settled-kept (withChanged s) (refusalOf (benchInRange (s .bench)) (networkOf (s .bench) []) (change (cut l))) (λ k. benchOutcome k (s .bench))
+      (benchOutcome 0 (benchWithCut (s .bench) l true))
       (λ j. r)
       (λ z. with-cut l true)
 
   pub restore-stays : (l : ℕ) → StateReady (stepBy s (change (restore l)))
   unfolding stepBy restoreOf
   restore-stays l =
-      settled-kept (withChanged s) (refusalOf (benchInRange (s .bench)) (networkOf (s .bench) []) (change (restore l))) (λ k. changed k (s .bench))
-      (changed 0 (benchWithCut (s .bench) l false))
+      settled-kept (withChanged s) (refusalOf (benchInRange (s .bench)) (networkOf (s .bench) []) (change (restore l))) (λ k. benchOutcome k (s .bench))
+      (benchOutcome 0 (benchWithCut (s .bench) l false))
       (λ j. r)
       (λ z. with-cut l false)
 
   pub update-stays : length (s .bench .records) ≡ 64 → (y t : ℕ) → StateReady (stepBy s (change (update y t)))
   unfolding stepBy updateOf
   update-stays room y t =
-      settled-kept (withRewritten s) (refusalOf (stateInRange s) (network s) (change (update y t))) (λ k. rewritten k (s .bench) (s .sent) (s .held)) _ (λ j. r)
+      settled-kept (withRewritten s) (refusalOf (stateInRange s) (network s) (change (update y t))) (λ k. changeOutcome k (s .bench) (s .sent) (s .held)) _ (λ j. r)
       (λ none. go (eqb (getD (s .bench .view) y 0) t) (update-told (network s) y t refl (refusal-none _ (network s) (change (update y t)) none .1) .view))
     where
-      go : (same : Bool) → t < s .bench .views → StateReady (withRewritten s (cond same (rewritten 0 (s .bench) (s .sent) (s .held)) (movedBench (s .bench) y t (endsAfter s r y t))))
+      go : (same : Bool) → t < s .bench .views → StateReady (withRewritten s (cond same (changeOutcome 0 (s .bench) (s .sent) (s .held)) (movedBench (s .bench) y t (endsAfter s r y t))))
       go true low = r
       go false low = moved-kept s r y t room low
 
@@ -87,7 +87,7 @@ module _ (s : State) (r : StateReady s) where
   pub lose-stays : (p : ℕ) → StateReady (stepBy s (lose p))
   unfolding stepBy loseOf
   lose-stays p =
-      settled-kept (withFlown s) (refusalOf (benchInRange (s .bench) && messagesInRange (s .bench) (s .messages)) (networkOf (s .bench) (s .messages)) (lose p)) (λ k. flown k (s .bench) (s .messages)) _ (λ j. r)
+      settled-kept (withFlown s) (refusalOf (benchInRange (s .bench) && messagesInRange (s .bench) (s .messages)) (networkOf (s .bench) (s .messages)) (lose p)) (λ k. queueOutcome k (s .bench) (s .messages)) _ (λ j. r)
       (λ none. taken-kept s r p (lose-told (s .bench) (s .messages) p (refusal-none _ (networkOf (s .bench) (s .messages)) (lose p) none .1)))
 
   placed-kept : (p : ℕ) → p < s .bench .messages → StateReady (withDelivered s (received s p))
@@ -102,7 +102,7 @@ module _ (s : State) (r : StateReady s) where
       (λ none. placed-kept p (rw messages-length at (place-listed (network s) p _ (refusal-none _ (network s) (repeat p) none .1))))
 
   pub deliver-stays : (p : ℕ) → StateReady (stepBy s (deliver p))
-  unfolding stepBy deliverOf refuse checks receivedAt
+  unfolding stepBy deliverOf refuse checks deliveryAt
   deliver-stays p =
       settled-kept (withDelivered s) (refusalOf (deliveryReady s) (network s) (deliver p)) (deliveryRefused s) _ (λ j. r)
       (λ none.
@@ -148,7 +148,7 @@ module _ (b : Bench) (m : List ℕ) (y l : ℕ) where
 pub send-stays :
     (s : State) (y l : ℕ) →
     deliveryReady s ≡ true →
-    (let o : Flown = sendOf (s .bench) (s .messages) y l in flightInRange (o .bench) (o .messages)) ≡ true →
+    (let o : QueueOutcome = sendOf (s .bench) (s .messages) y l in flightInRange (o .bench) (o .messages)) ≡ true →
     deliveryReady (stepBy s (send y l)) ≡ true
 unfolding stepBy sendOf networkInRange costsInRange
 send-stays s y l ok = go (eqb (refusalOf (flightInRange (s .bench) (s .messages)) (networkOf (s .bench) (s .messages)) (send y l)) 0)
@@ -156,10 +156,10 @@ send-stays s y l ok = go (eqb (refusalOf (flightInRange (s .bench) (s .messages)
     k : ℕ
     k = refusalOf (flightInRange (s .bench) (s .messages)) (networkOf (s .bench) (s .messages)) (send y l)
 
-    outcome : Bool → Flown
+    outcome : Bool → QueueOutcome
     outcome b =
-        cond b (flown 0 (withCount (s .bench) (s .bench .messages + 1)) (sets (s .messages) (5 * s .bench .messages) (numbersOf (messageOf (networkOf (s .bench) (s .messages)) y l))))
-        (flown k (s .bench) (s .messages))
+        cond b (queueOutcome 0 (withCount (s .bench) (s .bench .messages + 1)) (sets (s .messages) (5 * s .bench .messages) (numbersOf (messageOf (networkOf (s .bench) (s .messages)) y l))))
+        (queueOutcome k (s .bench) (s .messages))
 
     go : (b : Bool) → flightInRange (outcome b .bench) (outcome b .messages) ≡ true → deliveryReady (withFlown s (outcome b)) ≡ true
     go true flight =

@@ -11,7 +11,7 @@ use lib.Seq.{length-take-le, getD-take, getD-drop, take-at, drop-at, ext-getD, g
 use lib.Dec.{eqb, ltb}
 use Rattle.distances.proofs.Outcomes.{distances-length}
 use Rattle.bench.specs.State.{part, distanceTable}
-use Rattle.bench.specs.Steps.{filledView, IsFilled, AllFilled, Tables}
+use Rattle.bench.specs.Steps.{filledView, IsFilled, AllFilled, Tables, TablesOf}
 use Rattle.bench.specs.declared.Bench.{Bench}
 use Rattle.bench.proofs.TieRanges.{part-at, part-length, getD-stored}
 
@@ -95,59 +95,66 @@ module _ (b : Bench) (costs tables : List ℕ) (known : List Bool) (kept : Table
       AllFilled b costs tables
   all-filled low so y h = tables-filled (getD (b .view) y 0) (low y h) (so y h)
 
-  module _ (t : ℕ) (low : t < 32) (new : getD known t false ≡ false) where
-    abbrev filled : List ℕ
-    filled = distanceTable (b .bridges) (b .links) (b .ends) costs t
+module _
+    (bridges links : ℕ)
+    (places costs tables : List ℕ)
+    (known : List Bool)
+    (kept : TablesOf bridges links places costs tables known)
+    (t : ℕ)
+    (low : t < 32)
+    (new : getD known t false ≡ false) where
+  abbrev filled : List ℕ
+  filled = distanceTable bridges links places costs t
 
-    blank : part 256 t tables ≡ replicate 256 0
-    blank = kept .block t low ∙ rw new
+  blank : part 256 t tables ≡ replicate 256 0
+  blank = kept .block t low ∙ rw new
 
-    filled-long : length filled ≡ 256
-    unfolding distanceTable
-    filled-long = distances-length (b .bridges) (b .links) (b .ends) (part 32 t costs) (replicate 256 0) ∙ length-replicate {A = ℕ} 256 0
+  filled-long : length filled ≡ 256
+  unfolding distanceTable
+  filled-long = distances-length bridges links places (part 32 t costs) (replicate 256 0) ∙ length-replicate {A = ℕ} 256 0
 
-    is-filled :
-        filledView (b .bridges) (b .links) (b .ends) costs t tables
-        ≡ take (256 * t) tables ++ (filled ++ drop 256 (drop (256 * t) tables))
-    unfolding filledView distanceTable
-    is-filled = rw blank
+  is-filled :
+      filledView bridges links places costs t tables
+      ≡ take (256 * t) tables ++ (filled ++ drop 256 (drop (256 * t) tables))
+  unfolding filledView distanceTable
+  is-filled = rw blank
 
-    room : 256 * t + 256 ≤ length tables
-    room = omega (arith, kept .long)
+  room : 256 * t + 256 ≤ length tables
+  room = omega (arith, kept .long)
 
-    pub tables-more : Tables b costs (filledView (b .bridges) (b .links) (b .ends) costs t tables) (set known t true)
-    tables-more =
-        rw is-filled
-        (record {
-          long = replaced-length t tables filled room filled-long ∙ kept .long;
-          flags = length-set known t true ∙ kept .flags;
-          block = λ u h. go u h (eqb u t) refl;
-        })
-      where
-        flag : (u : ℕ) → getD (set known t true) u false ≡ cond (eqb u t) true (getD known u false)
-        flag u = getD-stored known t true u false (omega (arith, kept .flags))
+  pub tables-more : TablesOf bridges links places costs (filledView bridges links places costs t tables) (set known t true)
+  tables-more =
+      rw is-filled
+      (record {
+        long = replaced-length t tables filled room filled-long ∙ kept .long;
+        flags = length-set known t true ∙ kept .flags;
+        block = λ u h. go u h (eqb u t) refl;
+      })
+    where
+      flag : (u : ℕ) → getD (set known t true) u false ≡ cond (eqb u t) true (getD known u false)
+      flag u = getD-stored known t true u false (omega (arith, kept .flags))
 
-        go :
-            (u : ℕ) →
-            u < 32 →
-            (c : Bool) →
-            eqb u t ≡ c →
-            part 256 u (replaced t tables filled room filled-long)
-            ≡ cond (getD (set known t true) u false) (distanceTable (b .bridges) (b .links) (b .ends) costs u) (replicate 256 0)
-        go u h true q = rw (flag u, q, eqb-true u t q) (replaced-same t tables filled room filled-long)
-        go u h false q =
-            rw (flag u, q) (replaced-other t tables filled room filled-long u (eqb-false u t q) (omega (arith, kept .long)) ∙ kept .block u h)
+      go :
+          (u : ℕ) →
+          u < 32 →
+          (c : Bool) →
+          eqb u t ≡ c →
+          part 256 u (replaced t tables filled room filled-long)
+          ≡ cond (getD (set known t true) u false) (distanceTable bridges links places costs u) (replicate 256 0)
+      go u h true q = rw (flag u, q, eqb-true u t q) (replaced-same t tables filled room filled-long)
+      go u h false q =
+          rw (flag u, q) (replaced-other t tables filled room filled-long u (eqb-false u t q) (omega (arith, kept .long)) ∙ kept .block u h)
 
-    -- it is known, and what was known still is
-    pub known-now : getD (set known t true) t false ≡ true
-    known-now = getD-set-same known t true false (omega (arith, kept .flags))
+  -- it is known, and what was known still is
+  pub known-now : getD (set known t true) t false ≡ true
+  known-now = getD-set-same known t true false (omega (arith, kept .flags))
 
-    pub known-still : (u : ℕ) → getD known u false ≡ true → getD (set known t true) u false ≡ true
-    known-still u so = getD-stored known t true u false (omega (arith, kept .flags)) ∙ go (eqb u t)
-      where
-        go : (c : Bool) → cond c true (getD known u false) ≡ true
-        go true = refl
-        go false = so
+  pub known-still : (u : ℕ) → getD known u false ≡ true → getD (set known t true) u false ≡ true
+  known-still u so = getD-stored known t true u false (omega (arith, kept .flags)) ∙ go (eqb u t)
+    where
+      go : (c : Bool) → cond c true (getD known u false) ≡ true
+      go true = refl
+      go false = so
 
 -- another bench over the same graph
 pub tables-same :

@@ -8,7 +8,7 @@ use lib.ListN.{length, getD}
 use lib.Dec.{eqb}
 use Rattle.distances.specs.View.{InRange}
 use Rattle.distances.proofs.Booleans.{below}
-use Rattle.agreement.specs.Call.{Said, says}
+use Rattle.agreement.specs.Call.{Response, says}
 use Rattle.agreement.specs.declared.Port.{Port}
 use Rattle.agreement.proofs.PortCong.{port-cong}
 use Rattle.protocol.specs.Net.{Network, Plan}
@@ -69,8 +69,8 @@ module _ (s : State) (n : Network) (r : Represents s n) where
     is-view : viewOf < s .bench .views
     is-view = inside .view y hy
 
-    pub port-same : portIn s y d ≡ ports.portOf n y d
-    unfolding ports.portOf
+    pub port-same : portIn s y d ≡ ports.forwardingPort n y d
+    unfolding ports.forwardingPort
     port-same =
         port-in s (network-ready s inside) y d hy hd
         ∙ rw (r .plan, r .view y hy)
@@ -96,11 +96,11 @@ module _ (s : State) (n : Network) (r : Represents s n) where
   asked : (c : Call) → refusalOf (stateInRange s) (network s) c ≡ refuse n c
   asked c = refusal-same s n r (stateInRange s) c (network-ready s inside)
 
-  pub port-answered : (y d : ℕ) → portOf s y d ≡ orRefused (refuse n (calls.port y d)) refusedBy (says (ports.portOf n y d))
+  pub port-answered : (y d : ℕ) → portOf s y d ≡ orRefused (refuse n (calls.port y d)) refusedBy (says (ports.forwardingPort n y d))
   unfolding portOf refuse checks
   port-answered y d =
       rw (asked (calls.port y d))
-      (settled-same (λ (x : Said Port). x) (refuse n (calls.port y d)) refusedBy refusedBy _ _ refl (λ e.
+      (settled-same (λ (x : Response Port). x) (refuse n (calls.port y d)) refusedBy refusedBy _ _ refl (λ e.
       let one = listed y _ e in
       ap says (port-same y d (one .0) (listed d _ (one .1) .0))))
 
@@ -125,6 +125,6 @@ module _ (s : State) (n : Network) (r : Represents s n) where
   unfolding pathOf refuse checks
   path-answered y d =
       rw (asked (calls.path y d))
-      (settled-same (λ (x : Said Way). x) (refuse n (calls.path y d)) refusedBy refusedBy _ _ refl (λ e.
+      (settled-same (λ (x : Response Way). x) (refuse n (calls.path y d)) refusedBy refusedBy _ _ refl (λ e.
       let one = listed y _ e in
       ap says (path-same y d (one .0) (listed d _ (one .1) .0))))

@@ -7,10 +7,10 @@ use mathlib.Core.List.{List, [], _∷_}
 use lib.ListN.{length-set}
 use Rattle.distances.proofs.Booleans.{below}
 use Rattle.protocol.specs.Net.{Network}
-use Rattle.protocol.specs.Calls.{Check, change, cut, restore, refusal, noSuchLink, already, changeChecks, checks, refuse, withCut, changed, act, step}
+use Rattle.protocol.specs.Calls.{Check, change, cut, restore, refusal, noSuchLink, already, changeChecks, checks, refuse, withCut, afterChange, act, step}
 use Rattle.bench.specs.State.{State, state, networkOf}
 use Rattle.bench.specs.Ranges.{graphInRange, benchInRange, costsInRange, messagesInRange, networkInRange}
-use Rattle.bench.specs.Changes.{Changed, changed as leaving, refusalOf, benchWithCut, cutOf, restoreOf}
+use Rattle.bench.specs.Changes.{BenchOutcome, benchOutcome, refusalOf, benchWithCut, cutOf, restoreOf}
 use Rattle.bench.specs.Whole.{Represents, stepBy}
 use Rattle.distances.proofs.Refusals.{passed}
 use Rattle.protocol.proofs.Accepted.{accepted-checks}
@@ -59,29 +59,29 @@ module _ (s : State) (n : Network) (r : Represents s n) where
   restore-refused l = refusal-same s n r (benchInRange (s .bench)) (change (restore l)) (bench-ready s (told s (r .inRange)))
 
   -- the state with the bench that a cut or a restore leaves
-  abbrev withBench : Changed → State
+  abbrev withBench : BenchOutcome → State
   withBench o = state (o .bench) (s .costs) (s .sent) (s .held) (s .messages)
 
   pub cut-represents : (l : ℕ) → Represents (stepBy s (change (cut l))) (step n (change (cut l)))
-  unfolding stepBy cutOf act changed checks changeChecks
+  unfolding stepBy cutOf act afterChange checks changeChecks
   cut-represents l =
-      settled-step withBench n (change (cut l)) _ (λ k. leaving k (s .bench)) (leaving 0 (benchWithCut (s .bench) l true))
+      settled-step withBench n (change (cut l)) _ (λ k. benchOutcome k (s .bench)) (benchOutcome 0 (benchWithCut (s .bench) l true))
       (cut-refused l)
       (λ m. r)
       (λ a. kept-cut l true (is-listed l _ (accepted-checks n (change (cut l)) a)))
 
   pub restore-represents : (l : ℕ) → Represents (stepBy s (change (restore l))) (step n (change (restore l)))
-  unfolding stepBy restoreOf act changed checks changeChecks
+  unfolding stepBy restoreOf act afterChange checks changeChecks
   restore-represents l =
-      settled-step withBench n (change (restore l)) _ (λ k. leaving k (s .bench)) (leaving 0 (benchWithCut (s .bench) l false))
+      settled-step withBench n (change (restore l)) _ (λ k. benchOutcome k (s .bench)) (benchOutcome 0 (benchWithCut (s .bench) l false))
       (restore-refused l)
       (λ m. r)
       (λ a. kept-cut l false (is-listed l _ (accepted-checks n (change (restore l)) a)))
 
   pub cut-replied : (l : ℕ) → cutOf (s .bench) l .reply ≡ refuse n (change (cut l))
   unfolding cutOf
-  cut-replied l = reply-is (λ (o : Changed). o .reply) _ (λ k. leaving k (s .bench)) _ (λ k. refl) (λ e. refl) ∙ cut-refused l
+  cut-replied l = reply-is (λ (o : BenchOutcome). o .reply) _ (λ k. benchOutcome k (s .bench)) _ (λ k. refl) (λ e. refl) ∙ cut-refused l
 
   pub restore-replied : (l : ℕ) → restoreOf (s .bench) l .reply ≡ refuse n (change (restore l))
   unfolding restoreOf
-  restore-replied l = reply-is (λ (o : Changed). o .reply) _ (λ k. leaving k (s .bench)) _ (λ k. refl) (λ e. refl) ∙ restore-refused l
+  restore-replied l = reply-is (λ (o : BenchOutcome). o .reply) _ (λ k. benchOutcome k (s .bench)) _ (λ k. refl) (λ e. refl) ∙ restore-refused l

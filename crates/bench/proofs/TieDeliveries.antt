@@ -10,7 +10,7 @@ use Rattle.protocol.specs.Calls.{Check, deliver, repeat, refusal, noMessage, re
 use Rattle.protocol.specs.Calls as calls
 use Rattle.bench.specs.State.{State, messageFrom}
 use Rattle.bench.specs.Changes.{orRefused}
-use Rattle.bench.specs.Deliveries.{Delivered, refusedBy, deliveryReady, deliveryRefused, receivedAt, received, repeatOf, deliverOf}
+use Rattle.bench.specs.Deliveries.{DeliveryOutcome, refusedBy, deliveryReady, deliveryRefused, deliveryAt, received, repeatOf, deliverOf}
 use Rattle.bench.specs.Whole.{Represents, stepBy}
 use Rattle.bench.proofs.CallSteps.{withDelivered}
 use Rattle.bench.proofs.TieRanges.{told}
@@ -27,8 +27,8 @@ module _ (s : State) (n : Network) (r : Represents s n) (p : ℕ) where
   placed cs e = rw (r .messages, messages-length) at (place-listed n p cs e)
 
   -- the message at place p is received
-  placed-represents : p < s .bench .messages → Represents (withDelivered s (received s p)) (calls.delivered n (messageAt n p))
-  unfolding calls.delivered
+  placed-represents : p < s .bench .messages → Represents (withDelivered s (received s p)) (calls.afterDelivery n (messageAt n p))
+  unfolding calls.afterDelivery
   placed-represents h =
       let inside = message-in-range s n r p h in
       rw (same-message-at s n r p h)
@@ -41,12 +41,12 @@ module _ (s : State) (n : Network) (r : Represents s n) (p : ℕ) where
       (λ a. placed-represents (placed _ (accepted-checks n (repeat p) a)))
 
   pub deliver-represents : Represents (stepBy s (deliver p)) (step n (deliver p))
-  unfolding stepBy deliverOf act checks receivedAt calls.delivered calls.receivedAt
+  unfolding stepBy deliverOf act checks deliveryAt calls.afterDelivery calls.receivedAt
   deliver-represents =
       settled-step (withDelivered s) n (deliver p) _ (deliveryRefused s) _ (refusal-same s n r _ (deliver p) (r .inRange)) (λ k. r)
       (λ a.
       let h : p < s .bench .messages = placed _ (accepted-checks n (deliver p) a) in
-      taken-represents (withDelivered s (received s p)) (calls.delivered n (messageAt n p)) (placed-represents h) p h)
+      taken-represents (withDelivered s (received s p)) (calls.afterDelivery n (messageAt n p)) (placed-represents h) p h)
 
   -- and answered
   placed-answer : p < s .bench .messages → received s p .reply ≡ says (answerAt n p)
@@ -59,10 +59,10 @@ module _ (s : State) (n : Network) (r : Represents s n) (p : ℕ) where
   unfolding repeatOf refuse checks
   repeat-replied =
       rw (refusal-same s n r (deliveryReady s) (repeat p) (r .inRange))
-      (settled-same (λ (o : Delivered). o .reply) (refuse n (repeat p)) (deliveryRefused s) refusedBy _ _ refl (λ e. placed-answer (placed _ e)))
+      (settled-same (λ (o : DeliveryOutcome). o .reply) (refuse n (repeat p)) (deliveryRefused s) refusedBy _ _ refl (λ e. placed-answer (placed _ e)))
 
   pub deliver-replied : deliverOf s p .reply ≡ orRefused (refuse n (deliver p)) refusedBy (says (answerAt n p))
   unfolding deliverOf refuse checks
   deliver-replied =
       rw (refusal-same s n r (deliveryReady s) (deliver p) (r .inRange))
-      (settled-same (λ (o : Delivered). o .reply) (refuse n (deliver p)) (deliveryRefused s) refusedBy _ _ refl (λ e. placed-answer (placed _ e)))
+      (settled-same (λ (o : DeliveryOutcome). o .reply) (refuse n (deliver p)) (deliveryRefused s) refusedBy _ _ refl (λ e. placed-answer (placed _ e)))

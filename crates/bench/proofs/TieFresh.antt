@@ -14,12 +14,12 @@ use Rattle.distances.proofs.Booleans.{both-true, true-both}
 use Rattle.agreement.specs.Record.{freshRecord}
 use Rattle.agreement.specs.Ranges.{recordInRange}
 use Rattle.agreement.specs.declared.EndRecord.{EndRecord}
-use Rattle.agreement.specs.Call.{Lent, lent, lentOffer}
+use Rattle.agreement.specs.Call.{ViewData, viewData, lentOffer}
 use Rattle.agreement.proofs.InRange.{fresh-record-passes}
 use Rattle.protocol.specs.Net.{fresh, distanceIn, offerIn}
 use Rattle.bench.specs.State.{State, state, part, lentView, distanceTable, messagesFrom}
 use Rattle.bench.specs.Ranges.{graphInRange, costsInRange, limitsLong}
-use Rattle.bench.specs.Changes.{Limits, limits, startedEnds, freshBench, rewritten, freshOf}
+use Rattle.bench.specs.Changes.{LimitTables, limitTables, startedEnds, freshBench, changeOutcome, freshOf}
 use Rattle.bench.specs.Whole.{Represents, Typed, freshBy, planIn}
 use Rattle.bench.specs.declared.Bench.{Bench}
 use Rattle.bench.proofs.TieRanges.{LastingOf, StateReady, lasting-told, graph-kept, costs-kept, few, cost-at, view-in-range, lent-in-range, lent-offer-in, ready}
@@ -37,7 +37,7 @@ module _
     (b : Bench)
     (costs sent held messages : List ℕ)
     (lasting : LastingOf b costs)
-    (limits : FreshLimits b costs sent held)
+    (limitTables : FreshLimits b costs sent held)
     (room : 320 ≤ length messages) where
   small : (b .bridges ≤ 16) × (b .links ≤ 32) × (2 * b .links ≤ length (b .ends))
   small = few b costs lasting
@@ -55,8 +55,8 @@ module _
   ready-after =
       record {
         lasting = lasting;
-        sentLong = limits .sentLong;
-        heldLong = limits .heldLong;
+        sentLong = limitTables .sentLong;
+        heldLong = limitTables .heldLong;
         count = omega arith;
         view = λ y h. rw (bridge-fresh 0 y h) (lasting .viewsLeast);
         records = end-fresh (λ (x : EndRecord). recordInRange (b .views) x ≡ true) (fresh-record-passes (b .views));
@@ -87,8 +87,8 @@ module _
         number = λ y h. sym (bridge-fresh 1 y h);
         cut = λ l h. sym (getD-replicate 32 l false false (omega (arith, small .1)));
         ends = λ e h. sym (getD-replicate 64 e freshRecord freshRecord (omega (arith, small .1)));
-        sent = λ e d h k. sym (limits .sent e d h k ∙ lent-offer-in b costs lasting 0 (lasting .viewsLeast) e d h k);
-        held = λ e d h k. sym (limits .held e d h k);
+        sent = λ e d h k. sym (limitTables .sent e d h k ∙ lent-offer-in b costs lasting 0 (lasting .viewsLeast) e d h k);
+        held = λ e d h k. sym (limitTables .held e d h k);
         messages = refl;
       }
 
@@ -97,14 +97,14 @@ module _ (b : Bench) (costs sent held : List ℕ) where
   freshReady = graphInRange b && (costsInRange b costs && limitsLong (length sent) (length held))
 
   -- the limits that it leaves
-  abbrev begun : Limits
-  begun = startedEnds (lentView b costs 0) (2 * b .links) (limits sent held)
+  abbrev begun : LimitTables
+  begun = startedEnds (lentView b costs 0) (2 * b .links) (limitTables sent held)
 
   fresh-passes : freshOf b costs sent held .reply ≡ 0 → freshReady ≡ true
   unfolding freshOf
   fresh-passes = go freshReady refl
     where
-      go : (c : Bool) → freshReady ≡ c → cond c (rewritten 0 (freshBench b) (begun .sent) (begun .held)) (rewritten 17 b sent held) .reply ≡ 0 → freshReady ≡ true
+      go : (c : Bool) → freshReady ≡ c → cond c (changeOutcome 0 (freshBench b) (begun .sent) (begun .held)) (changeOutcome 17 b sent held) .reply ≡ 0 → freshReady ≡ true
       go true q e = q
       go false q e = absurd (omega arith)
 
@@ -141,9 +141,9 @@ module _ (b : Bench) (costs sent held : List ℕ) where
     counts : (b .bridges ≤ 16) × (b .links ≤ 32) × (2 * b .links ≤ length (b .ends))
     counts = few b costs (told .lasting)
 
-    limits-after : Begun (lentView b costs 0) (limits sent held) (2 * b .links) begun
+    limits-after : Begun (lentView b costs 0) (limitTables sent held) (2 * b .links) begun
     limits-after =
-        begun-all (lentView b costs 0) (limits sent held) (counts .0) (counts .1)
+        begun-all (lentView b costs 0) (limitTables sent held) (counts .0) (counts .1)
         (lent-in-range b costs (told .lasting) 0 (told .lasting .viewsLeast))
         (told .sentLong)
         (told .heldLong)
@@ -185,10 +185,10 @@ module _ (b : Bench) (costs sent held : List ℕ) where
 row-same :
     (bridges links : ℕ) (ends costs more : List ℕ) →
     part 32 0 costs ≡ part 32 0 more →
-    lent bridges links ends (part 32 0 costs) (distanceTable bridges links ends costs 0)
-    ≡ lent bridges links ends (part 32 0 more) (distanceTable bridges links ends more 0)
+    viewData bridges links ends (part 32 0 costs) (distanceTable bridges links ends costs 0)
+    ≡ viewData bridges links ends (part 32 0 more) (distanceTable bridges links ends more 0)
 unfolding distanceTable
-row-same bridges links ends costs more = ap (λ (x : List ℕ). lent bridges links ends x (distancesOf bridges links ends x (replicate 256 0) .table))
+row-same bridges links ends costs more = ap (λ (x : List ℕ). viewData bridges links ends x (distancesOf bridges links ends x (replicate 256 0) .table))
 
 -- another bench over the same graph, and other costs with the same first row
 module _
@@ -206,6 +206,6 @@ module _
       record {
         sentLong = l .sentLong;
         heldLong = l .heldLong;
-        sent = λ e d he hd. l .sent e d (rw links he) (rw bridges hd) ∙ ap (λ (v : Lent). lentOffer v e d) lent-same;
+        sent = λ e d he hd. l .sent e d (rw links he) (rw bridges hd) ∙ ap (λ (v : ViewData). lentOffer v e d) lent-same;
         held = λ e d he hd. l .held e d (rw links he) (rw bridges hd);
       }

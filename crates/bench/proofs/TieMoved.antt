@@ -10,13 +10,13 @@ use Rattle.distances.specs.Table.{cell}
 use Rattle.distances.proofs.Booleans.{other-false}
 use Rattle.agreement.specs.Offer.{opposite}
 use Rattle.agreement.specs.Record.{freshRecord, updated, sentUpdated, heldUpdated}
-use Rattle.agreement.specs.Call.{Lent, lentOffer}
+use Rattle.agreement.specs.Call.{ViewData, lentOffer}
 use Rattle.agreement.specs.declared.EndRecord.{EndRecord}
 use Rattle.agreement.proofs.RecordLaws.{holdingReceived, sent-updated-same, held-updated-same}
 use Rattle.protocol.specs.Net.{Network, offerIn}
-use Rattle.protocol.specs.Calls.{change, update, refuse, moved, updatedTo, changed, act, step}
+use Rattle.protocol.specs.Calls.{change, update, refuse, moved, updatedTo, afterChange, act, step}
 use Rattle.bench.specs.State.{State, state, lentView}
-use Rattle.bench.specs.Changes.{Ends, ends, movedEnds, movedBench, Rewritten, rewritten, updateOf}
+use Rattle.bench.specs.Changes.{Ends, ends, movedEnds, movedBench, ChangeOutcome, changeOutcome, updateOf}
 use Rattle.bench.specs.Whole.{Represents, Typed, stepBy}
 use Rattle.protocol.proofs.Accepted.{UpdateListed, update-listed}
 use Rattle.bench.proofs.TieRanges.{StateReady, getD-stored, told, ready, network-ready, few, offer-stands}
@@ -34,7 +34,7 @@ module _ (s : State) (n : Network) (r : Represents s n) (y t : ℕ) (low : y < s
   counts : (s .bench .bridges ≤ 16) × (s .bench .links ≤ 32) × (2 * s .bench .links ≤ length (s .bench .ends))
   counts = few (s .bench) _ (isReady .lasting)
 
-  abbrev lentThere : Lent
+  abbrev lentThere : ViewData
   lentThere = lentOf s isReady y t
 
   abbrev after : Ends
@@ -131,12 +131,12 @@ module _ (s : State) (n : Network) (r : Represents s n) (y t : ℕ) (low : y < s
 
 module _ (s : State) (n : Network) (r : Represents s n) (y t : ℕ) where
   -- the state with what an update leaves
-  abbrev withRewritten : Rewritten → State
+  abbrev withRewritten : ChangeOutcome → State
   withRewritten o = state (o .bench) (s .costs) (o .sent) (o .held) (s .messages)
 
-  abbrev updateDone : Bool → Rewritten
+  abbrev updateDone : Bool → ChangeOutcome
   updateDone same =
-      cond same (rewritten 0 (s .bench) (s .sent) (s .held))
+      cond same (changeOutcome 0 (s .bench) (s .sent) (s .held))
       (movedBench (s .bench) y t
       (movedEnds (lentView (s .bench) (s .costs) t) (s .bench .views) y t (2 * s .bench .links) (ends (s .bench .records) (s .sent) (s .held))))
 
@@ -159,9 +159,9 @@ module _ (s : State) (n : Network) (r : Represents s n) (y t : ℕ) where
       go false q = kept-moved s n r y t low (rw (r .plan) at (listed .view)) (more q)
 
   pub update-represents : Represents (stepBy s (change (update y t))) (step n (change (update y t)))
-  unfolding stepBy updateOf act changed
+  unfolding stepBy updateOf act afterChange
   update-represents =
-      settled-step withRewritten n (change (update y t)) _ (λ k. rewritten k (s .bench) (s .sent) (s .held)) (updateDone (eqb (getD (s .bench .view) y 0) t))
+      settled-step withRewritten n (change (update y t)) _ (λ k. changeOutcome k (s .bench) (s .sent) (s .held)) (updateDone (eqb (getD (s .bench .view) y 0) t))
       (refusal-same s n r _ (change (update y t)) (network-ready s (told s (r .inRange))))
       (λ m. r)
       (λ a. kept-update (update-listed n y t a))
@@ -169,7 +169,7 @@ module _ (s : State) (n : Network) (r : Represents s n) (y t : ℕ) where
   pub update-replied : updateOf s y t .reply ≡ refuse n (change (update y t))
   unfolding updateOf
   update-replied =
-      reply-is (λ (o : Rewritten). o .reply) _ (λ k. rewritten k (s .bench) (s .sent) (s .held))
+      reply-is (λ (o : ChangeOutcome). o .reply) _ (λ k. changeOutcome k (s .bench) (s .sent) (s .held))
       (updateDone (eqb (getD (s .bench .view) y 0) t))
       (λ k. refl)
       (λ e. go (eqb (getD (s .bench .view) y 0) t))

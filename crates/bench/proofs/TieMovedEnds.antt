@@ -14,7 +14,7 @@ use Rattle.agreement.specs.Offer.{opposite}
 use Rattle.agreement.specs.Record.{freshRecord, updated, sentUpdated, heldUpdated}
 use Rattle.agreement.specs.Limits.{withLimits}
 use Rattle.agreement.specs.Ranges.{isView, recordInRange}
-use Rattle.agreement.specs.Call.{Lent, lentInRange, lentOffer, updateOutcome, outcome}
+use Rattle.agreement.specs.Call.{ViewData, lentInRange, lentOffer, updateOutcome, outcome}
 use Rattle.agreement.specs.declared.EndRecord.{EndRecord}
 use Rattle.agreement.proofs.Limits.{withLimits-length, cell-same, cell-other}
 use Rattle.agreement.proofs.RecordLaws.{sent-updated-same, held-updated-same}
@@ -57,7 +57,7 @@ module _ (places : List ℕ) (y k : ℕ) where
       go true q = rw (eqb-true e k q, lt-ltb k (suc k) (omega arith), own) now
       go false q = rw (← turned-other e (eqb-false e k q)) (others e (eqb-false e k q) ∙ ih e)
 
-module _ (v : Lent) (views y t : ℕ) (x : Ends) where
+module _ (v : ViewData) (views y t : ℕ) (x : Ends) where
   -- the record of end e before the first turn
   abbrev oldEnd : ℕ → EndRecord
   oldEnd e = getD (x .records) e freshRecord

@@ -12,7 +12,7 @@ use Rattle.agreement.specs.Offer.{opposite}
 use Rattle.agreement.specs.Record.{freshRecord, answer, recorded, sentDelivered, heldDelivered}
 use Rattle.agreement.specs.Limits.{withLimits}
 use Rattle.agreement.specs.Ranges.{recordInRange, deliveryInRange}
-use Rattle.agreement.specs.Call.{Lent, lentOffer, lentEndInRange, deliverOutcome, outcome, says}
+use Rattle.agreement.specs.Call.{ViewData, lentOffer, lentEndInRange, deliverOutcome, outcome, says}
 use Rattle.agreement.specs.declared.Answer.{Answer}
 use Rattle.agreement.specs.declared.EndRecord.{EndRecord}
 use Rattle.agreement.proofs.Ends.{opposite-below}
@@ -23,7 +23,7 @@ use Rattle.agreement.proofs.Outcomes.{deliver-accepted}
 use Rattle.protocol.specs.Net.{Network, Message, offerIn}
 use Rattle.protocol.specs.Calls as calls
 use Rattle.bench.specs.State.{State, state, lentView}
-use Rattle.bench.specs.Deliveries.{withRecords, receivedAt}
+use Rattle.bench.specs.Deliveries.{benchWithRecords, deliveryAt}
 use Rattle.bench.specs.Whole.{Represents, Typed}
 use Rattle.bench.proofs.CallSteps.{withDelivered}
 use Rattle.bench.proofs.TieRanges.{StateReady, ready, few, are-bridges, lent-in-range, lent-offer-in, getD-stored}
@@ -55,7 +55,7 @@ module _
   abbrev new : EndRecord
   new = recorded old (answer view old (x .agreement))
 
-  abbrev lentThere : Lent
+  abbrev lentThere : ViewData
   lentThere = lentView (s .bench) (s .costs) view
 
   is-bridge : bridge < s .bench .bridges
@@ -67,7 +67,7 @@ module _
   small : (s .bench .bridges ≤ 16) × (s .bench .links ≤ 32) × (2 * s .bench .links ≤ length (s .bench .ends))
   small = few (s .bench) (s .costs) (before .lasting)
 
-  taken : (lentEndInRange lentThere (s .sent) (s .held) e && deliveryInRange (s .bench .views) view old (x .agreement .view)) ≡ true
+  pub taken : (lentEndInRange lentThere (s .sent) (s .held) e && deliveryInRange (s .bench .views) view old (x .agreement .view)) ≡ true
   taken =
       true-both
       (end-passes _ _ _ _ _ _ _ (lent-in-range (s .bench) (s .costs) (before .lasting) view is-view) (before .sentLong) (before .heldLong) e he)
@@ -86,12 +86,12 @@ module _
       ≡ outcome (says (answer view old (x .agreement))) new sentNow heldNow
   outcome-is = deliver-accepted lentThere e (s .sent) (s .held) (s .bench .views) view old number (x .agreement) taken
 
-  pub received-says : (a : Answer) × (receivedAt s e (x .agreement) .reply ≡ says a)
-  unfolding receivedAt
+  pub received-says : (a : Answer) × (deliveryAt s e (x .agreement) .reply ≡ says a)
+  unfolding deliveryAt
   received-says = (answer view old (x .agreement), rw outcome-is)
 
   abbrev after : State
-  after = state (withRecords (s .bench) (set (s .bench .records) e new)) (s .costs) sentNow heldNow (s .messages)
+  after = state (benchWithRecords (s .bench) (set (s .bench .records) e new)) (s .costs) sentNow heldNow (s .messages)
 
   each-record :
       (P : EndRecord → Type 0) (k : ℕ) →
@@ -117,8 +117,8 @@ module _
       }
 
   -- the state is still in range
-  pub received-kept : StateReady (withDelivered s (receivedAt s e (x .agreement)))
-  unfolding receivedAt
+  pub received-kept : StateReady (withDelivered s (deliveryAt s e (x .agreement)))
+  unfolding deliveryAt
   received-kept = rw outcome-is after-ready
 
   module _ (n : Network) (r : Represents s n) where
@@ -161,8 +161,8 @@ module _
         (lent-offer-in (s .bench) (s .costs) (before .lasting) view is-view k d hk hd))
 
     -- the answer
-    pub received-answer : receivedAt s e (x .agreement) .reply ≡ says (calls.answerTo n e x)
-    unfolding receivedAt
+    pub received-answer : deliveryAt s e (x .agreement) .reply ≡ says (calls.answerTo n e x)
+    unfolding deliveryAt
     received-answer = rw (outcome-is, same-view, r .ends e he)
 
     -- the row of e is in the tables
@@ -193,6 +193,6 @@ module _
           messages = r .messages;
         }
 
-    pub received-represents : Represents (withDelivered s (receivedAt s e (x .agreement))) (calls.receivedAt n e x)
-    unfolding receivedAt
+    pub received-represents : Represents (withDelivered s (deliveryAt s e (x .agreement))) (calls.receivedAt n e x)
+    unfolding deliveryAt
     received-represents = rw outcome-is after-represents

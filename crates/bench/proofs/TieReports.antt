@@ -15,7 +15,7 @@ use Rattle.protocol.specs.Calls.{refuse, checks, report}
 use Rattle.protocol.specs.Ports.{ownDistance}
 use Rattle.bench.specs.State.{State, network, lentView}
 use Rattle.bench.specs.Changes.{refusalOf, stateInRange}
-use Rattle.bench.specs.Answers.{Reported, report as leaving, linkNumber, reportedRow, reported, reportOf}
+use Rattle.bench.specs.Answers.{ReportOutcome, reportOutcome as leaving, linkNumber, reportedRow, reported, reportOf}
 use Rattle.bench.specs.Whole.{Represents, Reports, Answers}
 use Rattle.bench.proofs.TieRanges.{told, network-ready, few, lent-distances}
 use Rattle.bench.proofs.EntrySettled.{reply-is}
@@ -104,7 +104,7 @@ module _ (s : State) (n : Network) (r : Represents s n) where
   report-replied : (d : ℕ) (rows : List ℕ) → 32 ≤ length rows → reportOf s d rows .reply ≡ refuse n (report d)
   unfolding reportOf
   report-replied d rows long =
-      reply-is (λ (o : Reported). o .reply) _ (λ k. leaving k rows) _ (λ k. refl) (λ e. refl) ∙ report-asked d rows long
+      reply-is (λ (o : ReportOutcome). o .reply) _ (λ k. leaving k rows) _ (λ k. refl) (λ e. refl) ∙ report-asked d rows long
 
   report-answered :
       (d : ℕ) (rows : List ℕ) →

@@ -13,7 +13,7 @@ use Rattle.protocol.specs.Calls.{send, lose, accepted, act, step, endOf, messag
 use Rattle.bench.specs.State.{State, state, network, networkOf, messagesFrom}
 use Rattle.bench.specs.Ranges.{benchInRange, messagesInRange}
 use Rattle.bench.specs.Changes.{refusalOf}
-use Rattle.bench.specs.Flights.{numbersOf, takenOut, Flown, flown, sendOf, loseOf}
+use Rattle.bench.specs.Flights.{numbersOf, takenOut, QueueOutcome, queueOutcome, sendOf, loseOf}
 use Rattle.bench.specs.Whole.{Represents, Typed, stepBy}
 use Rattle.protocol.proofs.Links.{endOf-below}
 use Rattle.protocol.proofs.Accepted.{SendListed, send-listed, place-listed, accepted-checks}
@@ -116,11 +116,11 @@ module _ (s : State) (n : Network) (r : Represents s n) where
   lose-refused p = refusal-same s n r _ (lose p) flight-ready
 
   -- the state after a send or a lose
-  flownTo : Flown → State
+  flownTo : QueueOutcome → State
   flownTo o = state (o .bench) (s .costs) (s .sent) (s .held) (o .messages)
 
-  flightRefused : ℕ → Flown
-  flightRefused k = flown k (s .bench) (s .messages)
+  flightRefused : ℕ → QueueOutcome
+  flightRefused k = queueOutcome k (s .bench) (s .messages)
 
   sent-represents :
       (y l : ℕ) →
@@ -146,8 +146,8 @@ module _ (s : State) (n : Network) (r : Represents s n) where
 
   pub send-replied : (y l : ℕ) → sendOf (s .bench) (s .messages) y l .reply ≡ refuse n (send y l)
   unfolding sendOf flightRefused
-  send-replied y l = reply-is (λ (o : Flown). o .reply) _ flightRefused _ (λ k. refl) (λ e. refl) ∙ send-refused y l
+  send-replied y l = reply-is (λ (o : QueueOutcome). o .reply) _ flightRefused _ (λ k. refl) (λ e. refl) ∙ send-refused y l
 
   pub lose-replied : (p : ℕ) → loseOf (s .bench) (s .messages) p .reply ≡ refuse n (lose p)
   unfolding loseOf flightRefused
-  lose-replied p = reply-is (λ (o : Flown). o .reply) _ flightRefused _ (λ k. refl) (λ e. refl) ∙ lose-refused p
+  lose-replied p = reply-is (λ (o : QueueOutcome). o .reply) _ flightRefused _ (λ k. refl) (λ e. refl) ∙ lose-refused p

@@ -11,14 +11,14 @@ use Rattle.distances.specs.View.{NONE}
 use Rattle.distances.specs.Table.{cell}
 use Rattle.agreement.specs.Limits.{withLimits}
 use Rattle.agreement.specs.Record.{freshRecord}
-use Rattle.agreement.specs.Call.{Lent, lentInRange, lentOffer, freshOutcome, outcome}
+use Rattle.agreement.specs.Call.{ViewData, lentInRange, lentOffer, freshOutcome, outcome}
 use Rattle.agreement.proofs.Limits.{withLimits-length, cell-same, cell-other}
 use Rattle.agreement.proofs.InRange.{end-passes}
 use Rattle.agreement.proofs.Outcomes.{fresh-accepted}
-use Rattle.bench.specs.Changes.{Limits, limits, startedEnds}
+use Rattle.bench.specs.Changes.{LimitTables, limitTables, startedEnds}
 
-module _ (v : Lent) (x : Limits) where
-  pub record Begun (k : ℕ) (z : Limits) : Type 0 where
+module _ (v : ViewData) (x : LimitTables) where
+  pub record Begun (k : ℕ) (z : LimitTables) : Type 0 where
     pub sentLong : length (z .sent) ≡ length (x .sent)
     pub heldLong : length (z .held) ≡ length (x .held)
     pub sent : (e d : ℕ) → e < k → d < v .bridges → cell (z .sent) e d ≡ lentOffer v e d
@@ -30,7 +30,7 @@ module _ (v : Lent) (x : Limits) where
       (ok : lentInRange v ≡ true)
       (sentRoom : 1024 ≤ length (x .sent))
       (heldRoom : 1024 ≤ length (x .held)) where
-    module _ (k : ℕ) (low : k < 2 * v .links) (z : Limits) (ih : Begun k z) where
+    module _ (k : ℕ) (low : k < 2 * v .links) (z : LimitTables) (ih : Begun k z) where
       begin-is :
           freshOutcome v k (z .sent) (z .held)
           ≡ outcome 0 freshRecord (withLimits (v .bridges) k (lentOffer v k) (z .sent)) (withLimits (v .bridges) k (λ d. NONE) (z .held))
@@ -53,7 +53,7 @@ module _ (v : Lent) (x : Limits) where
           go true q = rw (eqb-true e k q) (cell-same (v .bridges) k (f k) l d hd few (omega arith))
           go false q = cell-other (v .bridges) k (f k) l e d (eqb-false e k q) (omega arith) ∙ old e d (omega (arith, eqb-false e k q)) hd
 
-      begun-next : Begun (suc k) (let o = freshOutcome v k (z .sent) (z .held) in limits (o .sent) (o .held))
+      begun-next : Begun (suc k) (let o = freshOutcome v k (z .sent) (z .held) in limitTables (o .sent) (o .held))
       begun-next =
           rw begin-is
           (record {

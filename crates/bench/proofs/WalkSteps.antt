@@ -14,7 +14,7 @@ use Rattle.distances.specs.Table.{cell}
 use Rattle.distances.proofs.Booleans.{below}
 use Rattle.distances.proofs.Refusals.{passed}
 use Rattle.distances.proofs.Tables.{cell-block}
-use Rattle.agreement.specs.Call.{Lent, lentGraph, lentRecords, portOutcome}
+use Rattle.agreement.specs.Call.{ViewData, lentGraph, lentRecords, portOutcome}
 use Rattle.agreement.specs.declared.EndRecord.{EndRecord}
 use Rattle.agreement.specs.declared.Port.{Port}
 use Rattle.agreement.specs.declared.Port.the-variants.{Closed, Open}
@@ -32,7 +32,7 @@ use Rattle.bench.specs.declared.Bench.{Bench}
 -- ---- the link of an open port is one of the links
 
 outcome-link :
-    (v : Lent) (views : ℕ) (cut : List Bool) (records : List EndRecord) (sent held : List ℕ) (y d l : ℕ) →
+    (v : ViewData) (views : ℕ) (cut : List Bool) (records : List EndRecord) (sent held : List ℕ) (y d l : ℕ) →
     found (portOutcome v views cut records sent held y d .value) ≡ Open l →
     l < v .links
 unfolding found

@@ -1,16 +1,15 @@
 -- What port, report and path answer. Assumes nothing.
-use Prim.Native.Nat.{ℕ, zero, suc, _+_, _-_, _*_, _<_}
-use mathlib.Core.Bool.{Bool, _&&_}
+use Prim.Native.Nat.{ℕ, zero, suc, _+_, _*_, _<_, _-_}
+use mathlib.Core.Bool.{_&&_}
 use mathlib.Core.List.{List, [], _∷_}
 use lib.ListN.{length, getD, set}
 use lib.Dec.{leb}
 use Rattle.distances.specs.View.{NONE, graphOf}
 use Rattle.distances.specs.Table.{cell}
-use Rattle.agreement.specs.Call.{Said, says, portOutcome}
+use Rattle.agreement.specs.Call.{Response, says, portOutcome}
 use Rattle.agreement.specs.declared.Port.{Port}
 use Rattle.agreement.specs.declared.Port.the-variants.{Closed, Open}
 use Rattle.protocol.specs.Calls as calls
-use Rattle.protocol.specs.Calls.{Call}
 use Rattle.protocol.specs.Ports.{Hop, hopBy}
 use Rattle.protocol.specs.Paths.{onward}
 use Rattle.protocol.specs.Paths as paths
@@ -22,11 +21,11 @@ use Rattle.bench.specs.declared.Forwarding.{Forwarding}
 use Rattle.bench.specs.declared.Way.{Way}
 
 -- each reply as document 01 has it: the number, and the value where the call is accepted
-abbrev pub forwardingSays : Forwarding → Said Port
+abbrev pub forwardingSays : Forwarding → Response Port
 forwardingSays (Forwarding.Refused k) = refusedBy k
 forwardingSays (Forwarding.Found p) = says p
 
-abbrev pub waySays : Way → Said paths.Way
+abbrev pub waySays : Way → Response paths.Way
 waySays (Way.Refused k) = refusedBy k
 waySays (Way.Delivered h) = says (paths.delivered h)
 waySays (Way.Stops last h) = says (paths.stops last h)
@@ -50,7 +49,7 @@ portIn s y d =
     .value)
 
 -- The forwarding port of bridge y for destination d
-unfoldable pub portOf : State → ℕ → ℕ → Said Port
+unfoldable pub portOf : State → ℕ → ℕ → Response Port
 portOf s y d =
     orRefused (refusalOf (stateInRange s) (network s) (calls.port y d)) refusedBy (says (portIn s y d))
 
@@ -71,23 +70,23 @@ reported s d zero rows = rows
 reported s d (suc y) rows = reportedRow s d y (reported s d y rows)
 
 -- the reply's number and the lent rows
-pub record Reported : Type 0 where
+pub record ReportOutcome : Type 0 where
   pub reply : ℕ
   pub rows : List ℕ
 
-abbrev pub report : ℕ → List ℕ → Reported
-report reply rows = record { reply = reply; rows = rows }
+abbrev pub reportOutcome : ℕ → List ℕ → ReportOutcome
+reportOutcome reply rows = record { reply = reply; rows = rows }
 
-unfoldable pub reportOf : State → ℕ → List ℕ → Reported
+unfoldable pub reportOf : State → ℕ → List ℕ → ReportOutcome
 reportOf s d rows =
-    orRefused (refusalOf (stateInRange s && leb 32 (length rows)) (network s) (calls.report d)) (λ k. report k rows)
-    (report 0 (reported s d (s .bench .bridges) rows))
+    orRefused (refusalOf (stateInRange s && leb 32 (length rows)) (network s) (calls.report d)) (λ k. reportOutcome k rows)
+    (reportOutcome 0 (reported s d (s .bench .bridges) rows))
 
 -- The path from bridge y to destination d, by the ports found
 unfoldable pub hopIn : State → ℕ → ℕ → Hop
 hopIn s d y = hopBy (graphOf (s .bench .bridges) (s .bench .links) (s .bench .ends)) y (portIn s y d)
 
-unfoldable pub pathOf : State → ℕ → ℕ → Said paths.Way
+unfoldable pub pathOf : State → ℕ → ℕ → Response paths.Way
 pathOf s y d =
     orRefused (refusalOf (stateInRange s) (network s) (calls.path y d)) refusedBy
     (says (onward (hopIn s d) d (s .bench .bridges - 1) 0 y))

@@ -1,7 +1,7 @@
 -- A list of events as calls, made one after the other up to the first that is refused or whose answer has no room. Assumes nothing.
-use Prim.Native.Nat.{ℕ, zero, suc, _+_, _-_, _*_}
+use Prim.Native.Nat.{ℕ, zero, suc, _+_, _*_, _-_}
 use mathlib.Core.Path.{_≡_}
-use mathlib.Core.Bool.{Bool, cond, _&&_}
+use mathlib.Core.Bool.{cond, _&&_}
 use mathlib.Core.List.{List, [], _∷_, _++_}
 use lib.ListN.{length, take, drop, getD}
 use lib.Dec.{eqb, leb, ltb}
@@ -37,10 +37,10 @@ unfoldable pub replyOf : State → Event → ℕ
 replyOf s e = refusalOf (deliveryReady s) (network s) (callOf e)
 
 -- a report's rows: for each bridge below k its distance to d in its own view and its link, NONE for no port
-unfoldable pub reportRows : State → ℕ → ℕ → List ℕ
-reportRows s d zero = []
-reportRows s d (suc y) =
-    reportRows s d y
+unfoldable pub reportNumbers : State → ℕ → ℕ → List ℕ
+reportNumbers s d zero = []
+reportNumbers s d (suc y) =
+    reportNumbers s d y
     ++ (cell (lentView (s .bench) (s .costs) (getD (s .bench .view) y 0) .table) y d ∷ linkNumber (portIn s y d) ∷ [])
 
 -- what a delivery answered, in three numbers: 0 stale; 1 agreed, 2 noted, with the number and the view taken
@@ -68,7 +68,7 @@ answersOf s (Repeat p) = answeredNumbers (repeatOf s p .reply .value)
 answersOf s (Lose p) = []
 answersOf s (Cut l) = []
 answersOf s (Restore l) = []
-answersOf s (Report d) = reportRows s d (s .bench .bridges)
+answersOf s (Report d) = reportNumbers s d (s .bench .bridges)
 answersOf s (Path y d) = wayNumbers (pathOf s y d .value)
 
 -- how many they are, with so many bridges
@@ -98,51 +98,51 @@ pub record Batch : Type 0 where
 abbrev pub batch : ℕ → Disposition → State → List ℕ → Batch
 batch made disposition s answers = record { made = made; disposition = disposition; state = s; answers = answers }
 
--- document 01's number of the event that was refused, 0 where a list ended otherwise
+-- document 01's number of the event that was refused, 17 where the list itself was, 0 where it ended otherwise
 abbrev pub refusalIn : Disposition → ℕ
 refusalIn Complete = 0
 refusalIn (Refused k) = k
 refusalIn Full = 0
 
 -- one event: refused, it changes nothing
-unfoldable pub happens : State → Event → Batch
-happens s e =
+unfoldable pub eventBatch : State → Event → Batch
+eventBatch s e =
     orRefused (replyOf s e) (λ k. batch 0 (Refused k) s []) (batch 1 Complete (stepBy s (callOf e)) (answersOf s e))
 
 -- where its answer has room
-unfoldable pub happensIn : ℕ → State → Event → Batch
-happensIn room s e = cond (ltb room (answerSize (s .bench .bridges) e)) (batch 0 Full s []) (happens s e)
+unfoldable pub eventBatchIn : ℕ → State → Event → Batch
+eventBatchIn room s e = cond (ltb room (answerSize (s .bench .bridges) e)) (batch 0 Full s []) (eventBatch s e)
 
 -- one after the other, with room for so many numbers
-unfoldable pub runs : ℕ → State → List Event → Batch
-runs room s [] = batch 0 Complete s []
-runs room s (e ∷ es) =
-    let first : Batch = happensIn room s e in
-    let then : Batch = runs (room - length (first .answers)) (first .state) es in
+unfoldable pub batchFrom : ℕ → State → List Event → Batch
+batchFrom room s [] = batch 0 Complete s []
+batchFrom room s (e ∷ es) =
+    let first : Batch = eventBatchIn room s e in
+    let then : Batch = batchFrom (room - length (first .answers)) (first .state) es in
     cond (eqb (first .made) 0) first (batch (suc (then .made)) (then .disposition) (then .state) (first .answers ++ then .answers))
 
 -- the counts, why it ended, the state, and the lent numbers
-pub record Ran : Type 0 where
+pub record BatchOutcome : Type 0 where
   pub made : ℕ
   pub answered : ℕ
   pub disposition : Disposition
   pub state : State
   pub answers : List ℕ
 
-abbrev pub ran : ℕ → ℕ → Disposition → State → List ℕ → Ran
-ran made answered disposition s answers =
+abbrev pub batchOutcome : ℕ → ℕ → Disposition → State → List ℕ → BatchOutcome
+batchOutcome made answered disposition s answers =
     record { made = made; answered = answered; disposition = disposition; state = s; answers = answers }
 
 -- the answers stand at the head of the lent numbers, and the others are as they were
-abbrev pub ranOf : Batch → List ℕ → Ran
-ranOf b answers =
-    ran (b .made) (length (b .answers)) (b .disposition) (b .state) (b .answers ++ drop (length (b .answers)) answers)
+abbrev pub batchOutcomeOf : Batch → List ℕ → BatchOutcome
+batchOutcomeOf b answers =
+    batchOutcome (b .made) (length (b .answers)) (b .disposition) (b .state) (b .answers ++ drop (length (b .answers)) answers)
 
 -- the first `count` of a list of events: 17 where the state is out of range or there are fewer, and then nothing is changed
-unfoldable pub batchOf : State → List Event → ℕ → List ℕ → Ran
+unfoldable pub batchOf : State → List Event → ℕ → List ℕ → BatchOutcome
 batchOf s events count answers =
-    cond (deliveryReady s && leb count (length events)) (ranOf (runs (length answers) s (take count events)) answers)
-    (ran 0 0 (Refused 17) s answers)
+    cond (deliveryReady s && leb count (length events)) (batchOutcomeOf (batchFrom (length answers) s (take count events)) answers)
+    (batchOutcome 0 0 (Refused 17) s answers)
 
 -- the calls of so many events, in order
 unfoldable pub callsOf : List Event → List Call
@@ -153,5 +153,5 @@ callsOf (e ∷ es) = callOf e ∷ callsOf es
 abbrev pub BatchesAreRuns : Type 0
 BatchesAreRuns =
     (room : ℕ) (s : State) (es : List Event) →
-    let b : Batch = runs room s es in
+    let b : Batch = batchFrom room s es in
     (b .state ≡ runBy s (callsOf (take (b .made) es))) × (length (b .answers) ≡ answerSizes (s .bench .bridges) (take (b .made) es))

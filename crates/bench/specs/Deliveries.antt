@@ -1,16 +1,16 @@
 -- What deliver and repeat answer, and make of the bench, the limit tables and the messages. Assumes nothing.
 use Prim.Native.Nat.{ℕ, _-_}
 use mathlib.Core.Bool.{Bool, _&&_}
-use mathlib.Core.List.{List, [], _∷_}
+use mathlib.Core.List.{List, []}
 use lib.ListN.{getD, set}
 use Rattle.agreement.specs.Record.{freshRecord}
 use Rattle.agreement.specs.Offer.{opposite}
-use Rattle.agreement.specs.Call.{Said, says, deliverOutcome}
+use Rattle.agreement.specs.Call.{Response, says, deliverOutcome}
 use Rattle.agreement.specs.declared.Agreement.{Agreement}
 use Rattle.agreement.specs.declared.Answer.{Answer}
 use Rattle.agreement.specs.declared.EndRecord.{EndRecord}
 use Rattle.protocol.specs.Net.{sender}
-use Rattle.protocol.specs.Calls.{Call, deliver, repeat}
+use Rattle.protocol.specs.Calls.{deliver, repeat}
 use Rattle.bench.specs.State.{State, network, lentView, messageFrom}
 use Rattle.bench.specs.Ranges.{messagesInRange}
 use Rattle.bench.specs.Changes.{refusalOf, orRefused, stateInRange}
@@ -19,28 +19,28 @@ use Rattle.bench.specs.declared.Bench.{Bench}
 use Rattle.bench.specs.declared.Reaction.{Reaction}
 
 -- the reply as document 01 has it: the number, and the answer where the call is accepted
-abbrev pub refusedBy : {A : Type 0} → ℕ → Said A
+abbrev pub refusedBy : {A : Type 0} → ℕ → Response A
 refusedBy k = record { number = k; value = [] }
 
-abbrev pub reactionSays : Reaction → Said Answer
+abbrev pub reactionSays : Reaction → Response Answer
 reactionSays (Reaction.Refused k) = refusedBy k
 reactionSays (Reaction.Answered a) = says a
 
 -- a bench, the limit tables and the messages after a call
-pub record Delivered : Type 0 where
-  pub reply : Said Answer
+pub record DeliveryOutcome : Type 0 where
+  pub reply : Response Answer
   pub bench : Bench
   pub sent : List ℕ
   pub held : List ℕ
   pub messages : List ℕ
 
-abbrev pub delivered : Said Answer → Bench → List ℕ → List ℕ → List ℕ → Delivered
-delivered reply bench sent held messages =
+abbrev pub deliveryOutcome : Response Answer → Bench → List ℕ → List ℕ → List ℕ → DeliveryOutcome
+deliveryOutcome reply bench sent held messages =
     record { reply = reply; bench = bench; sent = sent; held = held; messages = messages }
 
 -- the bench with other records
-abbrev pub withRecords : Bench → List EndRecord → Bench
-withRecords b records =
+abbrev pub benchWithRecords : Bench → List EndRecord → Bench
+benchWithRecords b records =
     record {
       bridges = b .bridges;
       links = b .links;
@@ -54,33 +54,33 @@ withRecords b records =
     }
 
 -- what a message carries, at end e, as layer 2 takes it there in the view of the end's bridge
-unfoldable pub receivedAt : State → ℕ → Agreement → Delivered
-receivedAt s e m =
+unfoldable pub deliveryAt : State → ℕ → Agreement → DeliveryOutcome
+deliveryAt s e m =
     let b : Bench = s .bench in
     let y : ℕ = getD (b .ends) e 0 in
     let t : ℕ = getD (b .view) y 0 in
     let o =
     deliverOutcome (lentView b (s .costs) t) (b .views) t (getD (b .number) y 0) e
     (getD (b .records) e freshRecord) m (s .sent) (s .held) in
-    delivered (o .reply) (withRecords b (set (b .records) e (o .end))) (o .sent) (o .held) (s .messages)
+    deliveryOutcome (o .reply) (benchWithRecords b (set (b .records) e (o .end))) (o .sent) (o .held) (s .messages)
 
 -- the message at place p, at the end opposite to its sender
-abbrev pub received : State → ℕ → Delivered
-received s p = receivedAt s (opposite (sender (messageFrom (s .messages) p))) (messageFrom (s .messages) p .agreement)
+abbrev pub received : State → ℕ → DeliveryOutcome
+received s p = deliveryAt s (opposite (sender (messageFrom (s .messages) p))) (messageFrom (s .messages) p .agreement)
 
 -- what a delivery is handed, in range
 abbrev pub deliveryReady : State → Bool
 deliveryReady s = stateInRange s && messagesInRange (s .bench) (s .messages)
 
-abbrev pub deliveryRefused : State → ℕ → Delivered
-deliveryRefused s k = delivered (refusedBy k) (s .bench) (s .sent) (s .held) (s .messages)
+abbrev pub deliveryRefused : State → ℕ → DeliveryOutcome
+deliveryRefused s k = deliveryOutcome (refusedBy k) (s .bench) (s .sent) (s .held) (s .messages)
 
-unfoldable pub repeatOf : State → ℕ → Delivered
+unfoldable pub repeatOf : State → ℕ → DeliveryOutcome
 repeatOf s p = orRefused (refusalOf (deliveryReady s) (network s) (repeat p)) (deliveryRefused s) (received s p)
 
-unfoldable pub deliverOf : State → ℕ → Delivered
+unfoldable pub deliverOf : State → ℕ → DeliveryOutcome
 deliverOf s p =
-    let r : Delivered = received s p in
+    let r : DeliveryOutcome = received s p in
     let count : ℕ = s .bench .messages in
     orRefused (refusalOf (deliveryReady s) (network s) (deliver p)) (deliveryRefused s)
-    (delivered (r .reply) (withCount (r .bench) (count - 1)) (r .sent) (r .held) (takenOut count p (s .messages)))
+    (deliveryOutcome (r .reply) (withCount (r .bench) (count - 1)) (r .sent) (r .held) (takenOut count p (s .messages)))

@@ -1,14 +1,13 @@
 -- Messages in flight as lent numbers, five a message: what send and lose make of them. Assumes nothing.
-use Prim.Native.Nat.{ℕ, _+_, _-_, _*_}
-use mathlib.Core.Bool.{Bool, cond, _&&_}
+use Prim.Native.Nat.{ℕ, _+_, _*_, _-_}
+use mathlib.Core.Bool.{_&&_}
 use mathlib.Core.List.{List, [], _∷_}
 use lib.ListN.{getD}
 use lib.Seq.{sets}
 use lib.Dec.{leb, ltb}
 use Rattle.distances.specs.Table.{rewritten}
-use Rattle.agreement.specs.declared.Agreement.{Agreement}
 use Rattle.protocol.specs.Net.{Message}
-use Rattle.protocol.specs.Calls.{Call, send, lose, messageOf}
+use Rattle.protocol.specs.Calls.{send, lose, messageOf}
 use Rattle.bench.specs.State.{networkOf}
 use Rattle.bench.specs.Ranges.{benchInRange, messagesInRange}
 use Rattle.bench.specs.Changes.{refusalOf, orRefused}
@@ -39,20 +38,20 @@ unfoldable pub takenOut : ℕ → ℕ → List ℕ → List ℕ
 takenOut count p m = rewritten (λ k. leb (5 * p) k && ltb k (5 * (count - 1))) (λ k. getD m (k + 5) 0) m
 
 -- a bench and the messages after a call
-pub record Flown : Type 0 where
+pub record QueueOutcome : Type 0 where
   pub reply : ℕ
   pub bench : Bench
   pub messages : List ℕ
 
-abbrev pub flown : ℕ → Bench → List ℕ → Flown
-flown reply bench messages = record { reply = reply; bench = bench; messages = messages }
+abbrev pub queueOutcome : ℕ → Bench → List ℕ → QueueOutcome
+queueOutcome reply bench messages = record { reply = reply; bench = bench; messages = messages }
 
-unfoldable pub sendOf : Bench → List ℕ → ℕ → ℕ → Flown
+unfoldable pub sendOf : Bench → List ℕ → ℕ → ℕ → QueueOutcome
 sendOf b m y l =
-    orRefused (refusalOf (benchInRange b && messagesInRange b m) (networkOf b m) (send y l)) (λ k. flown k b m)
-    (flown 0 (withCount b (b .messages + 1)) (sets m (5 * b .messages) (numbersOf (messageOf (networkOf b m) y l))))
+    orRefused (refusalOf (benchInRange b && messagesInRange b m) (networkOf b m) (send y l)) (λ k. queueOutcome k b m)
+    (queueOutcome 0 (withCount b (b .messages + 1)) (sets m (5 * b .messages) (numbersOf (messageOf (networkOf b m) y l))))
 
-unfoldable pub loseOf : Bench → List ℕ → ℕ → Flown
+unfoldable pub loseOf : Bench → List ℕ → ℕ → QueueOutcome
 loseOf b m p =
-    orRefused (refusalOf (benchInRange b && messagesInRange b m) (networkOf b m) (lose p)) (λ k. flown k b m)
-    (flown 0 (withCount b (b .messages - 1)) (takenOut (b .messages) p m))
+    orRefused (refusalOf (benchInRange b && messagesInRange b m) (networkOf b m) (lose p)) (λ k. queueOutcome k b m)
+    (queueOutcome 0 (withCount b (b .messages - 1)) (takenOut (b .messages) p m))

@@ -1,9 +1,12 @@
+pub mod Sizes
 pub mod State
 pub mod Ranges
 pub mod Changes
 pub mod Flights
 pub mod Deliveries
 pub mod Answers
+pub mod Effects
+pub mod Chains
 pub mod Steps
 pub mod Whole
 pub mod Batches

@@ -8,6 +8,8 @@ use Rattle.distances.specs.Call.{graphPasses, costsPass, allBelow}
 use Rattle.agreement.specs.Ranges.{recordsInRange}
 use Rattle.bench.specs.State.{part}
 use Rattle.bench.specs.declared.Bench.{Bench}
+use Rattle.bench.specs.Sizes.{costNumbers, mostMessages, flightNumbers}
+use Rattle.agreement.specs.Sizes.{limitNumbers}
 
 -- 1 to 32 views, 2 to 16 bridges, up to 32 links that each join two different bridges
 unfoldable pub graphInRange : Bench → Bool
@@ -17,16 +19,16 @@ graphInRange b = leb 1 (b .views) && (leb (b .views) 32 && graphPasses (b .bridg
 unfoldable pub benchInRange : Bench → Bool
 benchInRange b =
     graphInRange b
-    && (leb (b .messages) 64
+    && (leb (b .messages) mostMessages
     && (allBelow (b .bridges) (λ y. ltb (getD (b .view) y 0) (b .views)) && recordsInRange (b .views) (b .links) (b .records)))
 
 -- 32 rows of 32 costs, those of the views in range
 unfoldable pub costsInRange : Bench → List ℕ → Bool
-costsInRange b costs = leb 1024 (length costs) && allBelow (b .views) (λ t. costsPass (b .links) (part 32 t costs))
+costsInRange b costs = leb costNumbers (length costs) && allBelow (b .views) (λ t. costsPass (b .links) (part 32 t costs))
 
 -- two tables of 64 rows of 16 limits, by their lengths
 unfoldable pub limitsLong : ℕ → ℕ → Bool
-limitsLong sent held = leb 1024 sent && leb 1024 held
+limitsLong sent held = leb limitNumbers sent && leb limitNumbers held
 
 -- a message's link, direction and view, and two numbers of 16 bits
 unfoldable pub messagePasses : ℕ → ℕ → ℕ → ℕ → ℕ → ℕ → ℕ → Bool
@@ -40,7 +42,7 @@ messageInRange b m p =
 
 -- room for 64 messages, and those in flight in range
 unfoldable pub messagesInRange : Bench → List ℕ → Bool
-messagesInRange b m = leb 320 (length m) && allBelow (b .messages) (messageInRange b m)
+messagesInRange b m = leb flightNumbers (length m) && allBelow (b .messages) (messageInRange b m)
 
 -- what most calls are handed: the bench, the views' costs, the limit tables
 unfoldable pub networkInRange : Bench → List ℕ → ℕ → ℕ → Bool

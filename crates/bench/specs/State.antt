@@ -1,11 +1,10 @@
 -- What a caller lends and hands over, and the network that stands in it. Assumes nothing.
 use Prim.Native.Nat.{ℕ, zero, suc, _+_, _*_}
-use mathlib.Core.Bool.{Bool, false}
 use mathlib.Core.List.{List, [], _∷_}
 use lib.ListN.{getD, take, drop, replicate}
 use Rattle.distances.specs.View.{graphOf}
 use Rattle.distances.specs.Call.{distancesOf}
-use Rattle.agreement.specs.Call.{Lent, lent, lentRecords}
+use Rattle.agreement.specs.Call.{ViewData, viewData, lentRecords}
 use Rattle.protocol.specs.Net.{Network, Message}
 use Rattle.bench.specs.declared.Bench.{Bench}
 
@@ -31,9 +30,9 @@ unfoldable pub distanceTable : ℕ → ℕ → List ℕ → List ℕ → ℕ →
 distanceTable bridges links ends costs t = distancesOf bridges links ends (part 32 t costs) (replicate 256 0) .table
 
 -- view t as layer 2 is lent it
-abbrev pub lentView : Bench → List ℕ → ℕ → Lent
+abbrev pub lentView : Bench → List ℕ → ℕ → ViewData
 lentView b costs t =
-    lent (b .bridges) (b .links) (b .ends) (part 32 t costs) (distanceTable (b .bridges) (b .links) (b .ends) costs t)
+    viewData (b .bridges) (b .links) (b .ends) (part 32 t costs) (distanceTable (b .bridges) (b .links) (b .ends) costs t)
 
 -- the message at place p, in five numbers: link, direction, view, number, discarded number
 abbrev pub messageFrom : List ℕ → ℕ → Message

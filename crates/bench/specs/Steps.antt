@@ -8,7 +8,7 @@ use lib.Dec.{eqb}
 use Rattle.distances.specs.View.{maxCost, costsOf}
 use Rattle.distances.specs.Table.{cell}
 use Rattle.distances.specs.Call.{distancesOf}
-use Rattle.agreement.specs.Call.{Lent, lentGraph}
+use Rattle.agreement.specs.Call.{ViewData, lentGraph}
 use Rattle.agreement.specs.Choice.{choiceBelow}
 use Rattle.agreement.specs.declared.Choice.{Choice}
 use Rattle.bench.specs.State.{State, network, lentView, part, distanceTable}
@@ -20,9 +20,10 @@ use Rattle.bench.specs.Batches.{Batch}
 use Rattle.bench.specs.Deliveries.{deliveryReady}
 use Rattle.protocol.specs.Ports.{Hop, stays, crosses}
 use Rattle.bench.specs.declared.Bench.{Bench}
-use Rattle.bench.specs.declared.BatchResult.{BatchResult}
+use Rattle.bench.specs.declared.effects.EventResult.{EventResult}
+use Rattle.bench.specs.declared.effects.Effect.the-variants.{Same}
+use Rattle.bench.specs.Effects.{eventResult}
 use Rattle.bench.specs.declared.Disposition.{Disposition}
-use Rattle.bench.specs.declared.Disposition.the-variants.{Complete, Refused}
 use Rattle.bench.specs.declared.Hop as code
 
 -- what the entry check has told of a bench and of what is lent beside it
@@ -57,15 +58,18 @@ abbrev pub AllFilled : Bench → List ℕ → List ℕ → Type 0
 AllFilled b costs tables = (y : ℕ) → y < b .bridges → IsFilled b costs tables (getD (b .view) y 0)
 
 -- the tables of a call or of a list of calls: the blocks of the views that are known are filled, the others hold nothing yet
-pub record Tables (b : Bench) (costs tables : List ℕ) (known : List Bool) : Type 0 where
+pub record TablesOf (bridges links : ℕ) (places costs tables : List ℕ) (known : List Bool) : Type 0 where
   pub long : length tables ≡ 8192
   pub flags : length known ≡ 32
-  pub block : (t : ℕ) → t < 32 → part 256 t tables ≡ cond (getD known t false) (distanceTable (b .bridges) (b .links) (b .ends) costs t) (replicate 256 0)
+  pub block : (t : ℕ) → t < 32 → part 256 t tables ≡ cond (getD known t false) (distanceTable bridges links places costs t) (replicate 256 0)
+
+abbrev pub Tables : Bench → List ℕ → List ℕ → List Bool → Type 0
+Tables b costs tables known = TablesOf (b .bridges) (b .links) (b .ends) costs tables known
 
 -- the forwarding choice of bridge y for destination d by its ends below e, in y's view
 unfoldable pub choiceIn : State → ℕ → ℕ → ℕ → Choice
 choiceIn s d y e =
-    let v : Lent = lentView (s .bench) (s .costs) (getD (s .bench .view) y 0) in
+    let v : ViewData = lentView (s .bench) (s .costs) (getD (s .bench .view) y 0) in
     choiceBelow (lentGraph v) (costsOf (v .costs)) (cell (v .table)) (network s .records) y d e
 
 -- the choices of the bridges below n
@@ -77,21 +81,11 @@ abbrev pub hopSays : code.Hop → Hop
 hopSays code.Hop.Stays = stays
 hopSays (code.Hop.Crosses l z) = crosses l z
 
--- one event of a list, by the number k that its call replied
-abbrev pub resultOf : ℕ → Bench → ℕ → BatchResult
-resultOf k b answered =
-    record {
-      disposition = cond (eqb k 0) Complete (Refused k);
-      bench = b;
-      made = cond (eqb k 0) 1 0;
-      answered = cond (eqb k 0) answered 0;
-    }
-
 -- a report among events: its number, and the rows at the head of the lent numbers
-abbrev pub ReportsTo : State → ℕ → List ℕ → BatchResult → List ℕ → Type 0
+abbrev pub ReportsTo : State → ℕ → List ℕ → EventResult → List ℕ → Type 0
 ReportsTo s d answers r after =
     let k : ℕ = refusalOf (stateInRange s) (network s) (report d) in
-    (r ≡ resultOf k (s .bench) (2 * s .bench .bridges))
+    (r ≡ eventResult k (2 * s .bench .bridges) Same)
     × (after ≡ cond (eqb k 0) (reported s d (s .bench .bridges) answers) answers)
 
 -- what a list of one event leaves: the batch b, its answers at the head of the lent numbers; a state in range stays so

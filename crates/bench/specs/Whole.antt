@@ -20,6 +20,7 @@ use Rattle.bench.specs.Deliveries.{refusedBy, deliveryReady, deliverOf, 
 use Rattle.bench.specs.Answers.{portOf, linkNumber, reportOf, pathOf}
 use Rattle.protocol.specs.Demand3.{Holds}
 use Rattle.bench.specs.declared.Bench.{Bench}
+use Rattle.bench.specs.Sizes.{flightNumbers}
 
 -- the state that a call leaves, by the outcome that its contract names
 unfoldable pub stepBy : State → Call → State
@@ -74,7 +75,7 @@ pub record Represents (s : State) (n : Network) : Type 0 where
 -- a report's two numbers of bridge y: its distance to d in its own view, and the link of its forwarding port
 pub record Reports (n : Network) (d y : ℕ) (rows : List ℕ) : Type 0 where
   pub distance : getD rows (2 * y) 0 ≡ ownDistance n y d
-  pub link : getD rows (2 * y + 1) 0 ≡ linkNumber (ports.portOf n y d)
+  pub link : getD rows (2 * y + 1) 0 ≡ linkNumber (ports.forwardingPort n y d)
 
 -- what each call replies in the state s, by the outcome that its contract names, is what there is to say of the network n: the number by
 -- which it is refused, 0 where it is accepted, and then the value that the reply brings
@@ -86,7 +87,7 @@ pub record Answers (s : State) (n : Network) : Type 0 where
   pub loseReply : (p : ℕ) → loseOf (s .bench) (s .messages) p .reply ≡ refuse n (lose p)
   pub deliverReply : (p : ℕ) → deliverOf s p .reply ≡ orRefused (refuse n (deliver p)) refusedBy (says (answerAt n p))
   pub repeatReply : (p : ℕ) → repeatOf s p .reply ≡ orRefused (refuse n (repeat p)) refusedBy (says (answerAt n p))
-  pub portReply : (y d : ℕ) → portOf s y d ≡ orRefused (refuse n (port y d)) refusedBy (says (ports.portOf n y d))
+  pub portReply : (y d : ℕ) → portOf s y d ≡ orRefused (refuse n (port y d)) refusedBy (says (ports.forwardingPort n y d))
   pub pathReply : (y d : ℕ) → pathOf s y d ≡ orRefused (refuse n (path y d)) refusedBy (says (paths.path n y d))
   pub reportReply : (d : ℕ) (rows : List ℕ) → 32 ≤ length rows → reportOf s d rows .reply ≡ refuse n (report d)
   pub reportRows : (d : ℕ) (rows : List ℕ) → 32 ≤ length rows → refuse n (report d) ≡ 0 → (y : ℕ) → y < n .plan .graph .bridges → Reports n d y (reportOf s d rows .rows)
@@ -106,5 +107,5 @@ abbrev pub WholeLists : Type 0
 WholeLists =
     (b : Bench) (costs sent held messages : List ℕ) →
     freshOf b costs sent held .reply ≡ 0 →
-    320 ≤ length messages →
+    flightNumbers ≤ length messages →
     (cs : List Call) → Meets b costs sent held messages cs

@@ -3,9 +3,11 @@ use crate::Bench;
 use crate::Forwarding;
 use crate::Reply;
 use crate::Way;
+use crate::ports;
 use crate::ready;
 use crate::refusals;
-use crate::walks;
+use crate::sizes::TABLES;
+use crate::tables::end_chains;
 ghost use mathlib.Core.Path.{_≡_};
 ghost use mathlib.Core.Bool.{true};
 ghost use mathlib.Core.List.{[]};
@@ -13,8 +15,9 @@ ghost use lib.ListN.{length};
 ghost use Rattle.bench.specs.Ranges.{networkInRange};
 ghost use Rattle.bench.specs.State.{state};
 ghost use Rattle.bench.specs.Changes.{number, NoZero};
-ghost use Rattle.bench.specs.Answers.{forwardingSays, waySays, portOf, report, reportOf, pathOf};
+ghost use Rattle.bench.specs.Answers.{forwardingSays, waySays, portOf, reportOutcome, reportOf, pathOf};
 ghost use Rattle.bench.specs.Steps.{Tables};
+ghost use Rattle.bench.specs.Chains.{Chained};
 
 // The forwarding port of a bridge for a destination.
 pub fn port(
@@ -30,17 +33,20 @@ pub fn port(
     if !ready::network_in_range(bench, costs, sent.len(), held.len()) {
         return Forwarding::Refused(17);
     }
-    let refusal = refusals::port_refusal(bench, bridge, dest);
+    let refusal = refusals::port_refusal(bench.bridges, bridge, dest);
     if refusal != 0 {
         return Forwarding::Refused(refusal);
     }
-    let mut tables = [0u32; 8192];
+    let mut tables = [0u32; TABLES];
     let mut known = [false; 32];
-    Forwarding::Found(walks::port_of(
+    let ends = bench.ends;
+    let chain = end_chains(bench.links, &ends);
+    Forwarding::Found(ports::port_of(
         bench,
         costs,
         &mut tables,
         &mut known,
+        &chain,
         sent,
         held,
         bridge,
@@ -57,7 +63,7 @@ pub fn report(
     dest: usize,
     rows: &mut [u32],
 ) -> Reply
-    ensures { λ r. ⌜ (report (number r) (now (rows .exit)) ≡ reportOf (state bench (now (costs .entry)) (now (sent .entry)) (now (held .entry)) []) dest (now (rows .entry))) × NoZero r ⌝ }
+    ensures { λ r. ⌜ (reportOutcome (number r) (now (rows .exit)) ≡ reportOf (state bench (now (costs .entry)) (now (sent .entry)) (now (held .entry)) []) dest (now (rows .entry))) × NoZero r ⌝ }
 {
     let size = rows.len();
     if !ready::network_in_range(bench, costs, sent.len(), held.len()) {
@@ -66,13 +72,13 @@ pub fn report(
     if size < 32 {
         return Reply::Refused(17);
     }
-    let refusal = refusals::report_refusal(bench, dest);
+    let refusal = refusals::report_refusal(bench.bridges, dest);
     if refusal != 0 {
         return Reply::Refused(refusal);
     }
-    let mut tables = [0u32; 8192];
+    let mut tables = [0u32; TABLES];
     let mut known = [false; 32];
-    walks::report_rows(
+    ports::report_rows(
         bench,
         costs,
         &mut tables,
@@ -99,13 +105,16 @@ pub fn path(
     if !ready::network_in_range(bench, costs, sent.len(), held.len()) {
         return Way::Refused(17);
     }
-    let mut tables = [0u32; 8192];
+    let mut tables = [0u32; TABLES];
     let mut known = [false; 32];
+    let ends = bench.ends;
+    let chain = end_chains(bench.links, &ends);
     path_ready(
         bench,
         costs,
         &mut tables,
         &mut known,
+        &chain,
         sent,
         held,
         start,
@@ -119,19 +128,20 @@ pub(crate) fn path_ready(
     costs: &[u32],
     tables: &mut [u32],
     known: &mut [bool],
+    chain: &[u8],
     sent: &[u32],
     held: &[u32],
     start: usize,
     dest: usize,
 ) -> Way
     requires { ⌜ networkInRange bench (now costs) (length (now sent)) (length (now held)) ≡ true ⌝ }
-    requires { ⌜ Tables bench (now costs) (now tables) (now known) ⌝ }
+    requires { ⌜ Tables bench (now costs) (now tables) (now known) × Chained (bench .links) (bench .ends) (now chain) ⌝ }
     ensures { λ r. ⌜ waySays r ≡ pathOf (state bench (now (costs .entry)) (now (sent .entry)) (now (held .entry)) []) start dest ⌝ }
     ensures { λ r. ⌜ Tables bench (now (costs .entry)) (now (tables .exit)) (now (known .exit)) ⌝ }
 {
-    let refusal = refusals::port_refusal(bench, start, dest);
+    let refusal = refusals::port_refusal(bench.bridges, start, dest);
     if refusal != 0 {
         return Way::Refused(refusal);
     }
-    walks::walk(bench, costs, tables, known, sent, held, start, dest)
+    ports::walk(bench, costs, tables, known, chain, sent, held, start, dest)
 }

@@ -1,39 +1,46 @@
 // A list of events as calls on the network, one after the other; the ranges are checked once, ahead of them.
 use crate::BatchResult;
 use crate::Bench;
-use crate::Changed;
-use crate::Delivered;
 use crate::Disposition;
 use crate::Event;
-use crate::Reaction;
-use crate::Reply;
 use crate::Way;
 use crate::answers;
 use crate::changes;
+use crate::effects::Effect;
+use crate::effects::EventResult;
+use crate::effects::Queue;
+use crate::effects::Reception;
+use crate::effects::Updating;
 use crate::messages;
+use crate::messages::taken_count;
+use crate::ports;
 use crate::ready;
 use crate::refusals;
-use crate::walks;
+use crate::sizes::MOST_EVENTS;
+use crate::sizes::TABLES;
+use crate::tables::end_chains;
+use crate::updates::moved;
 use agreement::Answer;
 use distances::ready::both;
 ghost use mathlib.Core.Path.{_≡_};
-ghost use mathlib.Core.Bool.{true, cond};
-ghost use mathlib.Core.List.{List, [], _∷_, _++_};
-ghost use Prim.Native.Nat.{ℕ, _*_, _≤_};
-ghost use lib.ListN.{length, take, drop};
+ghost use mathlib.Core.Bool.{true, false};
+ghost use mathlib.Core.List.{[], _∷_};
+ghost use Prim.Native.Nat.{_*_, _≤_};
+ghost use lib.ListN.{length, take};
 ghost use lib.Seq.{sets};
-ghost use lib.Dec.{eqb};
 ghost use Rattle.bench.specs.Ranges.{networkInRange};
-ghost use Rattle.bench.specs.Changes.{number};
-ghost use Rattle.bench.specs.Deliveries.{reactionSays, deliveryReady};
-ghost use Rattle.bench.specs.Answers.{WayFits, waySays, reported};
-ghost use Rattle.bench.specs.State.{state};
-ghost use Rattle.bench.specs.Batches.{refusalIn, answerNumbers, wayNumbers, answeredNumbers, answerSize, batch, happens, happensIn, runs, ran, ranOf, batchOf};
-ghost use Rattle.bench.specs.Steps.{Tables, resultOf, ReportsTo, Leaves};
+ghost use Rattle.protocol.specs.Calls.{change, cut, restore, refuse};
+ghost use Rattle.bench.specs.Deliveries.{deliveryReady};
+ghost use Rattle.bench.specs.Answers.{WayFits, waySays};
+ghost use Rattle.bench.specs.State.{state, networkOf};
+ghost use Rattle.bench.specs.Batches.{refusalIn, answerNumbers, wayNumbers, answeredNumbers, answerSize, eventBatchIn, batchFrom, batchOutcome, batchOutcomeOf, batchOf};
+ghost use Rattle.bench.specs.Chains.{Chained};
+ghost use Rattle.bench.specs.Effects.{queueNumber, queueEffect, receptionSays, receptionEffect, updatingNumber, updatingEffect, eventResult, appliedTo, EffectTold};
+ghost use Rattle.bench.specs.Steps.{Tables, ReportsTo, Leaves};
+ghost use Rattle.bench.specs.declared.effects.Effect.the-variants.{Same};
+ghost use Rattle.bench.specs.declared.effects.Effect.the-variants.{Cut as CutFlag};
 
-const MOST_EVENTS: usize = 2048;
-
-// Document 01's number of the event that was refused, 0 where a list ended otherwise.
+// Document 01's number of the event that was refused, 17 where the list itself was, 0 where it ended otherwise.
 pub fn refusal_in(how: Disposition) -> u8
     ensures { λ r. ⌜ r ≡ refusalIn how ⌝ }
 {
@@ -65,72 +72,73 @@ fn put_answer(answers: &mut [u32], answer: Answer)
     }
 }
 
-fn number_of(reply: Reply) -> u8
-    ensures { λ r. ⌜ r ≡ number reply ⌝ }
-{
-    match reply {
-        Reply::Refused(k) => k,
-        Reply::Done => 0,
-    }
-}
-
-// One event, by the number that its call replied and the count of its answers.
-fn result_of(number: u8, bench: Bench, answered: usize) -> BatchResult
-    ensures { λ r. ⌜ r ≡ resultOf number bench answered ⌝ }
+// One event, by the number that its call replied, the count of its answers and what becomes of the bench.
+fn event_result(number: u8, answered: usize, effect: Effect) -> EventResult
+    ensures { λ r. ⌜ r ≡ eventResult number answered effect ⌝ }
 {
     if number == 0 {
-        return BatchResult {
+        return EventResult {
             disposition: Disposition::Complete,
-            bench,
+            effect,
             made: 1,
             answered,
         };
     }
-    BatchResult {
+    EventResult {
         disposition: Disposition::Refused(number),
-        bench,
+        effect: Effect::Same,
         made: 0,
         answered: 0,
     }
 }
 
-fn quiet(done: Changed) -> BatchResult
-    ensures { λ r. ⌜ r ≡ resultOf (number (done .reply)) (done .bench) 0 ⌝ }
+fn queue_result(queue: Queue) -> EventResult
+    ensures { λ r. ⌜ r ≡ eventResult (queueNumber queue) 0 (queueEffect queue) ⌝ }
 {
-    let reply = done.reply;
-    let bench = done.bench;
-    result_of(number_of(reply), bench, 0)
+    match queue {
+        Queue::Refused(number) => event_result(number, 0, Effect::Same),
+        Queue::Length(count) => event_result(0, 0, Effect::Flight(count)),
+    }
 }
 
-fn answer_delivery(done: Delivered, answers: &mut [u32]) -> BatchResult
-    requires { ⌜ 3 ≤ length (now answers) ⌝ }
-    ensures { λ r. ⌜ (r ≡ resultOf (reactionSays (done .reply) .number) (done .bench) 3) × (now (answers .exit) ≡ sets (now (answers .entry)) 0 (answeredNumbers (reactionSays (done .reply) .value))) ⌝ }
+fn update_result(updating: Updating, bridge: usize, view: usize) -> EventResult
+    ensures { λ r. ⌜ r ≡ eventResult (updatingNumber updating) 0 (updatingEffect updating bridge view) ⌝ }
 {
-    let reply = done.reply;
-    let bench = done.bench;
-    match reply {
-        Reaction::Refused(k) => result_of(k, bench, 3),
-        Reaction::Answered(answer) => {
+    match updating {
+        Updating::Refused(number) => event_result(number, 0, Effect::Same),
+        Updating::Stays => event_result(0, 0, Effect::Same),
+        Updating::Moves => event_result(0, 0, Effect::Moves(bridge, view)),
+    }
+}
+
+// A delivery or a repeat, with its answer, after which so many messages are in flight.
+fn answer_delivery(reception: Reception, count: usize, answers: &mut [u32]) -> EventResult
+    requires { ⌜ 3 ≤ length (now answers) ⌝ }
+    ensures { λ r. ⌜ (r ≡ eventResult (receptionSays reception .number) 3 (receptionEffect reception count)) × (now (answers .exit) ≡ sets (now (answers .entry)) 0 (answeredNumbers (receptionSays reception .value))) ⌝ }
+{
+    match reception {
+        Reception::Refused(number) => event_result(number, 3, Effect::Same),
+        Reception::Accepted(answer, end, after) => {
             put_answer(answers, answer);
-            result_of(0, bench, 3)
+            event_result(0, 3, Effect::Received(end, after, count))
         }
     }
 }
 
-fn answer_path(bench: Bench, way: Way, answers: &mut [u32]) -> BatchResult
+fn answer_path(way: Way, answers: &mut [u32]) -> EventResult
     requires { ⌜ (3 ≤ length (now answers)) × WayFits way ⌝ }
-    ensures { λ r. ⌜ (r ≡ resultOf (waySays way .number) bench 3) × (now (answers .exit) ≡ sets (now (answers .entry)) 0 (wayNumbers (waySays way .value))) ⌝ }
+    ensures { λ r. ⌜ (r ≡ eventResult (waySays way .number) 3 Same) × (now (answers .exit) ≡ sets (now (answers .entry)) 0 (wayNumbers (waySays way .value))) ⌝ }
 {
     match way {
         Way::Delivered(hops) => {
             put_three(answers, 0, 0, hops as u32);
-            result_of(0, bench, 3)
+            event_result(0, 3, Effect::Same)
         }
         Way::Stops(last, hops) => {
             put_three(answers, 1, last as u32, hops as u32);
-            result_of(0, bench, 3)
+            event_result(0, 3, Effect::Same)
         }
-        Way::Refused(k) => result_of(k, bench, 3),
+        Way::Refused(number) => event_result(number, 3, Effect::Same),
     }
 }
 
@@ -143,18 +151,18 @@ fn answer_report(
     held: &[u32],
     dest: usize,
     answers: &mut [u32],
-) -> BatchResult
+) -> EventResult
     requires { ⌜ networkInRange bench (now costs) (length (now sent)) (length (now held)) ≡ true ⌝ }
     requires { ⌜ (2 * bench .bridges ≤ length (now answers)) × Tables bench (now costs) (now tables) (now known) ⌝ }
     ensures { λ r. ⌜ ReportsTo (state bench (now (costs .entry)) (now (sent .entry)) (now (held .entry)) []) dest (now (answers .entry)) r (now (answers .exit)) ⌝ }
     ensures { λ r. ⌜ Tables bench (now (costs .entry)) (now (tables .exit)) (now (known .exit)) ⌝ }
 {
-    let refusal = refusals::report_refusal(bench, dest);
+    let refusal = refusals::report_refusal(bench.bridges, dest);
     if refusal != 0 {
-        return result_of(refusal, bench, 0);
+        return event_result(refusal, 0, Effect::Same);
     }
-    walks::report_rows(bench, costs, tables, known, sent, held, dest, answers);
-    result_of(0, bench, 2 * bench.bridges)
+    ports::report_rows(bench, costs, tables, known, sent, held, dest, answers);
+    event_result(0, 2 * bench.bridges, Effect::Same)
 }
 
 // How many numbers an event answers with, where there are so many bridges.
@@ -174,45 +182,83 @@ pub fn answer_size(bridges: u8, event: Event) -> usize
     }
 }
 
-// One event whose answer has room.
+fn cut_result(bench: Bench, link: usize) -> EventResult
+    requires { ⌜ bench .links ≤ 32 ⌝ }
+    ensures { λ r. ⌜ r ≡ eventResult (refuse (networkOf bench []) (change (cut link))) 0 (CutFlag link true) ⌝ }
+{
+    let flags = bench.cut;
+    event_result(
+        refusals::cut_refusal(bench.links, flags, link),
+        0,
+        Effect::Cut(link, true),
+    )
+}
+
+fn restore_result(bench: Bench, link: usize) -> EventResult
+    requires { ⌜ bench .links ≤ 32 ⌝ }
+    ensures { λ r. ⌜ r ≡ eventResult (refuse (networkOf bench []) (change (restore link))) 0 (CutFlag link false) ⌝ }
+{
+    let flags = bench.cut;
+    event_result(
+        refusals::restore_refusal(bench.links, flags, link),
+        0,
+        Effect::Cut(link, false),
+    )
+}
+
+// One event, if its answer has room. An update only tells that its bridge moves.
 fn carry_out(
     bench: Bench,
     costs: &[u32],
     tables: &mut [u32],
     known: &mut [bool],
+    chain: &[u8],
     sent: &mut [u32],
     held: &mut [u32],
     flight: &mut [u32],
     event: Event,
     answers: &mut [u32],
-) -> BatchResult
+) -> EventResult
     requires { ⌜ deliveryReady (state bench (now costs) (now sent) (now held) (now flight)) ≡ true ⌝ }
-    requires { ⌜ (answerSize (bench .bridges) event ≤ length (now answers)) × Tables bench (now costs) (now tables) (now known) ⌝ }
-    ensures { λ r. ⌜ Leaves (happens (state bench (now (costs .entry)) (now (sent .entry)) (now (held .entry)) (now (flight .entry))) event) (now (answers .entry)) (r .made) (r .disposition) (state (r .bench) (now (costs .entry)) (now (sent .exit)) (now (held .exit)) (now (flight .exit))) (r .answered) (now (answers .exit)) ⌝ }
-    ensures { λ r. ⌜ Tables bench (now (costs .entry)) (now (tables .exit)) (now (known .exit)) ⌝ }
+    requires { ⌜ (bench .bridges ≤ 16) × Tables bench (now costs) (now tables) (now known) × Chained (bench .links) (bench .ends) (now chain) ⌝ }
+    ensures { λ r. ⌜ Leaves (eventBatchIn (length (now (answers .entry))) (state bench (now (costs .entry)) (now (sent .entry)) (now (held .entry)) (now (flight .entry))) event) (now (answers .entry)) (r .made) (r .disposition) (appliedTo (r .effect) (state bench (now (costs .entry)) (now (sent .exit)) (now (held .exit)) (now (flight .exit)))) (r .answered) (now (answers .exit)) ⌝ }
+    ensures { λ r. ⌜ EffectTold (r .effect) bench (now (known .exit)) × Tables bench (now (costs .entry)) (now (tables .exit)) (now (known .exit)) ⌝ }
 {
+    let size = answer_size(bench.bridges as u8, event);
+    if answers.len() < size {
+        return EventResult {
+            disposition: Disposition::Full,
+            effect: Effect::Same,
+            made: 0,
+            answered: 0,
+        };
+    }
     match event {
         Event::Update(bridge, view) => {
             let y = bridge as usize;
             let t = view as usize;
-            quiet(changes::update_ready(bench, costs, tables, known, sent, held, y, t))
+            update_result(
+                changes::update_ready(bench, costs, tables, known, y, t),
+                y,
+                t,
+            )
         }
         Event::Send(bridge, link) => {
-            quiet(messages::send_ready(bench, flight, bridge as usize, link as usize))
+            queue_result(messages::send_ready(bench, flight, bridge as usize, link as usize))
         }
         Event::Deliver(place) => {
             let p = place as usize;
             let done = messages::deliver_ready(bench, costs, tables, known, sent, held, flight, p);
-            answer_delivery(done, answers)
+            answer_delivery(done, taken_count(bench.messages), answers)
         }
         Event::Repeat(place) => {
             let p = place as usize;
             let done = messages::repeat_ready(bench, costs, tables, known, sent, held, flight, p);
-            answer_delivery(done, answers)
+            answer_delivery(done, bench.messages, answers)
         }
-        Event::Lose(place) => quiet(messages::lose_ready(bench, flight, place as usize)),
-        Event::Cut(link) => quiet(changes::cut_ready(bench, link as usize)),
-        Event::Restore(link) => quiet(changes::restore_ready(bench, link as usize)),
+        Event::Lose(place) => queue_result(messages::lose_ready(bench, flight, place as usize)),
+        Event::Cut(link) => cut_result(bench, link as usize),
+        Event::Restore(link) => restore_result(bench, link as usize),
         Event::Report(dest) => {
             let d = dest as usize;
             answer_report(bench, costs, tables, known, sent, held, d, answers)
@@ -220,52 +266,13 @@ fn carry_out(
         Event::Path(start, dest) => {
             let y = start as usize;
             let d = dest as usize;
-            let way = answers::path_ready(bench, costs, tables, known, sent, held, y, d);
-            answer_path(bench, way, answers)
+            let way = answers::path_ready(bench, costs, tables, known, chain, sent, held, y, d);
+            answer_path(way, answers)
         }
     }
 }
 
-// One event, if its answer has room.
-fn carry_out_in(
-    bench: Bench,
-    costs: &[u32],
-    tables: &mut [u32],
-    known: &mut [bool],
-    sent: &mut [u32],
-    held: &mut [u32],
-    flight: &mut [u32],
-    event: Event,
-    answers: &mut [u32],
-) -> BatchResult
-    requires { ⌜ deliveryReady (state bench (now costs) (now sent) (now held) (now flight)) ≡ true ⌝ }
-    requires { ⌜ (bench .bridges ≤ 16) × Tables bench (now costs) (now tables) (now known) ⌝ }
-    ensures { λ r. ⌜ Leaves (happensIn (length (now (answers .entry))) (state bench (now (costs .entry)) (now (sent .entry)) (now (held .entry)) (now (flight .entry))) event) (now (answers .entry)) (r .made) (r .disposition) (state (r .bench) (now (costs .entry)) (now (sent .exit)) (now (held .exit)) (now (flight .exit))) (r .answered) (now (answers .exit)) ⌝ }
-    ensures { λ r. ⌜ Tables (r .bench) (now (costs .entry)) (now (tables .exit)) (now (known .exit)) ⌝ }
-{
-    let size = answer_size(bench.bridges as u8, event);
-    if answers.len() < size {
-        return BatchResult {
-            disposition: Disposition::Full,
-            bench,
-            made: 0,
-            answered: 0,
-        };
-    }
-    carry_out(
-        bench,
-        costs,
-        tables,
-        known,
-        sent,
-        held,
-        flight,
-        event,
-        answers,
-    )
-}
-
-// Carries the events out one after the other, up to the first that is not made.
+// Carries the events out one after the other, up to the first that is not made. The bench stays in one place, where each event's effect is stored.
 fn run_in_range(
     bench: Bench,
     costs: &[u32],
@@ -277,10 +284,12 @@ fn run_in_range(
     answers: &mut [u32],
 ) -> BatchResult
     requires { ⌜ (deliveryReady (state bench (now costs) (now sent) (now held) (now flight)) ≡ true) × (count ≤ 2048) ⌝ }
-    ensures { λ r. ⌜ ran (r .made) (r .answered) (r .disposition) (state (r .bench) (now (costs .entry)) (now (sent .exit)) (now (held .exit)) (now (flight .exit))) (now (answers .exit)) ≡ ranOf (runs (length (now (answers .entry))) (state bench (now (costs .entry)) (now (sent .entry)) (now (held .entry)) (now (flight .entry))) (take count events)) (now (answers .entry)) ⌝ }
+    ensures { λ r. ⌜ batchOutcome (r .made) (r .answered) (r .disposition) (state (r .bench) (now (costs .entry)) (now (sent .exit)) (now (held .exit)) (now (flight .exit))) (now (answers .exit)) ≡ batchOutcomeOf (batchFrom (length (now (answers .entry))) (state bench (now (costs .entry)) (now (sent .entry)) (now (held .entry)) (now (flight .entry))) (take count events)) (now (answers .entry)) ⌝ }
 {
-    let mut tables = [0u32; 8192];
+    let mut tables = [0u32; TABLES];
     let mut known = [false; 32];
+    let ends = bench.ends;
+    let chain = end_chains(bench.links, &ends);
     let mut current = bench;
     let mut how = Disposition::Complete;
     let mut made = 0;
@@ -288,24 +297,40 @@ fn run_in_range(
     let mut going = true;
     while both(going, made < count) {
         let event = events[made];
-        let done = carry_out_in(
+        let done = carry_out(
             current,
             costs,
             &mut tables,
             &mut known,
+            &chain,
             sent,
             held,
             flight,
             event,
             &mut answers[answered..],
         );
-        let after = done.bench;
         let disposition = done.disposition;
-        current = after;
+        let effect = done.effect;
         how = disposition;
         answered += done.answered;
         made += done.made;
         going = done.made == 1;
+        match effect {
+            Effect::Same => {}
+            Effect::Flight(left) => {
+                current.messages = left;
+            }
+            Effect::Cut(link, so) => {
+                current.cut[link] = so;
+            }
+            Effect::Received(end, after, left) => {
+                current.records[end] = after;
+                current.messages = left;
+            }
+            Effect::Moves(bridge, view) => {
+                current = moved(current, costs, &tables, &chain, bridge, view, sent, held);
+            }
+        }
     }
     BatchResult {
         disposition: how,
@@ -327,7 +352,7 @@ pub fn run(
     count: usize,
     answers: &mut [u32],
 ) -> BatchResult
-    ensures { λ r. ⌜ ran (r .made) (r .answered) (r .disposition) (state (r .bench) (now (costs .entry)) (now (sent .exit)) (now (held .exit)) (now (messages .exit))) (now (answers .exit)) ≡ batchOf (state bench (now (costs .entry)) (now (sent .entry)) (now (held .entry)) (now (messages .entry))) events count (now (answers .entry)) ⌝ }
+    ensures { λ r. ⌜ batchOutcome (r .made) (r .answered) (r .disposition) (state (r .bench) (now (costs .entry)) (now (sent .exit)) (now (held .exit)) (now (messages .exit))) (now (answers .exit)) ≡ batchOf (state bench (now (costs .entry)) (now (sent .entry)) (now (held .entry)) (now (messages .entry))) events count (now (answers .entry)) ⌝ }
 {
     let sent_size = sent.len();
     let held_size = held.len();

@@ -8,16 +8,18 @@ use agreement::Port;
 pub mod answers;
 pub mod batches;
 pub mod changes;
-mod flights;
+mod deliveries;
+mod effects;
+mod initial;
 pub mod messages;
-mod moves;
+mod ports;
+mod queue;
 mod ready;
-mod receives;
 mod refusals;
 mod replies;
-mod starts;
+pub mod sizes;
 mod tables;
-mod walks;
+mod updates;
 
 // Link l joins ends[2 l] and ends[2 l + 1]; `messages` is how many are in flight; `view` and `number` are each bridge's view and agreement
 // number.
@@ -85,7 +87,7 @@ pub struct Delivered {
     pub bench: Bench,
 }
 
-// Why a list of events ended: all were made; document 01's number for the next one; the next one's answer has no room.
+// Why a list of events ended: all were made; document 01's number for the next one, or 17 for the list itself; the next one's answer has no room.
 pub enum Disposition {
     Complete,
     Refused(u8),

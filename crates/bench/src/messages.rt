@@ -2,21 +2,27 @@
 use crate::Bench;
 use crate::Changed;
 use crate::Delivered;
+use crate::Reaction;
 use crate::Reply;
-use crate::flights;
+use crate::deliveries::receive_at;
+use crate::effects::Queue;
+use crate::effects::Reception;
+use crate::queue;
 use crate::ready;
-use crate::receives::receive_at;
 use crate::refusals;
 use crate::replies::refused;
 use crate::replies::refused_delivery;
+use crate::sizes::TABLES;
 use agreement::Carrying;
+ghost use Prim.Native.Nat.{_-_};
 ghost use mathlib.Core.Path.{_≡_};
 ghost use mathlib.Core.Bool.{true, _&&_};
-ghost use Rattle.bench.specs.Changes.{number, NoZero};
+ghost use Rattle.bench.specs.Changes.{number, NoZero, benchOutcome};
 ghost use Rattle.bench.specs.State.{state};
 ghost use Rattle.bench.specs.Ranges.{benchInRange, messagesInRange};
-ghost use Rattle.bench.specs.Flights.{flown, sendOf, loseOf};
-ghost use Rattle.bench.specs.Deliveries.{reactionSays, delivered, deliveryReady, deliverOf, repeatOf};
+ghost use Rattle.bench.specs.Flights.{queueOutcome, sendOf, loseOf};
+ghost use Rattle.bench.specs.Deliveries.{reactionSays, deliveryOutcome, deliveryReady, deliverOf, repeatOf};
+ghost use Rattle.bench.specs.Effects.{queueNumber, queueBench, QueueTold, receptionSays, receptionBench, ReceptionTold};
 ghost use Rattle.bench.specs.Steps.{Tables};
 
 fn flight_in_range(bench: Bench, messages: &[u32]) -> bool
@@ -31,24 +37,49 @@ fn flight_in_range(bench: Bench, messages: &[u32]) -> bool
 
 // Appends the message of a bridge over a link: its view, its number, and the end's discarded number.
 pub fn send(bench: Bench, messages: &mut [u32], bridge: usize, link: usize) -> Changed
-    ensures { λ r. ⌜ (flown (number (r .reply)) (r .bench) (now (messages .exit)) ≡ sendOf bench (now (messages .entry)) bridge link) × NoZero (r .reply) ⌝ }
+    ensures { λ r. ⌜ (queueOutcome (number (r .reply)) (r .bench) (now (messages .exit)) ≡ sendOf bench (now (messages .entry)) bridge link) × NoZero (r .reply) ⌝ }
 {
     if !flight_in_range(bench, messages) {
         return refused(17, bench);
     }
-    send_ready(bench, messages, bridge, link)
+    queued(bench, send_ready(bench, messages, bridge, link))
+}
+
+// The bench with so many messages in flight, or as it was.
+fn queued(bench: Bench, queue: Queue) -> Changed
+    requires { ⌜ QueueTold queue ⌝ }
+    ensures { λ r. ⌜ (benchOutcome (number (r .reply)) (r .bench) ≡ benchOutcome (queueNumber queue) (queueBench queue bench)) × NoZero (r .reply) ⌝ }
+{
+    match queue {
+        Queue::Refused(number) => refused(number, bench),
+        Queue::Length(count) => Changed {
+            reply: Reply::Done,
+            bench: queue::with_count(bench, count),
+        },
+    }
 }
 
 // `send` of what is in range; it still is afterwards.
-pub(crate) fn send_ready(bench: Bench, messages: &mut [u32], bridge: usize, link: usize) -> Changed
+pub(crate) fn send_ready(bench: Bench, messages: &mut [u32], bridge: usize, link: usize) -> Queue
     requires { ⌜ (benchInRange bench && messagesInRange bench (now messages)) ≡ true ⌝ }
-    ensures { λ r. ⌜ (flown (number (r .reply)) (r .bench) (now (messages .exit)) ≡ sendOf bench (now (messages .entry)) bridge link) × NoZero (r .reply) × ((benchInRange (r .bench) && messagesInRange (r .bench) (now (messages .exit))) ≡ true) ⌝ }
+    ensures { λ r. ⌜ (queueOutcome (queueNumber r) (queueBench r bench) (now (messages .exit)) ≡ sendOf bench (now (messages .entry)) bridge link) × QueueTold r × ((benchInRange (queueBench r bench) && messagesInRange (queueBench r bench) (now (messages .exit))) ≡ true) ⌝ }
 {
-    let refusal = refusals::send_refusal(bench, bridge, link);
+    let ends = bench.ends;
+    let cut = bench.cut;
+    let count = bench.messages;
+    let refusal = refusals::send_refusal(
+        bench.bridges,
+        bench.links,
+        count,
+        ends,
+        cut,
+        bridge,
+        link,
+    );
     if refusal != 0 {
-        return refused(refusal, bench);
+        return Queue::Refused(refusal);
     }
-    let end = flights::end_of(bench, bridge, link);
+    let end = queue::end_of(ends, bridge, link);
     let old = bench.records[end];
     let Carrying::Carries(carried) = agreement::calls::carry(
         bench.views,
@@ -56,10 +87,9 @@ pub(crate) fn send_ready(bench: Bench, messages: &mut [u32], bridge: usize, link
         bench.number[bridge],
         old,
     ) else {
-        return refused(17, bench);
+        return Queue::Refused(17);
     };
-    let count = bench.messages;
-    flights::put(
+    queue::put(
         messages,
         count,
         link as u32,
@@ -68,36 +98,56 @@ pub(crate) fn send_ready(bench: Bench, messages: &mut [u32], bridge: usize, link
         carried.number as u32,
         carried.discarded as u32,
     );
-    Changed {
-        reply: Reply::Done,
-        bench: flights::with_count(bench, count + 1),
-    }
+    Queue::Length(count + 1)
 }
 
 // Takes a message out; later ones move up by one.
 pub fn lose(bench: Bench, messages: &mut [u32], place: usize) -> Changed
-    ensures { λ r. ⌜ (flown (number (r .reply)) (r .bench) (now (messages .exit)) ≡ loseOf bench (now (messages .entry)) place) × NoZero (r .reply) ⌝ }
+    ensures { λ r. ⌜ (queueOutcome (number (r .reply)) (r .bench) (now (messages .exit)) ≡ loseOf bench (now (messages .entry)) place) × NoZero (r .reply) ⌝ }
 {
     if !flight_in_range(bench, messages) {
         return refused(17, bench);
     }
-    lose_ready(bench, messages, place)
+    queued(bench, lose_ready(bench, messages, place))
 }
 
 // `lose` of what is in range.
-pub(crate) fn lose_ready(bench: Bench, messages: &mut [u32], place: usize) -> Changed
+pub(crate) fn lose_ready(bench: Bench, messages: &mut [u32], place: usize) -> Queue
     requires { ⌜ (benchInRange bench && messagesInRange bench (now messages)) ≡ true ⌝ }
-    ensures { λ r. ⌜ (flown (number (r .reply)) (r .bench) (now (messages .exit)) ≡ loseOf bench (now (messages .entry)) place) × NoZero (r .reply) ⌝ }
+    ensures { λ r. ⌜ (queueOutcome (queueNumber r) (queueBench r bench) (now (messages .exit)) ≡ loseOf bench (now (messages .entry)) place) × QueueTold r ⌝ }
 {
-    let refusal = refusals::lose_refusal(bench, place);
-    if refusal != 0 {
-        return refused(refusal, bench);
-    }
     let count = bench.messages;
-    flights::take_out(messages, count, place);
-    Changed {
-        reply: Reply::Done,
-        bench: flights::with_count(bench, count - 1),
+    let refusal = refusals::lose_refusal(count, place);
+    if refusal != 0 {
+        return Queue::Refused(refusal);
+    }
+    queue::take_out(messages, count, place);
+    Queue::Length(count - 1)
+}
+
+// One message less, if there is one.
+pub(crate) fn taken_count(count: usize) -> usize
+    ensures { λ r. ⌜ r ≡ count - 1 ⌝ }
+{
+    if count == 0 { 0 } else { count - 1 }
+}
+
+// The bench with the end's record and so many messages in flight, or as it was.
+fn taken(bench: Bench, reception: Reception, count: usize) -> Delivered
+    requires { ⌜ ReceptionTold reception ⌝ }
+    ensures { λ r. ⌜ (reactionSays (r .reply) ≡ receptionSays reception) × (r .bench ≡ receptionBench reception bench count) ⌝ }
+{
+    match reception {
+        Reception::Refused(number) => refused_delivery(number, bench),
+        Reception::Accepted(answer, end, after) => {
+            let mut next = bench;
+            next.records[end] = after;
+            next.messages = count;
+            Delivered {
+                reply: Reaction::Answered(answer),
+                bench: next,
+            }
+        }
     }
 }
 
@@ -110,15 +160,15 @@ pub fn deliver(
     messages: &mut [u32],
     place: usize,
 ) -> Delivered
-    ensures { λ r. ⌜ delivered (reactionSays (r .reply)) (r .bench) (now (sent .exit)) (now (held .exit)) (now (messages .exit)) ≡ deliverOf (state bench (now (costs .entry)) (now (sent .entry)) (now (held .entry)) (now (messages .entry))) place ⌝ }
+    ensures { λ r. ⌜ deliveryOutcome (reactionSays (r .reply)) (r .bench) (now (sent .exit)) (now (held .exit)) (now (messages .exit)) ≡ deliverOf (state bench (now (costs .entry)) (now (sent .entry)) (now (held .entry)) (now (messages .entry))) place ⌝ }
 {
     let in_range = ready::delivery_in_range(bench, costs, sent.len(), held.len(), messages);
     if !in_range {
         return refused_delivery(17, bench);
     }
-    let mut tables = [0u32; 8192];
+    let mut tables = [0u32; TABLES];
     let mut known = [false; 32];
-    deliver_ready(
+    let reception = deliver_ready(
         bench,
         costs,
         &mut tables,
@@ -127,7 +177,8 @@ pub fn deliver(
         held,
         messages,
         place,
-    )
+    );
+    taken(bench, reception, taken_count(bench.messages))
 }
 
 // `deliver` of what is in range.
@@ -140,25 +191,21 @@ pub(crate) fn deliver_ready(
     held: &mut [u32],
     messages: &mut [u32],
     place: usize,
-) -> Delivered
+) -> Reception
     requires { ⌜ deliveryReady (state bench (now costs) (now sent) (now held) (now messages)) ≡ true ⌝ }
     requires { ⌜ Tables bench (now costs) (now tables) (now known) ⌝ }
-    ensures { λ r. ⌜ delivered (reactionSays (r .reply)) (r .bench) (now (sent .exit)) (now (held .exit)) (now (messages .exit)) ≡ deliverOf (state bench (now (costs .entry)) (now (sent .entry)) (now (held .entry)) (now (messages .entry))) place ⌝ }
+    ensures { λ r. ⌜ (deliveryOutcome (receptionSays r) (receptionBench r bench (bench .messages - 1)) (now (sent .exit)) (now (held .exit)) (now (messages .exit)) ≡ deliverOf (state bench (now (costs .entry)) (now (sent .entry)) (now (held .entry)) (now (messages .entry))) place) × ReceptionTold r ⌝ }
     ensures { λ r. ⌜ Tables bench (now (costs .entry)) (now (tables .exit)) (now (known .exit)) ⌝ }
 {
-    let refusal = refusals::deliver_refusal(bench, messages, place);
-    if refusal != 0 {
-        return refused_delivery(refusal, bench);
-    }
-    let taken = receive_at(bench, costs, tables, known, sent, held, messages, place);
     let count = bench.messages;
-    flights::take_out(messages, count, place);
-    let reply = taken.reply;
-    let next = taken.bench;
-    Delivered {
-        reply,
-        bench: flights::with_count(next, count - 1),
+    let cut = bench.cut;
+    let refusal = refusals::deliver_refusal(count, cut, messages, place);
+    if refusal != 0 {
+        return Reception::Refused(refusal);
     }
+    let reception = receive_at(bench, costs, tables, known, sent, held, messages, place);
+    queue::take_out(messages, count, place);
+    reception
 }
 
 // Delivers a message and leaves it in.
@@ -170,15 +217,15 @@ pub fn repeat(
     messages: &[u32],
     place: usize,
 ) -> Delivered
-    ensures { λ r. ⌜ delivered (reactionSays (r .reply)) (r .bench) (now (sent .exit)) (now (held .exit)) (now (messages .entry)) ≡ repeatOf (state bench (now (costs .entry)) (now (sent .entry)) (now (held .entry)) (now (messages .entry))) place ⌝ }
+    ensures { λ r. ⌜ deliveryOutcome (reactionSays (r .reply)) (r .bench) (now (sent .exit)) (now (held .exit)) (now (messages .entry)) ≡ repeatOf (state bench (now (costs .entry)) (now (sent .entry)) (now (held .entry)) (now (messages .entry))) place ⌝ }
 {
     let in_range = ready::delivery_in_range(bench, costs, sent.len(), held.len(), messages);
     if !in_range {
         return refused_delivery(17, bench);
     }
-    let mut tables = [0u32; 8192];
+    let mut tables = [0u32; TABLES];
     let mut known = [false; 32];
-    repeat_ready(
+    let reception = repeat_ready(
         bench,
         costs,
         &mut tables,
@@ -187,7 +234,8 @@ pub fn repeat(
         held,
         messages,
         place,
-    )
+    );
+    taken(bench, reception, bench.messages)
 }
 
 // `repeat` of what is in range.
@@ -200,15 +248,17 @@ pub(crate) fn repeat_ready(
     held: &mut [u32],
     messages: &[u32],
     place: usize,
-) -> Delivered
+) -> Reception
     requires { ⌜ deliveryReady (state bench (now costs) (now sent) (now held) (now messages)) ≡ true ⌝ }
     requires { ⌜ Tables bench (now costs) (now tables) (now known) ⌝ }
-    ensures { λ r. ⌜ delivered (reactionSays (r .reply)) (r .bench) (now (sent .exit)) (now (held .exit)) (now (messages .entry)) ≡ repeatOf (state bench (now (costs .entry)) (now (sent .entry)) (now (held .entry)) (now (messages .entry))) place ⌝ }
+    ensures { λ r. ⌜ (deliveryOutcome (receptionSays r) (receptionBench r bench (bench .messages)) (now (sent .exit)) (now (held .exit)) (now (messages .entry)) ≡ repeatOf (state bench (now (costs .entry)) (now (sent .entry)) (now (held .entry)) (now (messages .entry))) place) × ReceptionTold r ⌝ }
     ensures { λ r. ⌜ Tables bench (now (costs .entry)) (now (tables .exit)) (now (known .exit)) ⌝ }
 {
-    let refusal = refusals::deliver_refusal(bench, messages, place);
+    let count = bench.messages;
+    let cut = bench.cut;
+    let refusal = refusals::deliver_refusal(count, cut, messages, place);
     if refusal != 0 {
-        return refused_delivery(refusal, bench);
+        return Reception::Refused(refusal);
     }
     receive_at(bench, costs, tables, known, sent, held, messages, place)
 }

@@ -1,5 +1,9 @@
 // The entry checks: document 01's ranges of a bench and of what is lent beside it.
 use crate::Bench;
+use crate::sizes::COSTS;
+use crate::sizes::MESSAGES;
+use crate::sizes::MOST_MESSAGES;
+use agreement::sizes::LIMITS;
 use distances::ready::both;
 ghost use mathlib.Core.Path.{_≡_};
 ghost use mathlib.Core.Bool.{_&&_};
@@ -38,7 +42,10 @@ pub(crate) fn bench_in_range(bench: Bench) -> bool
     if graph_in_range(bench) {
         let records = bench.records;
         let known = agreement::ready::records_in_range(bench.views, bench.links, records);
-        both(bench.messages <= 64, both(views_in_range(bench), known))
+        both(
+            bench.messages <= MOST_MESSAGES,
+            both(views_in_range(bench), known),
+        )
     } else {
         false
     }
@@ -57,7 +64,7 @@ fn costs_in_range(bench: Bench, costs: &[u32]) -> bool
     requires { ⌜ bench .views ≤ 32 ⌝ }
     ensures { λ r. ⌜ r ≡ costsInRange bench (now (costs .entry)) ⌝ }
 {
-    if costs.len() < 1024 {
+    if costs.len() < COSTS {
         return false;
     }
     let mut ok = true;
@@ -72,7 +79,7 @@ fn costs_in_range(bench: Bench, costs: &[u32]) -> bool
 fn limits_long(sent: usize, held: usize) -> bool
     ensures { λ r. ⌜ r ≡ limitsLong sent held ⌝ }
 {
-    both(1024 <= sent, 1024 <= held)
+    both(LIMITS <= sent, LIMITS <= held)
 }
 
 pub(crate) fn plan_in_range(bench: Bench, costs: &[u32], sent: usize, held: usize) -> bool
@@ -121,7 +128,7 @@ pub(crate) fn messages_in_range(bench: Bench, messages: &[u32]) -> bool
     requires { ⌜ bench .messages ≤ 64 ⌝ }
     ensures { λ r. ⌜ r ≡ messagesInRange bench (now (messages .entry)) ⌝ }
 {
-    if messages.len() < 320 {
+    if messages.len() < MESSAGES {
         return false;
     }
     let mut ok = true;

@@ -1,5 +1,6 @@
-// What turns a call down, by document 01's table, once the ranges are checked: its number, 0 where nothing does.
-use crate::Bench;
+// What turns a call down, by document 01's table, once the ranges are checked: its number, 0 where nothing does. Each takes the numbers that
+// it looks at, of a bench that has them.
+use crate::sizes::MOST_MESSAGES;
 use distances::ready::both;
 ghost use mathlib.Core.Path.{_≡_};
 ghost use mathlib.Core.List.{[]};
@@ -7,115 +8,131 @@ ghost use Prim.Native.Nat.{_*_, _≤_, _<_};
 ghost use lib.ListN.{length, getD};
 ghost use Rattle.protocol.specs.Calls.{change, update, cut, restore, send, deliver, lose, port, report, refuse};
 ghost use Rattle.bench.specs.State.{networkOf};
+ghost use Rattle.bench.specs.declared.Bench.{Bench};
 
-pub(crate) fn update_refusal(bench: Bench, bridge: usize, view: usize) -> u8
-    requires { ⌜ bench .bridges ≤ 16 ⌝ }
-    ensures { λ r. ⌜ r ≡ refuse (networkOf bench []) (change (update bridge view)) ⌝ }
+pub(crate) fn update_refusal(
+    bridges: usize,
+    views: usize,
+    view: [u8; 16],
+    number: [u16; 16],
+    bridge: usize,
+    to: usize,
+) -> u8
+    requires { ⌜ bridges ≤ 16 ⌝ }
+    ensures { λ r. ⌜ ((b : Bench) → b .bridges ≡ bridges → b .views ≡ views → b .view ≡ view → b .number ≡ number → r ≡ refuse (networkOf b []) (change (update bridge to))) ⌝ }
 {
-    if bench.bridges <= bridge {
+    if bridges <= bridge {
         return 10;
     }
-    if bench.views <= view {
+    if views <= to {
         return 10;
     }
-    let number = bench.number[bridge];
-    let present = bench.view[bridge] as usize;
-    if both(number == 65535, present != view) {
+    let last = number[bridge];
+    let present = view[bridge] as usize;
+    if both(last == 65535, present != to) {
         return 16;
     }
     0
 }
 
-pub(crate) fn cut_refusal(bench: Bench, link: usize) -> u8
-    requires { ⌜ bench .links ≤ 32 ⌝ }
-    ensures { λ r. ⌜ r ≡ refuse (networkOf bench []) (change (cut link)) ⌝ }
+pub(crate) fn cut_refusal(links: usize, flags: [bool; 32], link: usize) -> u8
+    requires { ⌜ links ≤ 32 ⌝ }
+    ensures { λ r. ⌜ ((b : Bench) → b .links ≡ links → b .cut ≡ flags → r ≡ refuse (networkOf b []) (change (cut link))) ⌝ }
 {
-    if bench.links <= link {
+    if links <= link {
         return 10;
     }
-    if bench.cut[link] {
+    if flags[link] {
         return 12;
     }
     0
 }
 
-pub(crate) fn restore_refusal(bench: Bench, link: usize) -> u8
-    requires { ⌜ bench .links ≤ 32 ⌝ }
-    ensures { λ r. ⌜ r ≡ refuse (networkOf bench []) (change (restore link)) ⌝ }
+pub(crate) fn restore_refusal(links: usize, flags: [bool; 32], link: usize) -> u8
+    requires { ⌜ links ≤ 32 ⌝ }
+    ensures { λ r. ⌜ ((b : Bench) → b .links ≡ links → b .cut ≡ flags → r ≡ refuse (networkOf b []) (change (restore link))) ⌝ }
 {
-    if bench.links <= link {
+    if links <= link {
         return 10;
     }
-    if !bench.cut[link] {
+    if !flags[link] {
         return 12;
     }
     0
 }
 
-pub(crate) fn send_refusal(bench: Bench, bridge: usize, link: usize) -> u8
-    requires { ⌜ bench .links ≤ 32 ⌝ }
-    ensures { λ r. ⌜ r ≡ refuse (networkOf bench []) (send bridge link) ⌝ }
+pub(crate) fn send_refusal(
+    bridges: usize,
+    links: usize,
+    count: usize,
+    ends: [u8; 64],
+    flags: [bool; 32],
+    bridge: usize,
+    link: usize,
+) -> u8
+    requires { ⌜ links ≤ 32 ⌝ }
+    ensures { λ r. ⌜ ((b : Bench) → b .bridges ≡ bridges → b .links ≡ links → b .messages ≡ count → b .ends ≡ ends → b .cut ≡ flags → r ≡ refuse (networkOf b []) (send bridge link)) ⌝ }
 {
-    if bench.bridges <= bridge {
+    if bridges <= bridge {
         return 10;
     }
-    if bench.links <= link {
+    if links <= link {
         return 10;
     }
     let first = 2 * link;
-    let a = bench.ends[first] as usize;
-    let b = bench.ends[first + 1] as usize;
-    if both(a != bridge, b != bridge) {
+    let near = ends[first] as usize;
+    let far = ends[first + 1] as usize;
+    if both(near != bridge, far != bridge) {
         return 11;
     }
-    if bench.cut[link] {
+    if flags[link] {
         return 13;
     }
-    if 64 <= bench.messages {
+    if MOST_MESSAGES <= count {
         return 14;
     }
     0
 }
 
-pub(crate) fn deliver_refusal(bench: Bench, messages: &[u32], place: usize) -> u8
-    requires { ⌜ (bench .messages ≤ 64) × (320 ≤ length (now messages)) ⌝ }
-    requires { ⌜ (place < bench .messages → getD (now messages) (5 * place) 0 < 32) ⌝ }
-    ensures { λ r. ⌜ r ≡ refuse (networkOf bench (now (messages .entry))) (deliver place) ⌝ }
+pub(crate) fn deliver_refusal(count: usize, flags: [bool; 32], messages: &[u32], place: usize) -> u8
+    requires { ⌜ (count ≤ 64) × (320 ≤ length (now messages)) ⌝ }
+    requires { ⌜ (place < count → getD (now messages) (5 * place) 0 < 32) ⌝ }
+    ensures { λ r. ⌜ ((b : Bench) → b .messages ≡ count → b .cut ≡ flags → r ≡ refuse (networkOf b (now (messages .entry))) (deliver place)) ⌝ }
 {
-    if bench.messages <= place {
+    if count <= place {
         return 15;
     }
     let link = messages[5 * place] as usize;
-    if bench.cut[link] {
+    if flags[link] {
         return 13;
     }
     0
 }
 
-pub(crate) fn lose_refusal(bench: Bench, place: usize) -> u8
-    ensures { λ r. ⌜ r ≡ refuse (networkOf bench []) (lose place) ⌝ }
+pub(crate) fn lose_refusal(count: usize, place: usize) -> u8
+    ensures { λ r. ⌜ ((b : Bench) → b .messages ≡ count → r ≡ refuse (networkOf b []) (lose place)) ⌝ }
 {
-    if bench.messages <= place {
+    if count <= place {
         return 15;
     }
     0
 }
 
-pub(crate) fn report_refusal(bench: Bench, dest: usize) -> u8
-    ensures { λ r. ⌜ r ≡ refuse (networkOf bench []) (report dest) ⌝ }
+pub(crate) fn report_refusal(bridges: usize, dest: usize) -> u8
+    ensures { λ r. ⌜ ((b : Bench) → b .bridges ≡ bridges → r ≡ refuse (networkOf b []) (report dest)) ⌝ }
 {
-    if bench.bridges <= dest {
+    if bridges <= dest {
         return 10;
     }
     0
 }
 
-// The same for `path`.
-pub(crate) fn port_refusal(bench: Bench, bridge: usize, dest: usize) -> u8
-    ensures { λ r. ⌜ r ≡ refuse (networkOf bench []) (port bridge dest) ⌝ }
+// Also for `path`, which has the same checks.
+pub(crate) fn port_refusal(bridges: usize, bridge: usize, dest: usize) -> u8
+    ensures { λ r. ⌜ ((b : Bench) → b .bridges ≡ bridges → r ≡ refuse (networkOf b []) (port bridge dest)) ⌝ }
 {
-    if bench.bridges <= bridge {
+    if bridges <= bridge {
         return 10;
     }
-    report_refusal(bench, dest)
+    report_refusal(bridges, dest)
 }

@@ -5,14 +5,13 @@ use crate::Delivered;
 use crate::Reaction;
 use crate::Reply;
 ghost use mathlib.Core.Path.{_≡_};
-ghost use mathlib.Core.List.{[]};
 ghost use Prim.Native.Nat.{_<_};
-ghost use Rattle.bench.specs.Changes.{number, NoZero, changed};
+ghost use Rattle.bench.specs.Changes.{number, NoZero, benchOutcome};
 ghost use Rattle.bench.specs.Deliveries.{reactionSays, refusedBy};
 
 pub(crate) fn refused(by: u8, bench: Bench) -> Changed
     requires { ⌜ 0 < by ⌝ }
-    ensures { λ r. ⌜ (changed (number (r .reply)) (r .bench) ≡ changed by bench) × NoZero (r .reply) ⌝ }
+    ensures { λ r. ⌜ (benchOutcome (number (r .reply)) (r .bench) ≡ benchOutcome by bench) × NoZero (r .reply) ⌝ }
 {
     Changed {
         reply: Reply::Refused(by),

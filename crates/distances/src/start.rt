@@ -2,7 +2,7 @@
 ghost use mathlib.Core.Path.{_≡_};
 ghost use mathlib.Core.Bool.{cond};
 ghost use Prim.Native.Nat.{ℕ, _+_, _*_, _/_, _%_, _≤_, _<_, min};
-ghost use lib.ListN.{length, getD, set};
+ghost use lib.ListN.{length, getD};
 ghost use Rattle.distances.specs.Distance.{unjoined};
 ghost use Rattle.distances.specs.Table.{isPair, withPairs};
 ghost use Rattle.distances.specs.Steps.{weight, lowered, withLink, withLinks};

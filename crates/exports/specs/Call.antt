@@ -7,8 +7,9 @@ use mathlib.Core.List.{List, [], _∷_}
 use lib.ListN.{length}
 use lib.Seq.{sets}
 use lib.Dec.{eqb, leb}
-use Rattle.agreement.specs.Call.{Said, Outcome, Lent, offerOutcome, freshOutcome, updateOutcome, carryOutcome, deliverOutcome, portOutcome}
+use Rattle.agreement.specs.Call.{Response, Outcome, ViewData, offerOutcome, freshOutcome, updateOutcome, carryOutcome, deliverOutcome, portOutcome}
 use Rattle.agreement.specs.declared.Answer.{Answer}
+use Rattle.bench.specs.Batches.{answerNumbers}
 use Rattle.exports.specs.Numbers.{
   recordAt,
   messageIn,
@@ -19,36 +20,35 @@ use Rattle.exports.specs.Numbers.{
   holdsRecords,
   recordNumbers,
   messageNumbers,
-  answerNumbers,
   portNumbers,
 }
 
 -- a reply's number, and the lists that the call may write, afterwards
-pub record Told : Type 0 where
+pub record CallOutcome : Type 0 where
   pub reply : ℕ
   pub lists : List (List ℕ)
 
-abbrev pub told : ℕ → List (List ℕ) → Told
-told reply lists = record { reply = reply; lists = lists }
+abbrev pub callOutcome : ℕ → List (List ℕ) → CallOutcome
+callOutcome reply lists = record { reply = reply; lists = lists }
 
 -- the numbers of what a reply brings stand at the front of the list; it is as before where the reply brings nothing
 unfoldable pub withValue : {A : Type 0} → (A → List ℕ) → List ℕ → List A → List ℕ
 withValue numbers old [] = old
 withValue numbers old (x ∷ xs) = sets old 0 (numbers x)
 
-abbrev pub saidTold : {A : Type 0} → (A → List ℕ) → List ℕ → Said A → Told
-saidTold numbers out s = told (s .number) (withValue numbers out (s .value) ∷ [])
+abbrev pub valueReply : {A : Type 0} → (A → List ℕ) → List ℕ → Response A → CallOutcome
+valueReply numbers out s = callOutcome (s .number) (withValue numbers out (s .value) ∷ [])
 
 -- the new numbers stand at the front of the list where the call was not refused, else it is as before
 abbrev pub withNumbers : ℕ → List ℕ → List ℕ → List ℕ
 withNumbers reply old new = cond (eqb reply 0) (sets old 0 new) old
 
-abbrev pub endTold : List ℕ → Outcome ℕ → Told
-endTold fields o = told (o .reply) (withNumbers (o .reply) fields (recordNumbers (o .end)) ∷ o .sent ∷ o .held ∷ [])
+abbrev pub endReply : List ℕ → Outcome ℕ → CallOutcome
+endReply fields o = callOutcome (o .reply) (withNumbers (o .reply) fields (recordNumbers (o .end)) ∷ o .sent ∷ o .held ∷ [])
 
-abbrev pub deliveryTold : List ℕ → List ℕ → Outcome (Said Answer) → Told
-deliveryTold fields out o =
-    told
+abbrev pub deliveryReply : List ℕ → List ℕ → Outcome (Response Answer) → CallOutcome
+deliveryReply fields out o =
+    callOutcome
     (o .reply .number)
     (withNumbers (o .reply .number) fields (recordNumbers (o .end))
     ∷ withValue answerNumbers out (o .reply .value)
@@ -57,40 +57,40 @@ deliveryTold fields out o =
     ∷ [])
 
 -- refused with every list as it was, where the test fails
-abbrev pub ifLong : Bool → List (List ℕ) → Told → Told
-ifLong test lists t = cond test t (told 17 lists)
+abbrev pub ifLong : Bool → List (List ℕ) → CallOutcome → CallOutcome
+ifLong test lists t = cond test t (callOutcome 17 lists)
 
-unfoldable pub offerTold : Lent → ℕ → ℕ → List ℕ → Told
-offerTold v e d out = ifLong (leb 1 (length out)) (out ∷ []) (saidTold (λ x. x ∷ []) out (offerOutcome v e d))
+unfoldable pub offerReply : ViewData → ℕ → ℕ → List ℕ → CallOutcome
+offerReply v e d out = ifLong (leb 1 (length out)) (out ∷ []) (valueReply (λ x. x ∷ []) out (offerOutcome v e d))
 
-unfoldable pub freshTold : Lent → ℕ → List ℕ → List ℕ → List ℕ → Told
-freshTold v e fields sent held =
-    ifLong (leb 4 (length fields)) (fields ∷ sent ∷ held ∷ []) (endTold fields (freshOutcome v e sent held))
+unfoldable pub freshReply : ViewData → ℕ → List ℕ → List ℕ → List ℕ → CallOutcome
+freshReply v e fields sent held =
+    ifLong (leb 4 (length fields)) (fields ∷ sent ∷ held ∷ []) (endReply fields (freshOutcome v e sent held))
 
-unfoldable pub updateTold : Lent → ℕ → ℕ → ℕ → List ℕ → List ℕ → List ℕ → Told
-updateTold v views t e fields sent held =
+unfoldable pub updateReply : ViewData → ℕ → ℕ → ℕ → List ℕ → List ℕ → List ℕ → CallOutcome
+updateReply v views t e fields sent held =
     ifLong
     (holdsRecord fields)
     (fields ∷ sent ∷ held ∷ [])
-    (endTold fields (updateOutcome v views t e (recordAt fields 0) sent held))
+    (endReply fields (updateOutcome v views t e (recordAt fields 0) sent held))
 
-unfoldable pub carryTold : ℕ → ℕ → ℕ → List ℕ → List ℕ → Told
-carryTold views t n fields out =
+unfoldable pub carryReply : ℕ → ℕ → ℕ → List ℕ → List ℕ → CallOutcome
+carryReply views t n fields out =
     ifLong
     (holdsRecord fields && leb 3 (length out))
     (out ∷ [])
-    (saidTold messageNumbers out (carryOutcome views t n (recordAt fields 0)))
+    (valueReply messageNumbers out (carryOutcome views t n (recordAt fields 0)))
 
-unfoldable pub deliverTold : Lent → ℕ → ℕ → ℕ → ℕ → List ℕ → List ℕ → List ℕ → List ℕ → List ℕ → Told
-deliverTold v views t n e fields message sent held out =
+unfoldable pub deliverReply : ViewData → ℕ → ℕ → ℕ → ℕ → List ℕ → List ℕ → List ℕ → List ℕ → List ℕ → CallOutcome
+deliverReply v views t n e fields message sent held out =
     ifLong
     (holdsRecord fields && (holdsMessage message && leb 3 (length out)))
     (fields ∷ out ∷ sent ∷ held ∷ [])
-    (deliveryTold fields out (deliverOutcome v views t n e (recordAt fields 0) (messageIn message) sent held))
+    (deliveryReply fields out (deliverOutcome v views t n e (recordAt fields 0) (messageIn message) sent held))
 
-unfoldable pub portTold : Lent → ℕ → List ℕ → List ℕ → List ℕ → List ℕ → ℕ → ℕ → List ℕ → Told
-portTold v views cut records sent held y d out =
+unfoldable pub portReply : ViewData → ℕ → List ℕ → List ℕ → List ℕ → List ℕ → ℕ → ℕ → List ℕ → CallOutcome
+portReply v views cut records sent held y d out =
     ifLong
     (leb 32 (length cut) && (holdsRecords records && leb 1 (length out)))
     (out ∷ [])
-    (saidTold portNumbers out (portOutcome v views (flagsIn cut) (recordsIn records) sent held y d))
+    (valueReply portNumbers out (portOutcome v views (flagsIn cut) (recordsIn records) sent held y d))

@@ -7,10 +7,10 @@ use lib.ListN.{length, getD, replicate}
 use lib.Seq.{sets}
 use lib.Dec.{eqb, leb}
 use Rattle.bench.specs.State.{state}
-use Rattle.bench.specs.Batches.{Ran, refusalIn, batchOf}
+use Rattle.bench.specs.Batches.{BatchOutcome, refusalIn, batchOf}
 use Rattle.bench.specs.declared.Bench.{Bench}
 use Rattle.plan.specs.Events.{Listing, listProgress, eventsReply, bytesBy}
-use Rattle.exports.specs.Call.{Told, told, ifLong}
+use Rattle.exports.specs.Call.{CallOutcome, callOutcome, ifLong}
 use Rattle.exports.specs.Network.{holdsBench, benchIn, low, stored}
 
 -- the new bench where an event was made, else as it was
@@ -21,9 +21,9 @@ withMade made b xs = cond (eqb made 0) xs (stored b xs)
 abbrev pub countsOf : ℕ → ℕ → ℕ → List ℕ
 countsOf made used answered = low made ∷ low used ∷ low answered ∷ []
 
-abbrev pub ranTold : List ℕ → List ℕ → ℕ → Ran → Told
-ranTold xs out used o =
-    told (refusalIn (o .disposition))
+abbrev pub batchReply : List ℕ → List ℕ → ℕ → BatchOutcome → CallOutcome
+batchReply xs out used o =
+    callOutcome (refusalIn (o .disposition))
     (withMade (o .made) (o .state .bench) xs
     ∷ sets out 0 (countsOf (o .made) used (o .answered))
     ∷ o .state .sent
@@ -36,9 +36,9 @@ ranTold xs out used o =
 abbrev pub listedIn : Bench → List ℕ → List ℕ → Listing
 listedIn b rest answers = eventsReply rest (listProgress b) (length answers) (replicate 2049 0)
 
-unfoldable pub netRunTold : List ℕ → List ℕ → List ℕ → List ℕ → List ℕ → List ℕ → List ℕ → List ℕ → Told
-netRunTold xs costs sent held messages rest answers out =
+unfoldable pub netRunReply : List ℕ → List ℕ → List ℕ → List ℕ → List ℕ → List ℕ → List ℕ → List ℕ → CallOutcome
+netRunReply xs costs sent held messages rest answers out =
     let l : Listing = listedIn (benchIn xs) rest answers in
-    let o : Ran = batchOf (state (benchIn xs) costs sent held messages) (l .events) (getD (l .ends) 0 0) answers in
+    let o : BatchOutcome = batchOf (state (benchIn xs) costs sent held messages) (l .events) (getD (l .ends) 0 0) answers in
     ifLong (holdsBench xs && leb 3 (length out)) (xs ∷ out ∷ sent ∷ held ∷ messages ∷ answers ∷ [])
-    (ranTold xs out (bytesBy (l .ends) (o .made)) o)
+    (batchReply xs out (bytesBy (l .ends) (o .made)) o)

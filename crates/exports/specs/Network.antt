@@ -1,7 +1,7 @@
 -- A bench as numbers in a list, and what each exported call of layer 3 does, for every input: its reply and every list that it may
 -- write. Each is the call of the same name in `bench`; a list too short for the bench or for the answer, and a number that does not
 -- fit its field, are refused first. Assumes nothing.
-use Prim.Native.Nat.{ℕ, _+_, _-_, _*_, _/_, _%_}
+use Prim.Native.Nat.{ℕ, _+_, _/_, _%_, _-_}
 use mathlib.Core.Bool.{Bool, false, cond, _&&_}
 use mathlib.Core.List.{List, [], _∷_}
 use lib.ListN.{length, getD, take, drop}
@@ -9,19 +9,22 @@ use lib.Dec.{eqb, leb, ltb}
 use Rattle.distances.specs.Table.{rewritten}
 use Rattle.distances.specs.Call.{allBelow}
 use Rattle.agreement.specs.Record.{freshRecord}
-use Rattle.agreement.specs.Call.{Said}
 use Rattle.agreement.specs.declared.Answer.{Answer}
 use Rattle.bench.specs.declared.Bench.{Bench}
 use Rattle.protocol.specs.Paths as paths
 use Rattle.bench.specs.State.{State, state}
-use Rattle.bench.specs.Changes.{Changed, Rewritten, freshOf, updateOf, cutOf, restoreOf}
-use Rattle.bench.specs.Flights.{Flown, sendOf, loseOf}
-use Rattle.bench.specs.Deliveries.{Delivered, deliverOf, repeatOf}
-use Rattle.bench.specs.Answers.{Reported, portOf, reportOf, pathOf}
-use Rattle.exports.specs.Numbers.{isSet, listed, recordsIn, holdsRecords, recordNumbers, answerNumbers, portNumbers}
-use Rattle.exports.specs.Call.{Told, told, ifLong, withValue, saidTold}
+use Rattle.bench.specs.Changes.{BenchOutcome, ChangeOutcome, freshOf, updateOf, cutOf, restoreOf}
+use Rattle.bench.specs.Flights.{QueueOutcome, sendOf, loseOf}
+use Rattle.bench.specs.Deliveries.{DeliveryOutcome, deliverOf, repeatOf}
+use Rattle.bench.specs.Answers.{ReportOutcome, portOf, reportOf, pathOf}
+use Rattle.bench.specs.Batches.{answerNumbers}
+use Rattle.exports.specs.Numbers.{isSet, listed, recordsIn, holdsRecords, recordNumbers, portNumbers}
+use Rattle.exports.specs.Call.{CallOutcome, callOutcome, ifLong, withValue, valueReply}
 
--- ---- a bench in 388 numbers
+-- ---- a bench in 388 numbers: four counts, 64 ends, 16 views, 16 agreement numbers, four for each of 64 records, 32 cut flags
+
+abbrev pub benchNumbers : ℕ
+benchNumbers = 388
 
 -- f of each of the n numbers from place k on
 abbrev pub each : {A : Type 0} → ℕ → ℕ → (ℕ → A) → List ℕ → List A
@@ -48,7 +51,7 @@ eachBelow n k limit xs = allBelow n (λ i. ltb (getD xs (k + i) 0) limit)
 -- there are 388 numbers, and each fits its field: ends and views have 8 bits, agreement numbers 16; any number fits a count or a flag
 abbrev pub holdsBench : List ℕ → Bool
 holdsBench xs =
-    leb 388 (length xs) && (eachBelow 80 4 256 xs && (eachBelow 16 84 65536 xs && holdsRecords (take 256 (drop 100 xs))))
+    leb benchNumbers (length xs) && (eachBelow 80 4 256 xs && (eachBelow 16 84 65536 xs && holdsRecords (take 256 (drop 100 xs))))
 
 -- a count as a number of 32 bits
 abbrev pub low : ℕ → ℕ
@@ -69,7 +72,7 @@ numberAt b k =
 
 -- the list with the bench in its first 388 numbers
 unfoldable pub stored : Bench → List ℕ → List ℕ
-stored b xs = rewritten (λ k. ltb k 388) (numberAt b) xs
+stored b xs = rewritten (λ k. ltb k benchNumbers) (numberAt b) xs
 
 -- ---- the calls
 
@@ -77,14 +80,14 @@ stored b xs = rewritten (λ k. ltb k 388) (numberAt b) xs
 abbrev pub withBench : ℕ → Bench → List ℕ → List ℕ
 withBench reply b xs = cond (eqb reply 0) (stored b xs) xs
 
-abbrev pub changedTold : List ℕ → Changed → Told
-changedTold xs o = told (o .reply) (withBench (o .reply) (o .bench) xs ∷ [])
+abbrev pub benchReply : List ℕ → BenchOutcome → CallOutcome
+benchReply xs o = callOutcome (o .reply) (withBench (o .reply) (o .bench) xs ∷ [])
 
-abbrev pub rewrittenTold : List ℕ → Rewritten → Told
-rewrittenTold xs o = told (o .reply) (withBench (o .reply) (o .bench) xs ∷ o .sent ∷ o .held ∷ [])
+abbrev pub changeReply : List ℕ → ChangeOutcome → CallOutcome
+changeReply xs o = callOutcome (o .reply) (withBench (o .reply) (o .bench) xs ∷ o .sent ∷ o .held ∷ [])
 
-abbrev pub flownTold : List ℕ → Flown → Told
-flownTold xs o = told (o .reply) (withBench (o .reply) (o .bench) xs ∷ o .messages ∷ [])
+abbrev pub queueReply : List ℕ → QueueOutcome → CallOutcome
+queueReply xs o = callOutcome (o .reply) (withBench (o .reply) (o .bench) xs ∷ o .messages ∷ [])
 
 -- the new bench where there is an answer
 unfoldable pub withAnswered : List Answer → Bench → List ℕ → List ℕ
@@ -92,9 +95,9 @@ withAnswered [] b xs = xs
 withAnswered (a ∷ rest) b xs = stored b xs
 
 -- the answer's numbers go to `out`
-abbrev pub deliveredTold : List ℕ → List ℕ → Delivered → Told
-deliveredTold xs out o =
-    told (o .reply .number)
+abbrev pub deliveredReply : List ℕ → List ℕ → DeliveryOutcome → CallOutcome
+deliveredReply xs out o =
+    callOutcome (o .reply .number)
     (withAnswered (o .reply .value) (o .bench) xs
     ∷ withValue answerNumbers out (o .reply .value)
     ∷ o .sent
@@ -102,57 +105,57 @@ deliveredTold xs out o =
     ∷ o .messages
     ∷ [])
 
-abbrev pub reportedTold : Reported → Told
-reportedTold o = told (o .reply) (o .rows ∷ [])
+abbrev pub reportReply : ReportOutcome → CallOutcome
+reportReply o = callOutcome (o .reply) (o .rows ∷ [])
 
--- 0 and the hops where it is delivered, 1, the last bridge and the hops where it stops
-abbrev pub wayNumbers : paths.Way → List ℕ
-wayNumbers (paths.delivered hops) = 0 ∷ 0 ∷ low hops ∷ []
-wayNumbers (paths.stops last hops) = 1 ∷ low last ∷ low hops ∷ []
+-- 0, 0 and the hops where it is delivered; 1, the last bridge and the hops where it stops
+abbrev pub pathNumbers : paths.Way → List ℕ
+pathNumbers (paths.delivered hops) = 0 ∷ 0 ∷ low hops ∷ []
+pathNumbers (paths.stops last hops) = 1 ∷ low last ∷ low hops ∷ []
 
-unfoldable pub netFreshTold : List ℕ → List ℕ → List ℕ → List ℕ → Told
-netFreshTold xs costs sent held =
-    ifLong (holdsBench xs) (xs ∷ sent ∷ held ∷ []) (rewrittenTold xs (freshOf (benchIn xs) costs sent held))
+unfoldable pub netFreshReply : List ℕ → List ℕ → List ℕ → List ℕ → CallOutcome
+netFreshReply xs costs sent held =
+    ifLong (holdsBench xs) (xs ∷ sent ∷ held ∷ []) (changeReply xs (freshOf (benchIn xs) costs sent held))
 
-unfoldable pub netUpdateTold : List ℕ → List ℕ → List ℕ → List ℕ → ℕ → ℕ → Told
-netUpdateTold xs costs sent held y t =
-    ifLong (holdsBench xs) (xs ∷ sent ∷ held ∷ []) (rewrittenTold xs (updateOf (state (benchIn xs) costs sent held []) y t))
+unfoldable pub netUpdateReply : List ℕ → List ℕ → List ℕ → List ℕ → ℕ → ℕ → CallOutcome
+netUpdateReply xs costs sent held y t =
+    ifLong (holdsBench xs) (xs ∷ sent ∷ held ∷ []) (changeReply xs (updateOf (state (benchIn xs) costs sent held []) y t))
 
-unfoldable pub netCutTold : List ℕ → ℕ → Told
-netCutTold xs l = ifLong (holdsBench xs) (xs ∷ []) (changedTold xs (cutOf (benchIn xs) l))
+unfoldable pub netCutReply : List ℕ → ℕ → CallOutcome
+netCutReply xs l = ifLong (holdsBench xs) (xs ∷ []) (benchReply xs (cutOf (benchIn xs) l))
 
-unfoldable pub netRestoreTold : List ℕ → ℕ → Told
-netRestoreTold xs l = ifLong (holdsBench xs) (xs ∷ []) (changedTold xs (restoreOf (benchIn xs) l))
+unfoldable pub netRestoreReply : List ℕ → ℕ → CallOutcome
+netRestoreReply xs l = ifLong (holdsBench xs) (xs ∷ []) (benchReply xs (restoreOf (benchIn xs) l))
 
-unfoldable pub netSendTold : List ℕ → List ℕ → ℕ → ℕ → Told
-netSendTold xs messages y l = ifLong (holdsBench xs) (xs ∷ messages ∷ []) (flownTold xs (sendOf (benchIn xs) messages y l))
+unfoldable pub netSendReply : List ℕ → List ℕ → ℕ → ℕ → CallOutcome
+netSendReply xs messages y l = ifLong (holdsBench xs) (xs ∷ messages ∷ []) (queueReply xs (sendOf (benchIn xs) messages y l))
 
-unfoldable pub netLoseTold : List ℕ → List ℕ → ℕ → Told
-netLoseTold xs messages p = ifLong (holdsBench xs) (xs ∷ messages ∷ []) (flownTold xs (loseOf (benchIn xs) messages p))
+unfoldable pub netLoseReply : List ℕ → List ℕ → ℕ → CallOutcome
+netLoseReply xs messages p = ifLong (holdsBench xs) (xs ∷ messages ∷ []) (queueReply xs (loseOf (benchIn xs) messages p))
 
 -- deliver and repeat, by what each makes of a state
-abbrev pub netDeliveryTold : (State → ℕ → Delivered) → State → List ℕ → List ℕ → ℕ → Told
-netDeliveryTold call s xs out p =
-    ifLong (holdsBench xs && leb 3 (length out)) (xs ∷ out ∷ s .sent ∷ s .held ∷ s .messages ∷ []) (deliveredTold xs out (call s p))
+abbrev pub netDeliveryReply : (State → ℕ → DeliveryOutcome) → State → List ℕ → List ℕ → ℕ → CallOutcome
+netDeliveryReply call s xs out p =
+    ifLong (holdsBench xs && leb 3 (length out)) (xs ∷ out ∷ s .sent ∷ s .held ∷ s .messages ∷ []) (deliveredReply xs out (call s p))
 
-unfoldable pub netDeliverTold : List ℕ → List ℕ → List ℕ → List ℕ → List ℕ → List ℕ → ℕ → Told
-netDeliverTold xs costs sent held messages out p =
-    netDeliveryTold deliverOf (state (benchIn xs) costs sent held messages) xs out p
+unfoldable pub netDeliverReply : List ℕ → List ℕ → List ℕ → List ℕ → List ℕ → List ℕ → ℕ → CallOutcome
+netDeliverReply xs costs sent held messages out p =
+    netDeliveryReply deliverOf (state (benchIn xs) costs sent held messages) xs out p
 
-unfoldable pub netRepeatTold : List ℕ → List ℕ → List ℕ → List ℕ → List ℕ → List ℕ → ℕ → Told
-netRepeatTold xs costs sent held messages out p =
-    netDeliveryTold repeatOf (state (benchIn xs) costs sent held messages) xs out p
+unfoldable pub netRepeatReply : List ℕ → List ℕ → List ℕ → List ℕ → List ℕ → List ℕ → ℕ → CallOutcome
+netRepeatReply xs costs sent held messages out p =
+    netDeliveryReply repeatOf (state (benchIn xs) costs sent held messages) xs out p
 
-unfoldable pub netPortTold : List ℕ → List ℕ → List ℕ → List ℕ → ℕ → ℕ → List ℕ → Told
-netPortTold xs costs sent held y d out =
+unfoldable pub netPortReply : List ℕ → List ℕ → List ℕ → List ℕ → ℕ → ℕ → List ℕ → CallOutcome
+netPortReply xs costs sent held y d out =
     ifLong (holdsBench xs && leb 1 (length out)) (out ∷ [])
-    (saidTold portNumbers out (portOf (state (benchIn xs) costs sent held []) y d))
+    (valueReply portNumbers out (portOf (state (benchIn xs) costs sent held []) y d))
 
-unfoldable pub netReportTold : List ℕ → List ℕ → List ℕ → List ℕ → ℕ → List ℕ → Told
-netReportTold xs costs sent held d rows =
-    ifLong (holdsBench xs) (rows ∷ []) (reportedTold (reportOf (state (benchIn xs) costs sent held []) d rows))
+unfoldable pub netReportReply : List ℕ → List ℕ → List ℕ → List ℕ → ℕ → List ℕ → CallOutcome
+netReportReply xs costs sent held d rows =
+    ifLong (holdsBench xs) (rows ∷ []) (reportReply (reportOf (state (benchIn xs) costs sent held []) d rows))
 
-unfoldable pub netPathTold : List ℕ → List ℕ → List ℕ → List ℕ → ℕ → ℕ → List ℕ → Told
-netPathTold xs costs sent held y d out =
+unfoldable pub netPathReply : List ℕ → List ℕ → List ℕ → List ℕ → ℕ → ℕ → List ℕ → CallOutcome
+netPathReply xs costs sent held y d out =
     ifLong (holdsBench xs && leb 3 (length out)) (out ∷ [])
-    (saidTold wayNumbers out (pathOf (state (benchIn xs) costs sent held []) y d))
+    (valueReply pathNumbers out (pathOf (state (benchIn xs) costs sent held []) y d))

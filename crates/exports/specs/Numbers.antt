@@ -1,4 +1,4 @@
--- Records, messages, answers and ports as numbers in lists. Views have 8 bits and other numbers 16; any number but 0 stands for true.
+-- Records, messages and ports as numbers in lists. Views have 8 bits and other numbers 16; any number but 0 stands for true.
 -- A list holds a record or a message where each number fits its field, and there the remainders change nothing. Assumes nothing.
 use Prim.Native.Nat.{ℕ, zero, suc, _+_, _*_, _%_}
 use mathlib.Core.Bool.{Bool, cond, _&&_, not}
@@ -9,8 +9,6 @@ use Rattle.distances.specs.View.{NONE}
 use Rattle.distances.specs.Call.{allBelow}
 use Rattle.agreement.specs.declared.EndRecord.{EndRecord}
 use Rattle.agreement.specs.declared.Agreement.{Agreement}
-use Rattle.agreement.specs.declared.Answer.{Answer}
-use Rattle.agreement.specs.declared.Answer.the-variants.{Stale, Agreed, Noted}
 use Rattle.agreement.specs.declared.Port.{Port}
 use Rattle.agreement.specs.declared.Port.the-variants.{Closed, Open}
 
@@ -66,12 +64,6 @@ recordNumbers r = r .received ∷ r .view ∷ r .discarded ∷ cond (r .holding)
 
 abbrev pub messageNumbers : Agreement → List ℕ
 messageNumbers m = m .view ∷ m .number ∷ m .discarded ∷ []
-
--- 0 stale, 1 agreed, 2 noted; then the number and the view taken
-abbrev pub answerNumbers : Answer → List ℕ
-answerNumbers Stale = 0 ∷ 0 ∷ 0 ∷ []
-answerNumbers (Agreed number view) = 1 ∷ number ∷ view ∷ []
-answerNumbers (Noted number view) = 2 ∷ number ∷ view ∷ []
 
 -- the link, NONE where the port is closed
 abbrev pub portNumbers : Port → List ℕ

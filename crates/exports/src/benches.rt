@@ -11,6 +11,9 @@ ghost use lib.ListN.{length, getD};
 ghost use Rattle.exports.specs.Numbers.{isSet, recordNumbers};
 ghost use Rattle.exports.specs.Network.{each, eachBelow, holdsBench, low, benchIn, countAt, numberAt, stored};
 
+// The numbers of a bench: four counts, 64 ends, 16 views, 16 agreement numbers, four for each of 64 records, 32 cut flags.
+const BENCH_NUMBERS: usize = 388;
+
 fn ends_in(numbers: &[u32]) -> [u8; 64]
     requires { ⌜ 388 ≤ length (now numbers) ⌝ }
     ensures { λ r. ⌜ r ≡ each 64 4 (λ x. x % 256) (now (numbers .entry)) ⌝ }
@@ -102,7 +105,7 @@ fn each_below(numbers: &[u32], count: usize, first: usize, limit: u32) -> bool
 pub(crate) fn holds(numbers: &[u32]) -> bool
     ensures { λ r. ⌜ r ≡ holdsBench (now (numbers .entry)) ⌝ }
 {
-    if numbers.len() < 388 {
+    if numbers.len() < BENCH_NUMBERS {
         return false;
     }
     let narrow = each_below(numbers, 80, 4, 256);
@@ -176,7 +179,7 @@ pub(crate) fn store(bench: Bench, numbers: &mut [u32])
     ensures { λ r. ⌜ now (numbers .exit) ≡ stored bench (now (numbers .entry)) ⌝ }
 {
     let mut k = 0;
-    while k < 388 {
+    while k < BENCH_NUMBERS {
         numbers[k] = number_at(bench, k);
         k += 1;
     }

@@ -9,8 +9,11 @@ ghost use Prim.Native.Nat.{_≤_};
 ghost use lib.ListN.{length};
 ghost use lib.Seq.{sets};
 ghost use Rattle.bench.specs.Batches.{refusalIn};
-ghost use Rattle.exports.specs.Call.{told};
-ghost use Rattle.exports.specs.Lists.{withMade, countsOf, netRunTold};
+ghost use Rattle.exports.specs.Call.{callOutcome};
+ghost use Rattle.exports.specs.Lists.{withMade, countsOf, netRunReply};
+
+// Where each event of a list ends, behind how many there are.
+const EVENT_ENDS: usize = 2049;
 
 // The new bench goes to `numbers` where an event was made, and the counts to `out`.
 fn settle_list(ran: BatchResult, used: usize, numbers: &mut [u32], out: &mut [u32]) -> u8
@@ -32,7 +35,7 @@ fn settle_list(ran: BatchResult, used: usize, numbers: &mut [u32], out: &mut [u3
 
 // `bench::batches::run` of the events at the head of a plan's bytes, as many as have room for what they answer with: the number of the
 // event that was refused, else 0. How many were made goes to out[0], how many bytes they take to out[1], how many numbers they answered
-// with to out[2].
+// with to out[2]; these are zeros where the network is out of range, and `out` is as it was where a list is too short or a number fits no field.
 #[no_mangle]
 pub extern "C" fn bench_net_run(
     bench: &mut [u32],
@@ -44,7 +47,7 @@ pub extern "C" fn bench_net_run(
     answers: &mut [u32],
     out: &mut [u32],
 ) -> u8
-    ensures { λ r. ⌜ told r (now (bench .exit) ∷ now (out .exit) ∷ now (sent .exit) ∷ now (held .exit) ∷ now (messages .exit) ∷ now (answers .exit) ∷ []) ≡ netRunTold (now (bench .entry)) (now (costs .entry)) (now (sent .entry)) (now (held .entry)) (now (messages .entry)) (now (rest .entry)) (now (answers .entry)) (now (out .entry)) ⌝ }
+    ensures { λ r. ⌜ callOutcome r (now (bench .exit) ∷ now (out .exit) ∷ now (sent .exit) ∷ now (held .exit) ∷ now (messages .exit) ∷ now (answers .exit) ∷ []) ≡ netRunReply (now (bench .entry)) (now (costs .entry)) (now (sent .entry)) (now (held .entry)) (now (messages .entry)) (now (rest .entry)) (now (answers .entry)) (now (out .entry)) ⌝ }
 {
     if !benches::holds(bench) {
         return 17;
@@ -53,7 +56,7 @@ pub extern "C" fn bench_net_run(
         return 17;
     }
     let old = benches::load(bench);
-    let mut ends = [0usize; 2049];
+    let mut ends = [0usize; EVENT_ENDS];
     let progress = plan::events::list_progress(old);
     let events = plan::events::read_events(rest, progress, answers.len(), &mut ends);
     let count = ends[0];

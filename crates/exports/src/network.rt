@@ -16,9 +16,9 @@ ghost use Prim.Native.Nat.{_≤_};
 ghost use lib.ListN.{length};
 ghost use Rattle.bench.specs.Changes.{number};
 ghost use Rattle.bench.specs.Deliveries.{reactionSays};
-ghost use Rattle.exports.specs.Numbers.{answerNumbers};
-ghost use Rattle.exports.specs.Call.{told, withValue};
-ghost use Rattle.exports.specs.Network.{withBench, withAnswered, netFreshTold, netUpdateTold, netCutTold, netRestoreTold, netSendTold, netLoseTold, netDeliverTold, netRepeatTold, netPortTold, netReportTold, netPathTold};
+ghost use Rattle.bench.specs.Batches.{answerNumbers};
+ghost use Rattle.exports.specs.Call.{callOutcome, withValue};
+ghost use Rattle.exports.specs.Network.{withBench, withAnswered, netFreshReply, netUpdateReply, netCutReply, netRestoreReply, netSendReply, netLoseReply, netDeliverReply, netRepeatReply, netPortReply, netReportReply, netPathReply};
 
 fn number_of(reply: Reply) -> u8
     ensures { λ r. ⌜ r ≡ number reply ⌝ }
@@ -66,7 +66,7 @@ pub extern "C" fn bench_net_fresh(
     sent: &mut [u32],
     held: &mut [u32],
 ) -> u8
-    ensures { λ r. ⌜ told r (now (bench .exit) ∷ now (sent .exit) ∷ now (held .exit) ∷ []) ≡ netFreshTold (now (bench .entry)) (now (costs .entry)) (now (sent .entry)) (now (held .entry)) ⌝ }
+    ensures { λ r. ⌜ callOutcome r (now (bench .exit) ∷ now (sent .exit) ∷ now (held .exit) ∷ []) ≡ netFreshReply (now (bench .entry)) (now (costs .entry)) (now (sent .entry)) (now (held .entry)) ⌝ }
 {
     if !benches::holds(bench) {
         return 17;
@@ -86,7 +86,7 @@ pub extern "C" fn bench_net_update(
     bridge: usize,
     view: usize,
 ) -> u8
-    ensures { λ r. ⌜ told r (now (bench .exit) ∷ now (sent .exit) ∷ now (held .exit) ∷ []) ≡ netUpdateTold (now (bench .entry)) (now (costs .entry)) (now (sent .entry)) (now (held .entry)) bridge view ⌝ }
+    ensures { λ r. ⌜ callOutcome r (now (bench .exit) ∷ now (sent .exit) ∷ now (held .exit) ∷ []) ≡ netUpdateReply (now (bench .entry)) (now (costs .entry)) (now (sent .entry)) (now (held .entry)) bridge view ⌝ }
 {
     if !benches::holds(bench) {
         return 17;
@@ -99,7 +99,7 @@ pub extern "C" fn bench_net_update(
 // `bench::changes::cut`
 #[no_mangle]
 pub extern "C" fn bench_net_cut(bench: &mut [u32], link: usize) -> u8
-    ensures { λ r. ⌜ told r (now (bench .exit) ∷ []) ≡ netCutTold (now (bench .entry)) link ⌝ }
+    ensures { λ r. ⌜ callOutcome r (now (bench .exit) ∷ []) ≡ netCutReply (now (bench .entry)) link ⌝ }
 {
     if !benches::holds(bench) {
         return 17;
@@ -112,7 +112,7 @@ pub extern "C" fn bench_net_cut(bench: &mut [u32], link: usize) -> u8
 // `bench::changes::restore`
 #[no_mangle]
 pub extern "C" fn bench_net_restore(bench: &mut [u32], link: usize) -> u8
-    ensures { λ r. ⌜ told r (now (bench .exit) ∷ []) ≡ netRestoreTold (now (bench .entry)) link ⌝ }
+    ensures { λ r. ⌜ callOutcome r (now (bench .exit) ∷ []) ≡ netRestoreReply (now (bench .entry)) link ⌝ }
 {
     if !benches::holds(bench) {
         return 17;
@@ -130,7 +130,7 @@ pub extern "C" fn bench_net_send(
     bridge: usize,
     link: usize,
 ) -> u8
-    ensures { λ r. ⌜ told r (now (bench .exit) ∷ now (messages .exit) ∷ []) ≡ netSendTold (now (bench .entry)) (now (messages .entry)) bridge link ⌝ }
+    ensures { λ r. ⌜ callOutcome r (now (bench .exit) ∷ now (messages .exit) ∷ []) ≡ netSendReply (now (bench .entry)) (now (messages .entry)) bridge link ⌝ }
 {
     if !benches::holds(bench) {
         return 17;
@@ -143,7 +143,7 @@ pub extern "C" fn bench_net_send(
 // `bench::messages::lose`
 #[no_mangle]
 pub extern "C" fn bench_net_lose(bench: &mut [u32], messages: &mut [u32], place: usize) -> u8
-    ensures { λ r. ⌜ told r (now (bench .exit) ∷ now (messages .exit) ∷ []) ≡ netLoseTold (now (bench .entry)) (now (messages .entry)) place ⌝ }
+    ensures { λ r. ⌜ callOutcome r (now (bench .exit) ∷ now (messages .exit) ∷ []) ≡ netLoseReply (now (bench .entry)) (now (messages .entry)) place ⌝ }
 {
     if !benches::holds(bench) {
         return 17;
@@ -164,7 +164,7 @@ pub extern "C" fn bench_net_deliver(
     place: usize,
     out: &mut [u32],
 ) -> u8
-    ensures { λ r. ⌜ told r (now (bench .exit) ∷ now (out .exit) ∷ now (sent .exit) ∷ now (held .exit) ∷ now (messages .exit) ∷ []) ≡ netDeliverTold (now (bench .entry)) (now (costs .entry)) (now (sent .entry)) (now (held .entry)) (now (messages .entry)) (now (out .entry)) place ⌝ }
+    ensures { λ r. ⌜ callOutcome r (now (bench .exit) ∷ now (out .exit) ∷ now (sent .exit) ∷ now (held .exit) ∷ now (messages .exit) ∷ []) ≡ netDeliverReply (now (bench .entry)) (now (costs .entry)) (now (sent .entry)) (now (held .entry)) (now (messages .entry)) (now (out .entry)) place ⌝ }
 {
     if !benches::holds(bench) {
         return 17;
@@ -188,7 +188,7 @@ pub extern "C" fn bench_net_repeat(
     place: usize,
     out: &mut [u32],
 ) -> u8
-    ensures { λ r. ⌜ told r (now (bench .exit) ∷ now (out .exit) ∷ now (sent .exit) ∷ now (held .exit) ∷ now (messages .entry) ∷ []) ≡ netRepeatTold (now (bench .entry)) (now (costs .entry)) (now (sent .entry)) (now (held .entry)) (now (messages .entry)) (now (out .entry)) place ⌝ }
+    ensures { λ r. ⌜ callOutcome r (now (bench .exit) ∷ now (out .exit) ∷ now (sent .exit) ∷ now (held .exit) ∷ now (messages .entry) ∷ []) ≡ netRepeatReply (now (bench .entry)) (now (costs .entry)) (now (sent .entry)) (now (held .entry)) (now (messages .entry)) (now (out .entry)) place ⌝ }
 {
     if !benches::holds(bench) {
         return 17;
@@ -212,7 +212,7 @@ pub extern "C" fn bench_net_port(
     dest: usize,
     out: &mut [u32],
 ) -> u8
-    ensures { λ r. ⌜ told r (now (out .exit) ∷ []) ≡ netPortTold (now (bench .entry)) (now (costs .entry)) (now (sent .entry)) (now (held .entry)) bridge dest (now (out .entry)) ⌝ }
+    ensures { λ r. ⌜ callOutcome r (now (out .exit) ∷ []) ≡ netPortReply (now (bench .entry)) (now (costs .entry)) (now (sent .entry)) (now (held .entry)) bridge dest (now (out .entry)) ⌝ }
 {
     if !benches::holds(bench) {
         return 17;
@@ -241,7 +241,7 @@ pub extern "C" fn bench_net_report(
     dest: usize,
     rows: &mut [u32],
 ) -> u8
-    ensures { λ r. ⌜ told r (now (rows .exit) ∷ []) ≡ netReportTold (now (bench .entry)) (now (costs .entry)) (now (sent .entry)) (now (held .entry)) dest (now (rows .entry)) ⌝ }
+    ensures { λ r. ⌜ callOutcome r (now (rows .exit) ∷ []) ≡ netReportReply (now (bench .entry)) (now (costs .entry)) (now (sent .entry)) (now (held .entry)) dest (now (rows .entry)) ⌝ }
 {
     if !benches::holds(bench) {
         return 17;
@@ -262,7 +262,7 @@ pub extern "C" fn bench_net_path(
     dest: usize,
     out: &mut [u32],
 ) -> u8
-    ensures { λ r. ⌜ told r (now (out .exit) ∷ []) ≡ netPathTold (now (bench .entry)) (now (costs .entry)) (now (sent .entry)) (now (held .entry)) start dest (now (out .entry)) ⌝ }
+    ensures { λ r. ⌜ callOutcome r (now (out .exit) ∷ []) ≡ netPathReply (now (bench .entry)) (now (costs .entry)) (now (sent .entry)) (now (held .entry)) start dest (now (out .entry)) ⌝ }
 {
     if !benches::holds(bench) {
         return 17;

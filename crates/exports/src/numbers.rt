@@ -12,7 +12,8 @@ ghost use mathlib.Core.List.{[], _∷_};
 ghost use Prim.Native.Nat.{_+_, _≤_};
 ghost use lib.ListN.{length};
 ghost use lib.Seq.{sets};
-ghost use Rattle.exports.specs.Numbers.{isSet, recordAt, messageIn, recordsIn, flagsIn, recordFits, holdsRecord, holdsMessage, holdsRecords, recordNumbers, messageNumbers, answerNumbers, portNumbers};
+ghost use Rattle.bench.specs.Batches.{answerNumbers};
+ghost use Rattle.exports.specs.Numbers.{isSet, recordAt, messageIn, recordsIn, flagsIn, recordFits, holdsRecord, holdsMessage, holdsRecords, recordNumbers, messageNumbers, portNumbers};
 
 const NONE: u32 = 4294967295;
 

@@ -10,8 +10,8 @@ use agreement::Reply;
 use agreement::calls;
 ghost use mathlib.Core.Path.{_≡_};
 ghost use mathlib.Core.List.{[], _∷_};
-ghost use Rattle.agreement.specs.Call.{lent};
-ghost use Rattle.exports.specs.Call.{told, offerTold, freshTold, updateTold, carryTold, deliverTold, portTold};
+ghost use Rattle.agreement.specs.Call.{viewData};
+ghost use Rattle.exports.specs.Call.{callOutcome, offerReply, freshReply, updateReply, carryReply, deliverReply, portReply};
 
 // `agreement::calls::offer_over`: the offer goes to out[0].
 #[no_mangle]
@@ -25,7 +25,7 @@ pub extern "C" fn bench_offer(
     dest: usize,
     out: &mut [u32],
 ) -> u8
-    ensures { λ r. ⌜ told r (now (out .exit) ∷ []) ≡ offerTold (lent bridges links (now (ends .entry)) (now (costs .entry)) (now (table .entry))) end dest (now (out .entry)) ⌝ }
+    ensures { λ r. ⌜ callOutcome r (now (out .exit) ∷ []) ≡ offerReply (viewData bridges links (now (ends .entry)) (now (costs .entry)) (now (table .entry))) end dest (now (out .entry)) ⌝ }
 {
     if out.len() < 1 {
         return 17;
@@ -53,7 +53,7 @@ pub extern "C" fn bench_start_end(
     sent: &mut [u32],
     held: &mut [u32],
 ) -> u8
-    ensures { λ r. ⌜ told r (now (fields .exit) ∷ now (sent .exit) ∷ now (held .exit) ∷ []) ≡ freshTold (lent bridges links (now (ends .entry)) (now (costs .entry)) (now (table .entry))) end (now (fields .entry)) (now (sent .entry)) (now (held .entry)) ⌝ }
+    ensures { λ r. ⌜ callOutcome r (now (fields .exit) ∷ now (sent .exit) ∷ now (held .exit) ∷ []) ≡ freshReply (viewData bridges links (now (ends .entry)) (now (costs .entry)) (now (table .entry))) end (now (fields .entry)) (now (sent .entry)) (now (held .entry)) ⌝ }
 {
     if fields.len() < 4 {
         return 17;
@@ -84,7 +84,7 @@ pub extern "C" fn bench_update_end(
     sent: &mut [u32],
     held: &mut [u32],
 ) -> u8
-    ensures { λ r. ⌜ told r (now (fields .exit) ∷ now (sent .exit) ∷ now (held .exit) ∷ []) ≡ updateTold (lent bridges links (now (ends .entry)) (now (costs .entry)) (now (table .entry))) views view end (now (fields .entry)) (now (sent .entry)) (now (held .entry)) ⌝ }
+    ensures { λ r. ⌜ callOutcome r (now (fields .exit) ∷ now (sent .exit) ∷ now (held .exit) ∷ []) ≡ updateReply (viewData bridges links (now (ends .entry)) (now (costs .entry)) (now (table .entry))) views view end (now (fields .entry)) (now (sent .entry)) (now (held .entry)) ⌝ }
 {
     if !numbers::holds_record(fields) {
         return 17;
@@ -122,7 +122,7 @@ pub extern "C" fn bench_carry(
     fields: &[u32],
     out: &mut [u32],
 ) -> u8
-    ensures { λ r. ⌜ told r (now (out .exit) ∷ []) ≡ carryTold views view number (now (fields .entry)) (now (out .entry)) ⌝ }
+    ensures { λ r. ⌜ callOutcome r (now (out .exit) ∷ []) ≡ carryReply views view number (now (fields .entry)) (now (out .entry)) ⌝ }
 {
     if !numbers::holds_record(fields) {
         return 17;
@@ -159,7 +159,7 @@ pub extern "C" fn bench_deliver_end(
     held: &mut [u32],
     out: &mut [u32],
 ) -> u8
-    ensures { λ r. ⌜ told r (now (fields .exit) ∷ now (out .exit) ∷ now (sent .exit) ∷ now (held .exit) ∷ []) ≡ deliverTold (lent bridges links (now (ends .entry)) (now (costs .entry)) (now (table .entry))) views view number end (now (fields .entry)) (now (message .entry)) (now (sent .entry)) (now (held .entry)) (now (out .entry)) ⌝ }
+    ensures { λ r. ⌜ callOutcome r (now (fields .exit) ∷ now (out .exit) ∷ now (sent .exit) ∷ now (held .exit) ∷ []) ≡ deliverReply (viewData bridges links (now (ends .entry)) (now (costs .entry)) (now (table .entry))) views view number end (now (fields .entry)) (now (message .entry)) (now (sent .entry)) (now (held .entry)) (now (out .entry)) ⌝ }
 {
     if !numbers::holds_record(fields) {
         return 17;
@@ -216,7 +216,7 @@ pub extern "C" fn bench_port(
     dest: usize,
     out: &mut [u32],
 ) -> u8
-    ensures { λ r. ⌜ told r (now (out .exit) ∷ []) ≡ portTold (lent bridges links (now (ends .entry)) (now (costs .entry)) (now (table .entry))) views (now (cut .entry)) (now (records .entry)) (now (sent .entry)) (now (held .entry)) bridge dest (now (out .entry)) ⌝ }
+    ensures { λ r. ⌜ callOutcome r (now (out .exit) ∷ []) ≡ portReply (viewData bridges links (now (ends .entry)) (now (costs .entry)) (now (table .entry))) views (now (cut .entry)) (now (records .entry)) (now (sent .entry)) (now (held .entry)) bridge dest (now (out .entry)) ⌝ }
 {
     if cut.len() < 32 {
         return 17;

@@ -2,13 +2,14 @@
 // The messages are 320 numbers, five for each struct; fewer are refused with 17, and what lies past them is neither read nor written.
 use crate::benches;
 use crate::network;
+use bench::sizes::MESSAGES;
 use messages::plain;
 ghost use mathlib.Core.Path.{_≡_};
 ghost use mathlib.Core.List.{[], _∷_, _++_};
 ghost use Prim.Native.Nat.{_≤_};
 ghost use lib.ListN.{length, take, drop};
-ghost use Rattle.exports.specs.Call.{told};
-ghost use Rattle.exports.specs.SliceCalls.{sliceSendTold, sliceLoseTold, sliceDeliverTold, sliceRepeatTold};
+ghost use Rattle.exports.specs.Call.{callOutcome};
+ghost use Rattle.exports.specs.SliceCalls.{sliceSendReply, sliceLoseReply, sliceDeliverReply, sliceRepeatReply};
 
 // The first 320 numbers of one list go to another.
 fn copy(from: &[u32], to: &mut [u32])
@@ -16,22 +17,22 @@ fn copy(from: &[u32], to: &mut [u32])
     ensures { λ _. ⌜ now (to .exit) ≡ take 320 (now (from .entry)) ++ drop 320 (now (to .entry)) ⌝ }
 {
     let mut k = 0;
-    while k < 320 {
+    while k < MESSAGES {
         to[k] = from[k];
         k += 1;
     }
 }
 
-fn array_of(numbers: &[u32]) -> [u32; 320]
+fn array_of(numbers: &[u32]) -> [u32; MESSAGES]
     requires { ⌜ 320 ≤ length (now numbers) ⌝ }
     ensures { λ r. ⌜ r ≡ take 320 (now (numbers .entry)) ⌝ }
 {
-    let mut array = [0u32; 320];
+    let mut array = [0u32; MESSAGES];
     copy(numbers, &mut array);
     array
 }
 
-fn put_array(array: [u32; 320], numbers: &mut [u32])
+fn put_array(array: [u32; MESSAGES], numbers: &mut [u32])
     requires { ⌜ 320 ≤ length (now numbers) ⌝ }
     ensures { λ _. ⌜ now (numbers .exit) ≡ array ++ drop 320 (now (numbers .entry)) ⌝ }
 {
@@ -46,9 +47,9 @@ pub extern "C" fn bench_slice_send(
     bridge: usize,
     link: usize,
 ) -> u8
-    ensures { λ r. ⌜ told r (now (bench .exit) ∷ now (messages .exit) ∷ []) ≡ sliceSendTold (now (bench .entry)) (now (messages .entry)) bridge link ⌝ }
+    ensures { λ r. ⌜ callOutcome r (now (bench .exit) ∷ now (messages .exit) ∷ []) ≡ sliceSendReply (now (bench .entry)) (now (messages .entry)) bridge link ⌝ }
 {
-    if messages.len() < 320 {
+    if messages.len() < MESSAGES {
         return 17;
     }
     if !benches::holds(bench) {
@@ -65,9 +66,9 @@ pub extern "C" fn bench_slice_send(
 // `messages::calls::lose`
 #[no_mangle]
 pub extern "C" fn bench_slice_lose(bench: &mut [u32], messages: &mut [u32], place: usize) -> u8
-    ensures { λ r. ⌜ told r (now (bench .exit) ∷ now (messages .exit) ∷ []) ≡ sliceLoseTold (now (bench .entry)) (now (messages .entry)) place ⌝ }
+    ensures { λ r. ⌜ callOutcome r (now (bench .exit) ∷ now (messages .exit) ∷ []) ≡ sliceLoseReply (now (bench .entry)) (now (messages .entry)) place ⌝ }
 {
-    if messages.len() < 320 {
+    if messages.len() < MESSAGES {
         return 17;
     }
     if !benches::holds(bench) {
@@ -92,9 +93,9 @@ pub extern "C" fn bench_slice_deliver(
     place: usize,
     out: &mut [u32],
 ) -> u8
-    ensures { λ r. ⌜ told r (now (bench .exit) ∷ now (out .exit) ∷ now (sent .exit) ∷ now (held .exit) ∷ now (messages .exit) ∷ []) ≡ sliceDeliverTold (now (bench .entry)) (now (costs .entry)) (now (sent .entry)) (now (held .entry)) (now (messages .entry)) (now (out .entry)) place ⌝ }
+    ensures { λ r. ⌜ callOutcome r (now (bench .exit) ∷ now (out .exit) ∷ now (sent .exit) ∷ now (held .exit) ∷ now (messages .exit) ∷ []) ≡ sliceDeliverReply (now (bench .entry)) (now (costs .entry)) (now (sent .entry)) (now (held .entry)) (now (messages .entry)) (now (out .entry)) place ⌝ }
 {
-    if messages.len() < 320 {
+    if messages.len() < MESSAGES {
         return 17;
     }
     if !benches::holds(bench) {
@@ -122,9 +123,9 @@ pub extern "C" fn bench_slice_repeat(
     place: usize,
     out: &mut [u32],
 ) -> u8
-    ensures { λ r. ⌜ told r (now (bench .exit) ∷ now (out .exit) ∷ now (sent .exit) ∷ now (held .exit) ∷ now (messages .entry) ∷ []) ≡ sliceRepeatTold (now (bench .entry)) (now (costs .entry)) (now (sent .entry)) (now (held .entry)) (now (messages .entry)) (now (out .entry)) place ⌝ }
+    ensures { λ r. ⌜ callOutcome r (now (bench .exit) ∷ now (out .exit) ∷ now (sent .exit) ∷ now (held .exit) ∷ now (messages .entry) ∷ []) ≡ sliceRepeatReply (now (bench .entry)) (now (costs .entry)) (now (sent .entry)) (now (held .entry)) (now (messages .entry)) (now (out .entry)) place ⌝ }
 {
-    if messages.len() < 320 {
+    if messages.len() < MESSAGES {
         return 17;
     }
     if !benches::holds(bench) {

@@ -35,7 +35,7 @@ use denote.Slice.{finally}
 use denote.Steps.{owned, facts, nothing}
 use denote.Enum.Laws as EL
 use Rattle.bench.specs.State.{state}
-use Rattle.bench.specs.Batches.{ran, batchOf}
+use Rattle.bench.specs.Batches.{batchOutcome, batchOf}
 use Rattle.bench.specs.declared.BatchResult.{BatchResult}
 use Rattle.bench.specs.declared.Bench.{Bench}
 use Rattle.bench.specs.declared.Event.{Event}
@@ -59,13 +59,13 @@ Answer = BatchResult × (List ℕ × (List ℕ × List ℕ))
 
 abbrev pub Runs : Bench → List ℕ → List ℕ → List ℕ → List ℕ → List Event → ℕ → List ℕ → Answer → List ℕ → Type 0
 Runs h costs sent held answers events n m y z =
-    ran (y .0 .made) (y .0 .answered) (y .0 .disposition) (state (y .0 .bench) costs (y .1 .0) (y .1 .1 .0) z) (y .1 .1 .1) ≡ batchOf (state h costs sent held m) events n answers
+    batchOutcome (y .0 .made) (y .0 .answered) (y .0 .disposition) (state (y .0 .bench) costs (y .1 .0) (y .1 .1 .0) z) (y .1 .1 .1) ≡ batchOf (state h costs sent held m) events n answers
 
 pub runs-as :
     (h : Bench) (costs sent held answers : List ℕ) (events : List Event) (n : ℕ) (y : Answer) (m m′ z z′ : List ℕ) → m ≡ m′ → z′ ≡ z →
     Runs h costs sent held answers events n m y z → Runs h costs sent held answers events n m′ y z′
 runs-as h costs sent held answers events n y m m′ z z′ before after f =
-    ap (λ (l : List ℕ). ran (y .0 .made) (y .0 .answered) (y .0 .disposition) (state (y .0 .bench) costs (y .1 .0) (y .1 .1 .0) l) (y .1 .1 .1)) after
+    ap (λ (l : List ℕ). batchOutcome (y .0 .made) (y .0 .answered) (y .0 .disposition) (state (y .0 .bench) costs (y .1 .0) (y .1 .1 .0) l) (y .1 .1 .1)) after
     ∙ f
     ∙ ap (λ (l : List ℕ). batchOf (state h costs sent held l) events n answers) before
 

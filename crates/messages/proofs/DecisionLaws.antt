@@ -6,12 +6,12 @@ use native.Mathlib.Omega.{arith}
 use mathlib.Core.List.{List, _++_, append-assoc}
 use lib.ListN.{length, take, drop, length-take}
 use lib.Seq.{sets, length-sets, length-take-le, sets-eq, take-at, drop-at, take-append-seam}
-use Rattle.agreement.specs.Call.{Said}
+use Rattle.agreement.specs.Call.{Response}
 use Rattle.agreement.specs.declared.Answer.{Answer}
 use Rattle.bench.specs.State.{State, state}
-use Rattle.bench.specs.Flights.{Flown, flown, sendOf, loseOf}
-use Rattle.bench.specs.Deliveries.{Delivered, delivered, deliverOf, repeatOf}
-use Rattle.bench.specs.Batches.{ran, batchOf}
+use Rattle.bench.specs.Flights.{QueueOutcome, queueOutcome, sendOf, loseOf}
+use Rattle.bench.specs.Deliveries.{DeliveryOutcome, deliveryOutcome, deliverOf, repeatOf}
+use Rattle.bench.specs.Batches.{batchOutcome, batchOf}
 use Rattle.bench.specs.declared.Bench.{Bench}
 use Rattle.bench.specs.declared.Disposition.{Disposition}
 use Rattle.bench.specs.declared.Event.{Event}
@@ -42,55 +42,55 @@ taken-within n ns b p k after t =
     let cut = length-take (5 * min n 64) ns in
     (omega (arith, t .listed, t .fewer), (omega (arith, cut, t .few, t .long, t .fewer), omega (arith, t .few, t .fewer)))
 
-module _ (n r : ℕ) (ns : List ℕ) (e : r ≡ min n 64) (b : Bench) (p k : ℕ) (b′ : Bench) (after : List ℕ) (g : flown k b′ after ≡ loseOf b (take (5 * r) ns) p) where
-  lost : flown k b′ after ≡ loseOf b (took n ns) p
-  lost = subst (λ (i : ℕ). flown k b′ after ≡ loseOf b (take (5 * i) ns) p) e g
+module _ (n r : ℕ) (ns : List ℕ) (e : r ≡ min n 64) (b : Bench) (p k : ℕ) (b′ : Bench) (after : List ℕ) (g : queueOutcome k b′ after ≡ loseOf b (take (5 * r) ns) p) where
+  lost : queueOutcome k b′ after ≡ loseOf b (took n ns) p
+  lost = subst (λ (i : ℕ). queueOutcome k b′ after ≡ loseOf b (take (5 * i) ns) p) e g
 
-  pub lose-decided : b′ .messages < b .messages → (flown k b′ (shifted p (b′ .messages) (took n ns)) ≡ loseOf b (took n ns) p) × Within n p (b′ .messages)
-  lose-decided fewer = (ap (λ (l : List ℕ). flown k b′ l) (sym (t .messages)) ∙ lost, taken-within n ns b p (b′ .messages) after t)
+  pub lose-decided : b′ .messages < b .messages → (queueOutcome k b′ (shifted p (b′ .messages) (took n ns)) ≡ loseOf b (took n ns) p) × Within n p (b′ .messages)
+  lose-decided fewer = (ap (λ (l : List ℕ). queueOutcome k b′ l) (sym (t .messages)) ∙ lost, taken-within n ns b p (b′ .messages) after t)
     where
       t : Taken b (took n ns) p (b′ .messages) after
       t =
-          subst (λ (f : Flown). Taken b (took n ns) p (f .bench .messages) (f .messages)) (sym lost)
-          (lose-taken b (took n ns) p (subst (λ (f : Flown). f .bench .messages < b .messages) lost fewer))
+          subst (λ (f : QueueOutcome). Taken b (took n ns) p (f .bench .messages) (f .messages)) (sym lost)
+          (lose-taken b (took n ns) p (subst (λ (f : QueueOutcome). f .bench .messages < b .messages) lost fewer))
 
-  pub lose-refused : b .messages ≤ b′ .messages → (flown k b′ (took n ns) ≡ loseOf b (took n ns) p) × Within n 0 0
-  lose-refused same = (ap (λ (l : List ℕ). flown k b′ l) (sym kept) ∙ lost, none-within n)
+  pub lose-refused : b .messages ≤ b′ .messages → (queueOutcome k b′ (took n ns) ≡ loseOf b (took n ns) p) × Within n 0 0
+  lose-refused same = (ap (λ (l : List ℕ). queueOutcome k b′ l) (sym kept) ∙ lost, none-within n)
     where
       kept : after ≡ took n ns
-      kept = ap (λ (f : Flown). f .messages) lost ∙ lose-left b (took n ns) p (subst (λ (f : Flown). b .messages ≤ f .bench .messages) lost same)
+      kept = ap (λ (f : QueueOutcome). f .messages) lost ∙ lose-left b (took n ns) p (subst (λ (f : QueueOutcome). b .messages ≤ f .bench .messages) lost same)
 
 module _ (n r : ℕ) (ns : List ℕ) (e : r ≡ min n 64) (b : Bench) (costs sent held : List ℕ) (p : ℕ) where
   -- what is handed over, with these numbers
   abbrev with : List ℕ → State
   with m = state b costs sent held m
 
-  module _ (k : Said Answer) (b′ : Bench) (ss hs after : List ℕ) (g : delivered k b′ ss hs after ≡ deliverOf (with (take (5 * r) ns)) p) where
-    went : delivered k b′ ss hs after ≡ deliverOf (with (took n ns)) p
-    went = subst (λ (i : ℕ). delivered k b′ ss hs after ≡ deliverOf (with (take (5 * i) ns)) p) e g
+  module _ (k : Response Answer) (b′ : Bench) (ss hs after : List ℕ) (g : deliveryOutcome k b′ ss hs after ≡ deliverOf (with (take (5 * r) ns)) p) where
+    went : deliveryOutcome k b′ ss hs after ≡ deliverOf (with (took n ns)) p
+    went = subst (λ (i : ℕ). deliveryOutcome k b′ ss hs after ≡ deliverOf (with (take (5 * i) ns)) p) e g
 
     pub deliver-decided :
         b′ .messages < b .messages →
-        (delivered k b′ ss hs (shifted p (b′ .messages) (took n ns)) ≡ deliverOf (with (took n ns)) p) × Within n p (b′ .messages)
-    deliver-decided fewer = (ap (λ (l : List ℕ). delivered k b′ ss hs l) (sym (t .messages)) ∙ went, taken-within n ns b p (b′ .messages) after t)
+        (deliveryOutcome k b′ ss hs (shifted p (b′ .messages) (took n ns)) ≡ deliverOf (with (took n ns)) p) × Within n p (b′ .messages)
+    deliver-decided fewer = (ap (λ (l : List ℕ). deliveryOutcome k b′ ss hs l) (sym (t .messages)) ∙ went, taken-within n ns b p (b′ .messages) after t)
       where
         t : Taken b (took n ns) p (b′ .messages) after
         t =
-            subst (λ (f : Delivered). Taken b (took n ns) p (f .bench .messages) (f .messages)) (sym went)
-            (deliver-taken (with (took n ns)) p (subst (λ (f : Delivered). f .bench .messages < b .messages) went fewer))
+            subst (λ (f : DeliveryOutcome). Taken b (took n ns) p (f .bench .messages) (f .messages)) (sym went)
+            (deliver-taken (with (took n ns)) p (subst (λ (f : DeliveryOutcome). f .bench .messages < b .messages) went fewer))
 
-    pub deliver-refused : b .messages ≤ b′ .messages → (delivered k b′ ss hs (took n ns) ≡ deliverOf (with (took n ns)) p) × Within n 0 0
-    deliver-refused same = (ap (λ (l : List ℕ). delivered k b′ ss hs l) (sym kept) ∙ went, none-within n)
+    pub deliver-refused : b .messages ≤ b′ .messages → (deliveryOutcome k b′ ss hs (took n ns) ≡ deliverOf (with (took n ns)) p) × Within n 0 0
+    deliver-refused same = (ap (λ (l : List ℕ). deliveryOutcome k b′ ss hs l) (sym kept) ∙ went, none-within n)
       where
         kept : after ≡ took n ns
         kept =
-            ap (λ (f : Delivered). f .messages) went
-            ∙ deliver-left (with (took n ns)) p (subst (λ (f : Delivered). b .messages ≤ f .bench .messages) went same)
+            ap (λ (f : DeliveryOutcome). f .messages) went
+            ∙ deliver-left (with (took n ns)) p (subst (λ (f : DeliveryOutcome). b .messages ≤ f .bench .messages) went same)
 
   pub repeat-decided :
-      (k : Said Answer) (b′ : Bench) (ss hs : List ℕ) → delivered k b′ ss hs (take (5 * r) ns) ≡ repeatOf (with (take (5 * r) ns)) p →
-      delivered k b′ ss hs (took n ns) ≡ repeatOf (with (took n ns)) p
-  repeat-decided k b′ ss hs g = subst (λ (i : ℕ). delivered k b′ ss hs (take (5 * i) ns) ≡ repeatOf (with (take (5 * i) ns)) p) e g
+      (k : Response Answer) (b′ : Bench) (ss hs : List ℕ) → deliveryOutcome k b′ ss hs (take (5 * r) ns) ≡ repeatOf (with (take (5 * r) ns)) p →
+      deliveryOutcome k b′ ss hs (took n ns) ≡ repeatOf (with (took n ns)) p
+  repeat-decided k b′ ss hs g = subst (λ (i : ℕ). deliveryOutcome k b′ ss hs (take (5 * i) ns) ≡ repeatOf (with (take (5 * i) ns)) p) e g
 
 -- ---- one appended
 
@@ -104,28 +104,28 @@ sets-again vs l i fits =
 -- what `decide_send` ensures: ns before, and `exit` after
 abbrev pub Sends : ℕ → List ℕ → List ℕ → Bench → ℕ → ℕ → ℕ → Bench → ℕ → ℕ → Type 0
 Sends n ns exit b y l k b′ i j =
-    (flown k b′ (took n exit) ≡ sendOf b (took n ns) y l)
+    (queueOutcome k b′ (took n exit) ≡ sendOf b (took n ns) y l)
     × ((i ≤ j) × ((j ≤ min n 64) × (took n exit ≡ sets (took n ns) (5 * i) (take (5 * (j - i)) (drop (5 * i) exit)))))
 
 module _ (n r : ℕ) (ns : List ℕ) (e : r ≡ min n 64) (long : length ns ≡ 320) (b : Bench) (y l k : ℕ) (b′ : Bench) (after : List ℕ)
-    (g : flown k b′ after ≡ sendOf b (take (5 * r) ns) y l) where
+    (g : queueOutcome k b′ after ≡ sendOf b (take (5 * r) ns) y l) where
   abbrev exit : List ℕ
   exit = after ++ drop (5 * r) ns
 
-  answered : flown k b′ after ≡ sendOf b (took n ns) y l
-  answered = subst (λ (i : ℕ). flown k b′ after ≡ sendOf b (take (5 * i) ns) y l) e g
+  answered : queueOutcome k b′ after ≡ sendOf b (took n ns) y l
+  answered = subst (λ (i : ℕ). queueOutcome k b′ after ≡ sendOf b (take (5 * i) ns) y l) e g
 
   front : length after ≡ length (took n ns) → took n exit ≡ after
   front same = lent-front n r ns after e long (same ∙ sym (ap (λ (i : ℕ). length (take (5 * i) ns)) e))
 
   pub send-decided : b .messages < b′ .messages → Sends n ns exit b y l k b′ (b .messages) (b′ .messages)
   send-decided more =
-      (ap (λ (m : List ℕ). flown k b′ m) all ∙ answered, (omega (arith, more), (omega (arith, t .room, t .more, t .long, cut), all ∙ t .messages ∙ ap (sets (took n ns) (5 * b .messages)) (sym five))))
+      (ap (λ (m : List ℕ). queueOutcome k b′ m) all ∙ answered, (omega (arith, more), (omega (arith, t .room, t .more, t .long, cut), all ∙ t .messages ∙ ap (sets (took n ns) (5 * b .messages)) (sym five))))
     where
       t : Put b (took n ns) (b′ .messages) after
       t =
-          subst (λ (f : Flown). Put b (took n ns) (f .bench .messages) (f .messages)) (sym answered)
-          (send-put b (took n ns) y l (subst (λ (f : Flown). b .messages < f .bench .messages) answered more))
+          subst (λ (f : QueueOutcome). Put b (took n ns) (f .bench .messages) (f .messages)) (sym answered)
+          (send-put b (took n ns) y l (subst (λ (f : QueueOutcome). b .messages < f .bench .messages) answered more))
 
       cut : length (took n ns) ≡ min (5 * min n 64) (length ns)
       cut = length-take (5 * min n 64) ns
@@ -145,10 +145,10 @@ module _ (n r : ℕ) (ns : List ℕ) (e : r ≡ min n 64) (long : length ns ≡ 
           ∙ sets-again (t .five) (took n ns) (5 * b .messages) (omega (arith, t .room, t .many, t .long))
 
   pub send-refused : b′ .messages ≤ b .messages → Sends n ns exit b y l k b′ 0 0
-  send-refused same = (ap (λ (m : List ℕ). flown k b′ m) all ∙ answered, (omega arith, (omega arith, all ∙ kept)))
+  send-refused same = (ap (λ (m : List ℕ). queueOutcome k b′ m) all ∙ answered, (omega arith, (omega arith, all ∙ kept)))
     where
       kept : after ≡ took n ns
-      kept = ap (λ (f : Flown). f .messages) answered ∙ send-left b (took n ns) y l (subst (λ (f : Flown). f .bench .messages ≤ b .messages) answered same)
+      kept = ap (λ (f : QueueOutcome). f .messages) answered ∙ send-left b (took n ns) y l (subst (λ (f : QueueOutcome). f .bench .messages ≤ b .messages) answered same)
 
       all : took n exit ≡ after
       all = front (ap length kept)
@@ -158,9 +158,9 @@ module _ (n r : ℕ) (ns : List ℕ) (e : r ≡ min n 64) (long : length ns ≡ 
 pub run-decided :
     (n r : ℕ) (ns : List ℕ) → r ≡ min n 64 → length ns ≡ 320 → (b : Bench) (costs sent held : List ℕ) (events : List Event) (count : ℕ) (answers : List ℕ)
     (made answered : ℕ) (how : Disposition) (b′ : Bench) (ss hs after zs : List ℕ) → length after ≡ length (take (5 * r) ns) →
-    ran made answered how (state b′ costs ss hs after) zs ≡ batchOf (state b costs sent held (take (5 * r) ns)) events count answers →
-    ran made answered how (state b′ costs ss hs (took n (after ++ drop (5 * r) ns))) zs ≡ batchOf (state b costs sent held (took n ns)) events count answers
+    batchOutcome made answered how (state b′ costs ss hs after) zs ≡ batchOf (state b costs sent held (take (5 * r) ns)) events count answers →
+    batchOutcome made answered how (state b′ costs ss hs (took n (after ++ drop (5 * r) ns))) zs ≡ batchOf (state b costs sent held (took n ns)) events count answers
 run-decided n r ns e long b costs sent held events count answers made answered how b′ ss hs after zs same g =
-    ap (λ (l : List ℕ). ran made answered how (state b′ costs ss hs l) zs) (lent-front n r ns after e long same)
+    ap (λ (l : List ℕ). batchOutcome made answered how (state b′ costs ss hs l) zs) (lent-front n r ns after e long same)
     ∙ g
     ∙ ap (λ (i : ℕ). batchOf (state b costs sent held (take (5 * i) ns)) events count answers) e

@@ -1,4 +1,4 @@
--- The slice's messages and their numbers: what the two writes of the slice, `movedUp` and `putFrom`, make of the numbers of its first 64, and what they leave alone.
+-- The slice's messages and their numbers: what the two writes of the slice, `shiftedUp` and `putFrom`, make of the numbers of its first 64, and what they leave alone.
 --     numbers-…        the numbers of a part, and of a run of stores
 --     moved-flight     the messages moved up, in the numbers        moved-rest, put-rest     what lies past the first 64
 --     written-front    what `numbers_of` leaves in the front of a lent table
@@ -11,7 +11,7 @@ use lib.ListN.{length, set, take, drop, length-take}
 use lib.Seq.{sets, take-at, take-nil, drop-nil, length-take-le, sets-eq}
 use Rattle.messages.specs.declared.Message.{Message}
 use Rattle.messages.specs.Slices.{numbersIn, flight}
-use Rattle.messages.specs.Steps.{shifted, movedUp, messagesOf, putFrom}
+use Rattle.messages.specs.Steps.{shifted, shiftedUp, messagesOf, putFrom}
 use Rattle.messages.proofs.Stores.{take-sets, drop-sets, part-of-front}
 
 -- ---- the numbers of a part
@@ -61,11 +61,11 @@ numbers-sets (m ∷ vs) ms i =
 pub moved-count : (at past : ℕ) (ms : List Message) → length (take (past - at) (drop (suc at) ms)) ≤ past - at
 moved-count at past ms = omega (arith, length-take (past - at) (drop (suc at) ms))
 
-pub moved-rest : (ms : List Message) (at past : ℕ) → at ≤ past → past ≤ 63 → drop 64 (movedUp at past ms) ≡ drop 64 ms
+pub moved-rest : (ms : List Message) (at past : ℕ) → at ≤ past → past ≤ 63 → drop 64 (shiftedUp at past ms) ≡ drop 64 ms
 moved-rest ms at past h few = drop-sets 64 (take (past - at) (drop (suc at) ms)) ms at (omega (arith, moved-count at past ms))
 
 -- each number moves up by five places
-pub moved-flight : (ms : List Message) (at past : ℕ) → at ≤ past → past ≤ 63 → flight (movedUp at past ms) ≡ shifted at past (flight ms)
+pub moved-flight : (ms : List Message) (at past : ℕ) → at ≤ past → past ≤ 63 → flight (shiftedUp at past ms) ≡ shifted at past (flight ms)
 moved-flight ms at past h few =
     ap numbersIn (take-sets 64 (take (past - at) (drop (suc at) ms)) ms at (omega (arith, moved-count at past ms)))
     ∙ numbers-sets (take (past - at) (drop (suc at) ms)) (take 64 ms) at

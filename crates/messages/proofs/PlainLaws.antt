@@ -10,7 +10,7 @@ use lib.ListN.{length, set}
 use lib.Seq.{sets, take-all}
 use Rattle.messages.specs.declared.Message.{Message}
 use Rattle.messages.specs.Slices.{numbersIn, flight}
-use Rattle.messages.specs.Steps.{messageOf, messageAt, messagesOf, putFrom}
+use Rattle.messages.specs.Steps.{messageOfNumbers, messageAt, messagesOf, putFrom}
 use Rattle.messages.proofs.Flight.{numbers-length, messages-count}
 use Rattle.messages.proofs.SliceLaws.{numbers-again}
 use Rattle.messages.proofs.Stores.{sets-all}
@@ -37,7 +37,7 @@ put-begins ns ms e f =
 pub put-turns :
     (ns : List ℕ) (k : ℕ) (ms : List Message) (m : Message) →
     k < 64 →
-    m ≡ messageOf ns k →
+    m ≡ messageOfNumbers ns k →
     numbersIn (putFrom ns k 64 ms) ≡ ns →
     numbersIn (putFrom ns (k + 1) 64 (set ms k m)) ≡ ns
 put-turns ns k ms m h e f =

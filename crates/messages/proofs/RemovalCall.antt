@@ -30,12 +30,12 @@ use denote.Triple.Statement.{Contract}
 use denote.Triple.Clauses.{ensured, lasts}
 use denote.Triple.Walked.{says}
 use Rattle.messages.specs.declared.Message.{Message}
-use Rattle.messages.specs.Steps.{movedUp}
+use Rattle.messages.specs.Steps.{shiftedUp}
 use Rattle.messages.proofs.Message as T
 use Rattle.messages.proofs.places.remove_at as remove-at
 
 abbrev pub Removed : ℕ → ℕ → List Message → List Message → Val → Type 0
-Removed i j ys zs v = (v ≡ vunit) × ((zs ≡ movedUp i j ys) × (length zs ≡ length ys))
+Removed i j ys zs v = (v ≡ vunit) × ((zs ≡ shiftedUp i j ys) × (length zs ≡ length ys))
 
 module _ {M : Type 1} (𝓤 : URA M) (H : Heap 𝓤) (A : Atoms 𝓤) (mem : Memory → SProp 𝓤) (run : Routine → Fun 𝓤) where
   abbrev pub RemoveAt : Contract 𝓤
@@ -79,8 +79,8 @@ module _ {M : Type 1} (𝓤 : URA M) (H : Heap 𝓤) (A : Atoms 𝓤) (mem : Mem
         use1 W
         (some
         (λ (ws : List Message × (Unit {0} × (Unit {0} × Unit {0}))).
-        ‵ (lasts remove-at.ended (κ, tt) (x, (i, (j, tt))) ws) ⊛ raw (fact 𝓤 (ws .0 ≡ movedUp i j ys))))
-        (id⊢ 𝓤 _) $ pick ! (λ ws. split ! $ move ! (1 ∷ []) $ heard ! (ws .0 ≡ movedUp i j ys) (λ e.
+        ‵ (lasts remove-at.ended (κ, tt) (x, (i, (j, tt))) ws) ⊛ raw (fact 𝓤 (ws .0 ≡ shiftedUp i j ys))))
+        (id⊢ 𝓤 _) $ pick ! (λ ws. split ! $ move ! (1 ∷ []) $ heard ! (ws .0 ≡ shiftedUp i j ys) (λ e.
         fsplit ! $ fsplit ! $ move ! (1 ∷ []) $ feqL ! (λ l.
         -- [the last list; true; the token and the result]
         move ! (2 ∷ []) $ split ! $ move ! (1 ∷ []) $ feqL ! (λ u. split ! $ at-once ! $

@@ -28,7 +28,7 @@ use denote.Steps.{only, facts, owned}
 use denote.RattleType.{RattleType}
 use denote.Struct.Laws as LL
 use Rattle.messages.specs.declared.Message.{Message}
-use Rattle.messages.specs.Steps.{messageOf, messageAt}
+use Rattle.messages.specs.Steps.{messageOfNumbers, messageAt}
 use Rattle.messages.proofs.Message as S
 use Rattle.messages.proofs.Message.Laws as S′
 
@@ -40,7 +40,7 @@ IsMessage m = Is S.the-row m (mach m ∷ [])
 
 -- what `messageAt` says past the end
 abbrev none : Message
-none = messageOf [] 0
+none = messageOfNumbers [] 0
 
 -- a machine value that is a message's has the message's type
 pub typed : {M : Type 1} {𝓤 : URA M} {H : Heap 𝓤} {A : Atoms 𝓤} → Given 𝓤 H A → (m : Message) → IsMessage m → T (hasTy S′.mir (mach m)) × WT (mach m)

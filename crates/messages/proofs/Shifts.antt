@@ -7,23 +7,23 @@ use lib.ListN.{length, set, take, drop}
 use lib.Seq.{sets, drop-cons, drop-set-lt}
 use Rattle.messages.specs.declared.Message.{Message}
 use Rattle.messages.specs.Slices.{numbersIn}
-use Rattle.messages.specs.Steps.{messageAt, messageOf, movedUp, messagesOf, putFrom}
+use Rattle.messages.specs.Steps.{messageAt, messageOfNumbers, shiftedUp, messagesOf, putFrom}
 use Rattle.messages.proofs.Flight.{five-more}
 
 -- the message after place k is moved to k: what is left to move is as it was
-pub moved-one : (k past : ℕ) (zs : List Message) → k < past → past < length zs → movedUp (suc k) past (set zs k (messageAt zs (suc k))) ≡ movedUp k past zs
+pub moved-one : (k past : ℕ) (zs : List Message) → k < past → past < length zs → shiftedUp (suc k) past (set zs k (messageAt zs (suc k))) ≡ shiftedUp k past zs
 moved-one k past zs h l =
     let m = messageAt zs (suc k) in
     let left : past - k ≡ suc (past - suc k) = omega arith in
     ap (λ (r : List Message). sets (set zs k m) (suc k) (take (past - suc k) r)) (drop-set-lt (suc (suc k)) zs k m (omega arith))
-    ∙ sym (ap (λ (n : ℕ). sets zs k (take n (drop (suc k) zs))) left ∙ ap (λ (r : List Message). sets zs k (take (suc (past - suc k)) r)) (drop-cons zs (suc k) (messageOf [] 0) (omega arith)))
+    ∙ sym (ap (λ (n : ℕ). sets zs k (take n (drop (suc k) zs))) left ∙ ap (λ (r : List Message). sets zs k (take (suc (past - suc k)) r)) (drop-cons zs (suc k) (messageOfNumbers [] 0) (omega arith)))
 
 -- nothing is left to move
-pub moved-none : (k past : ℕ) (zs : List Message) → past ≤ k → movedUp k past zs ≡ zs
+pub moved-none : (k past : ℕ) (zs : List Message) → past ≤ k → shiftedUp k past zs ≡ zs
 moved-none k past zs h = let left : past - k ≡ 0 = omega arith in ap (λ (n : ℕ). sets zs k (take n (drop (suc k) zs))) left
 
 -- the message that the numbers have at place k is put there: what is left to put is as it was
-pub put-one : (ns : List ℕ) (k past : ℕ) (zs : List Message) → k < past → putFrom ns (suc k) past (set zs k (messageOf ns k)) ≡ putFrom ns k past zs
+pub put-one : (ns : List ℕ) (k past : ℕ) (zs : List Message) → k < past → putFrom ns (suc k) past (set zs k (messageOfNumbers ns k)) ≡ putFrom ns k past zs
 unfolding messagesOf
 put-one ns k past zs h = let left : past - k ≡ suc (past - suc k) = omega arith in sym (ap (λ (n : ℕ). sets zs k (messagesOf ns k n)) left)
 
@@ -45,7 +45,7 @@ unfolding numbersIn
 written-one ms k count zs h l =
     let left : count - k ≡ suc (count - suc k) = omega arith in
     ap (λ (p : ℕ). sets (sets zs (5 * k) (numbersIn (messageAt ms k ∷ []))) p (numbersIn (take (count - suc k) (drop (suc k) ms)))) (five-more k)
-    ∙ sym (ap (λ (n : ℕ). sets zs (5 * k) (numbersIn (take n (drop k ms)))) left ∙ ap (λ (r : List Message). sets zs (5 * k) (numbersIn (take (suc (count - suc k)) r))) (drop-cons ms k (messageOf [] 0) (omega arith)))
+    ∙ sym (ap (λ (n : ℕ). sets zs (5 * k) (numbersIn (take n (drop k ms)))) left ∙ ap (λ (r : List Message). sets zs (5 * k) (numbersIn (take (suc (count - suc k)) r))) (drop-cons ms k (messageOfNumbers [] 0) (omega arith)))
 
 pub written-none : (ms : List Message) (k count : ℕ) (zs : List ℕ) → count ≤ k → writtenFrom ms k count zs ≡ zs
 unfolding numbersIn

@@ -4,10 +4,10 @@ use native.Mathlib.Omega.{arith}
 use mathlib.Core.Path.{_≡_, refl, sym, _∙_, ap}
 use mathlib.Core.List.{List, [], _∷_, _++_}
 use lib.ListN.{length, take, drop, getD, take-append-drop}
-use Rattle.agreement.specs.Call.{Said}
+use Rattle.agreement.specs.Call.{Response}
 use Rattle.agreement.specs.declared.Answer.{Answer}
-use Rattle.bench.specs.Flights.{Flown, flown}
-use Rattle.bench.specs.Deliveries.{Delivered, delivered}
+use Rattle.bench.specs.Flights.{QueueOutcome, queueOutcome}
+use Rattle.bench.specs.Deliveries.{DeliveryOutcome, deliveryOutcome}
 use Rattle.bench.specs.declared.Bench.{Bench}
 use Rattle.messages.specs.declared.Message.{Message}
 use Rattle.messages.specs.Slices.{numbersIn, flight}
@@ -34,17 +34,17 @@ slice-same ms ns first rest =
 
 -- the same call over a slice and over its numbers, each with the outcome that its contract names: reply, network and messages are the same
 pub same-flown :
-    (o : Flown) (reply said : ℕ) (b c : Bench) (ms : List Message) (numbers : List ℕ) →
-    flown reply b (flight ms) ≡ o →
-    flown said c numbers ≡ o →
+    (o : QueueOutcome) (reply said : ℕ) (b c : Bench) (ms : List Message) (numbers : List ℕ) →
+    queueOutcome reply b (flight ms) ≡ o →
+    queueOutcome said c numbers ≡ o →
     (reply ≡ said) × (b ≡ c) × (flight ms ≡ numbers)
 same-flown o reply said b c ms numbers slice number =
     let e = slice ∙ sym number in (ap (λ x. x .reply) e, ap (λ x. x .bench) e, ap (λ x. x .messages) e)
 
 pub same-delivered :
-    (o : Delivered) (reply said : Said Answer) (b c : Bench) (sent held sent′ held′ : List ℕ) (ms : List Message) (numbers : List ℕ) →
-    delivered reply b sent held (flight ms) ≡ o →
-    delivered said c sent′ held′ numbers ≡ o →
+    (o : DeliveryOutcome) (reply said : Response Answer) (b c : Bench) (sent held sent′ held′ : List ℕ) (ms : List Message) (numbers : List ℕ) →
+    deliveryOutcome reply b sent held (flight ms) ≡ o →
+    deliveryOutcome said c sent′ held′ numbers ≡ o →
     (reply ≡ said) × (b ≡ c) × (sent ≡ sent′) × (held ≡ held′) × (flight ms ≡ numbers)
 same-delivered o reply said b c sent held sent′ held′ ms numbers slice number =
     let e = slice ∙ sym number in

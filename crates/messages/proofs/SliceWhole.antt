@@ -5,13 +5,13 @@ use mathlib.Core.Path.{_≡_, sym, _∙_, ap, subst}
 use mathlib.Core.List.{List, [], _∷_}
 use lib.ListN.{length, take, drop}
 use lib.Seq.{length-take-le}
-use Rattle.agreement.specs.Call.{Said}
+use Rattle.agreement.specs.Call.{Response}
 use Rattle.agreement.specs.declared.Answer.{Answer}
 use Rattle.protocol.specs.Net.{fresh}
 use Rattle.protocol.specs.Calls.{Call, send, deliver, repeat, lose, run}
 use Rattle.bench.specs.State.{state}
-use Rattle.bench.specs.Flights.{Flown, flown, sendOf, loseOf}
-use Rattle.bench.specs.Deliveries.{Delivered, delivered, deliverOf, repeatOf}
+use Rattle.bench.specs.Flights.{QueueOutcome, queueOutcome, sendOf, loseOf}
+use Rattle.bench.specs.Deliveries.{DeliveryOutcome, deliveryOutcome, deliverOf, repeatOf}
 use Rattle.bench.specs.Whole.{Represents, Answers, planIn, freshBy, runBy}
 use Rattle.bench.specs.declared.Bench.{Bench}
 use Rattle.bench.proofs.TieWhole.{whole-lists}
@@ -45,22 +45,22 @@ module _ (s : Kept) (b : Bench) (ms : List Message) (past : drop 64 ms ≡ drop 
   abbrev after : Kept
   after = kept b (s .costs) (s .sent) (s .held) ms
 
-  pub send-leads : (reply y l : ℕ) → flown reply b (flight ms) ≡ sendOf (s .bench) (flight (s .messages)) y l → Leads s (send y l) after
+  pub send-leads : (reply y l : ℕ) → queueOutcome reply b (flight ms) ≡ sendOf (s .bench) (flight (s .messages)) y l → Leads s (send y l) after
   send-leads reply y l e =
       record { numbers = ap (withFlown (numbered s)) e ∙ sym (send-step (numbered s) y l); rest = past }
 
-  pub lose-leads : (reply p : ℕ) → flown reply b (flight ms) ≡ loseOf (s .bench) (flight (s .messages)) p → Leads s (lose p) after
+  pub lose-leads : (reply p : ℕ) → queueOutcome reply b (flight ms) ≡ loseOf (s .bench) (flight (s .messages)) p → Leads s (lose p) after
   lose-leads reply p e =
       record { numbers = ap (withFlown (numbered s)) e ∙ sym (lose-step (numbered s) p); rest = past }
 
-  module _ (sent held : List ℕ) (reply : Said Answer) (p : ℕ) where
+  module _ (sent held : List ℕ) (reply : Response Answer) (p : ℕ) where
     abbrev taken : Kept
     taken = kept b (s .costs) sent held ms
 
-    pub deliver-leads : delivered reply b sent held (flight ms) ≡ deliverOf (numbered s) p → Leads s (deliver p) taken
+    pub deliver-leads : deliveryOutcome reply b sent held (flight ms) ≡ deliverOf (numbered s) p → Leads s (deliver p) taken
     deliver-leads e =
         record { numbers = ap (withDelivered (numbered s)) e ∙ sym (deliver-step (numbered s) p); rest = past }
 
-    pub repeat-leads : delivered reply b sent held (flight ms) ≡ repeatOf (numbered s) p → Leads s (repeat p) taken
+    pub repeat-leads : deliveryOutcome reply b sent held (flight ms) ≡ repeatOf (numbered s) p → Leads s (repeat p) taken
     repeat-leads e =
         record { numbers = ap (withDelivered (numbered s)) e ∙ sym (repeat-step (numbered s) p); rest = past }

@@ -4,7 +4,7 @@ use Prim.Native.Nat.{ℕ, _≤_}
 use mathlib.Core.Path.{_≡_}
 use mathlib.Core.List.{List, [], _∷_}
 use lib.ListN.{length, drop}
-use Rattle.protocol.specs.Net.{Network, fresh}
+use Rattle.protocol.specs.Net.{fresh}
 use Rattle.protocol.specs.Calls.{Call, run}
 use Rattle.bench.specs.State.{State, state}
 use Rattle.bench.specs.Changes.{freshOf}
@@ -53,7 +53,7 @@ pub record Starts (b : Bench) (costs sent held : List ℕ) (s : Kept) : Type 0 w
   pub numbers : numbered s ≡ freshBy b costs sent held (flight (s .messages))
 
 -- demand 3: what it says of every list of calls, and that the network it speaks of is the one that stands in what is kept
-pub record Meets (b : Bench) (costs : List ℕ) (cs : List Call) (t : Kept) : Type 0 where
+pub record SlicesMeet (b : Bench) (costs : List ℕ) (cs : List Call) (t : Kept) : Type 0 where
   pub holds : Holds (planIn b costs) cs
   pub stands : Represents (numbered t) (run (fresh (planIn b costs)) cs)
   pub answers : Answers (numbered t) (run (fresh (planIn b costs)) cs)
@@ -63,4 +63,4 @@ WholeSlices =
     (b : Bench) (costs sent held : List ℕ) (s t : Kept) (cs : List Call) →
     Starts b costs sent held s →
     Lead s cs t →
-    Meets b costs cs t
+    SlicesMeet b costs cs t

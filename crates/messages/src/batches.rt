@@ -7,26 +7,27 @@ use crate::plain::messages_in;
 use bench::BatchResult;
 use bench::Bench;
 use bench::Event;
+use bench::sizes::MESSAGES;
+use bench::sizes::MOST_EVENTS;
+use bench::sizes::MOST_MESSAGES;
 ghost use mathlib.Core.Path.{_≡_};
 ghost use lib.ListN.{length, drop, replicate};
 ghost use Rattle.bench.specs.State.{state};
-ghost use Rattle.bench.specs.Batches.{ran, batchOf};
+ghost use Rattle.bench.specs.Batches.{batchOutcome, batchOf};
 ghost use Rattle.messages.specs.Slices.{numbersIn, flight};
 ghost use Rattle.messages.specs.Steps.{took};
-
-const MOST_EVENTS: usize = 2048;
 
 // A list that was run, beside the messages that are then in flight.
 pub struct RanMessages {
     pub ran: BatchResult,
-    pub messages: [Message; 64],
+    pub messages: [Message; MOST_MESSAGES],
 }
 
 // No message in flight.
-pub fn no_messages() -> [Message; 64]
+pub fn no_messages() -> [Message; MOST_MESSAGES]
     ensures { λ r. ⌜ numbersIn r ≡ replicate 320 0 ⌝ }
 {
-    messages_in([0u32; 320])
+    messages_in([0u32; MESSAGES])
 }
 
 // The list on the numbers of a slice of `len` messages: only those that the slice has room for are lent to the bench.
@@ -42,7 +43,7 @@ pub(crate) fn run_numbers(
     len: usize,
 ) -> BatchResult
     requires { ⌜ length (now numbers) ≡ 320 ⌝ }
-    ensures { λ r. ⌜ ran (r .made) (r .answered) (r .disposition) (state (r .bench) (now (costs .entry)) (now (sent .exit)) (now (held .exit)) (took len (now (numbers .exit)))) (now (answers .exit)) ≡ batchOf (state bench (now (costs .entry)) (now (sent .entry)) (now (held .entry)) (took len (now (numbers .entry)))) events count (now (answers .entry)) ⌝ }
+    ensures { λ r. ⌜ batchOutcome (r .made) (r .answered) (r .disposition) (state (r .bench) (now (costs .entry)) (now (sent .exit)) (now (held .exit)) (took len (now (numbers .exit)))) (now (answers .exit)) ≡ batchOf (state bench (now (costs .entry)) (now (sent .entry)) (now (held .entry)) (took len (now (numbers .entry)))) events count (now (answers .entry)) ⌝ }
 {
     let taken = &mut numbers[..5 * room(len)];
     bench::batches::run(bench, costs, sent, held, taken, events, count, answers)
@@ -59,7 +60,7 @@ pub fn run(
     count: usize,
     answers: &mut [u32],
 ) -> BatchResult
-    ensures { λ r. ⌜ ran (r .made) (r .answered) (r .disposition) (state (r .bench) (now (costs .entry)) (now (sent .exit)) (now (held .exit)) (flight (now (ms .exit)))) (now (answers .exit)) ≡ batchOf (state bench (now (costs .entry)) (now (sent .entry)) (now (held .entry)) (flight (now (ms .entry)))) events count (now (answers .entry)) ⌝ }
+    ensures { λ r. ⌜ batchOutcome (r .made) (r .answered) (r .disposition) (state (r .bench) (now (costs .entry)) (now (sent .exit)) (now (held .exit)) (flight (now (ms .exit)))) (now (answers .exit)) ≡ batchOf (state bench (now (costs .entry)) (now (sent .entry)) (now (held .entry)) (flight (now (ms .entry)))) events count (now (answers .entry)) ⌝ }
     ensures { λ _. ⌜ drop 64 (now (ms .exit)) ≡ drop 64 (now (ms .entry)) ⌝ }
 {
     let mut numbers = numbers_in(ms);
@@ -85,12 +86,12 @@ pub fn run_by_value(
     costs: &[u32],
     sent: &mut [u32],
     held: &mut [u32],
-    messages: [Message; 64],
+    messages: [Message; MOST_MESSAGES],
     events: [Event; MOST_EVENTS],
     count: usize,
     answers: &mut [u32],
 ) -> RanMessages
-    ensures { λ r. ⌜ ran (r .ran .made) (r .ran .answered) (r .ran .disposition) (state (r .ran .bench) (now (costs .entry)) (now (sent .exit)) (now (held .exit)) (numbersIn (r .messages))) (now (answers .exit)) ≡ batchOf (state bench (now (costs .entry)) (now (sent .entry)) (now (held .entry)) (numbersIn messages)) events count (now (answers .entry)) ⌝ }
+    ensures { λ r. ⌜ batchOutcome (r .ran .made) (r .ran .answered) (r .ran .disposition) (state (r .ran .bench) (now (costs .entry)) (now (sent .exit)) (now (held .exit)) (numbersIn (r .messages))) (now (answers .exit)) ≡ batchOf (state bench (now (costs .entry)) (now (sent .entry)) (now (held .entry)) (numbersIn messages)) events count (now (answers .entry)) ⌝ }
 {
     let mut ms = messages;
     let ran = run(bench, costs, sent, held, &mut ms, events, count, answers);

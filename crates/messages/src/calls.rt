@@ -11,13 +11,13 @@ ghost use mathlib.Core.Path.{_≡_};
 ghost use lib.ListN.{drop};
 ghost use Rattle.bench.specs.Changes.{number, NoZero};
 ghost use Rattle.bench.specs.State.{state};
-ghost use Rattle.bench.specs.Flights.{flown, sendOf, loseOf};
-ghost use Rattle.bench.specs.Deliveries.{reactionSays, delivered, deliverOf, repeatOf};
+ghost use Rattle.bench.specs.Flights.{queueOutcome, sendOf, loseOf};
+ghost use Rattle.bench.specs.Deliveries.{reactionSays, deliveryOutcome, deliverOf, repeatOf};
 ghost use Rattle.messages.specs.Slices.{flight};
 
 // Appends the message of a bridge over a link.
 pub fn send(bench: Bench, ms: &mut [Message], bridge: usize, link: usize) -> Changed
-    ensures { λ r. ⌜ (flown (number (r .reply)) (r .bench) (flight (now (ms .exit))) ≡ sendOf bench (flight (now (ms .entry))) bridge link) × NoZero (r .reply) ⌝ }
+    ensures { λ r. ⌜ (queueOutcome (number (r .reply)) (r .bench) (flight (now (ms .exit))) ≡ sendOf bench (flight (now (ms .entry))) bridge link) × NoZero (r .reply) ⌝ }
     ensures { λ _. ⌜ drop 64 (now (ms .exit)) ≡ drop 64 (now (ms .entry)) ⌝ }
 {
     let mut numbers = numbers_in(ms);
@@ -28,7 +28,7 @@ pub fn send(bench: Bench, ms: &mut [Message], bridge: usize, link: usize) -> Cha
 
 // Takes a message out; later ones move up by one.
 pub fn lose(bench: Bench, ms: &mut [Message], place: usize) -> Changed
-    ensures { λ r. ⌜ (flown (number (r .reply)) (r .bench) (flight (now (ms .exit))) ≡ loseOf bench (flight (now (ms .entry))) place) × NoZero (r .reply) ⌝ }
+    ensures { λ r. ⌜ (queueOutcome (number (r .reply)) (r .bench) (flight (now (ms .exit))) ≡ loseOf bench (flight (now (ms .entry))) place) × NoZero (r .reply) ⌝ }
     ensures { λ _. ⌜ drop 64 (now (ms .exit)) ≡ drop 64 (now (ms .entry)) ⌝ }
 {
     let numbers = numbers_in(ms);
@@ -46,7 +46,7 @@ pub fn deliver(
     ms: &mut [Message],
     place: usize,
 ) -> Delivered
-    ensures { λ r. ⌜ delivered (reactionSays (r .reply)) (r .bench) (now (sent .exit)) (now (held .exit)) (flight (now (ms .exit))) ≡ deliverOf (state bench (now (costs .entry)) (now (sent .entry)) (now (held .entry)) (flight (now (ms .entry)))) place ⌝ }
+    ensures { λ r. ⌜ deliveryOutcome (reactionSays (r .reply)) (r .bench) (now (sent .exit)) (now (held .exit)) (flight (now (ms .exit))) ≡ deliverOf (state bench (now (costs .entry)) (now (sent .entry)) (now (held .entry)) (flight (now (ms .entry)))) place ⌝ }
     ensures { λ _. ⌜ drop 64 (now (ms .exit)) ≡ drop 64 (now (ms .entry)) ⌝ }
 {
     let numbers = numbers_in(ms);
@@ -64,7 +64,7 @@ pub fn repeat(
     ms: &[Message],
     place: usize,
 ) -> Delivered
-    ensures { λ r. ⌜ delivered (reactionSays (r .reply)) (r .bench) (now (sent .exit)) (now (held .exit)) (flight (now (ms .entry))) ≡ repeatOf (state bench (now (costs .entry)) (now (sent .entry)) (now (held .entry)) (flight (now (ms .entry)))) place ⌝ }
+    ensures { λ r. ⌜ deliveryOutcome (reactionSays (r .reply)) (r .bench) (now (sent .exit)) (now (held .exit)) (flight (now (ms .entry))) ≡ repeatOf (state bench (now (costs .entry)) (now (sent .entry)) (now (held .entry)) (flight (now (ms .entry)))) place ⌝ }
 {
     let numbers = numbers_in(ms);
     decisions::decide_repeat(bench, costs, sent, held, numbers, ms.len(), place)

@@ -7,7 +7,7 @@ ghost use Prim.Native.Nat.{_*_, _+_, _≤_};
 ghost use lib.ListN.{length, take};
 ghost use lib.Seq.{sets};
 ghost use Rattle.messages.specs.Slices.{numbersIn};
-ghost use Rattle.messages.specs.Steps.{messageOf, putFrom};
+ghost use Rattle.messages.specs.Steps.{messageOfNumbers, putFrom};
 
 pub(crate) fn write_numbers(numbers: &mut [u32], place: usize, m: Message)
     requires { ⌜ 5 * place + 5 ≤ length (now numbers) ⌝ }
@@ -23,7 +23,7 @@ pub(crate) fn write_numbers(numbers: &mut [u32], place: usize, m: Message)
 
 pub(crate) fn read_message(numbers: &[u32], place: usize) -> Message
     requires { ⌜ 5 * place + 5 ≤ length (now numbers) ⌝ }
-    ensures { λ r. ⌜ r ≡ messageOf (now (numbers .entry)) place ⌝ }
+    ensures { λ r. ⌜ r ≡ messageOfNumbers (now (numbers .entry)) place ⌝ }
 {
     let at = 5 * place;
     Message {

@@ -2,21 +2,27 @@
 use bench::Bench;
 use bench::Changed;
 use bench::Delivered;
+use bench::sizes::MESSAGES;
+use bench::sizes::MOST_MESSAGES;
 ghost use mathlib.Core.Path.{_≡_};
-ghost use Prim.Native.Nat.{_-_, _*_, _≤_, min};
+ghost use Prim.Native.Nat.{_*_, _≤_, min, _-_};
 ghost use lib.ListN.{length, take, drop};
 ghost use lib.Seq.{sets};
 ghost use Rattle.bench.specs.Changes.{number, NoZero};
 ghost use Rattle.bench.specs.State.{state};
-ghost use Rattle.bench.specs.Flights.{flown, sendOf, loseOf};
-ghost use Rattle.bench.specs.Deliveries.{reactionSays, delivered, deliverOf, repeatOf};
+ghost use Rattle.bench.specs.Flights.{queueOutcome, sendOf, loseOf};
+ghost use Rattle.bench.specs.Deliveries.{reactionSays, deliveryOutcome, deliverOf, repeatOf};
 ghost use Rattle.messages.specs.Steps.{took, shifted};
 
 // The messages that a call reads of a slice of this length.
 pub(crate) fn room(len: usize) -> usize
     ensures { λ r. ⌜ r ≡ min len 64 ⌝ }
 {
-    if len < 64 { len } else { 64 }
+    if len < MOST_MESSAGES {
+        len
+    } else {
+        MOST_MESSAGES
+    }
 }
 
 // A changed bench, and the places from `from` up to `past` of the slice that change.
@@ -41,7 +47,7 @@ pub(crate) fn decide_send(
     link: usize,
 ) -> Decision
     requires { ⌜ length (now numbers) ≡ 320 ⌝ }
-    ensures { λ r. ⌜ ((flown (number (r .changed .reply)) (r .changed .bench) (took len (now (numbers .exit))) ≡ sendOf bench (took len (now (numbers .entry))) bridge link) × NoZero (r .changed .reply)) × ((r .from ≤ r .past) × ((r .past ≤ min len 64) × (took len (now (numbers .exit)) ≡ sets (took len (now (numbers .entry))) (5 * r .from) (take (5 * (r .past - r .from)) (drop (5 * r .from) (now (numbers .exit))))))) ⌝ }
+    ensures { λ r. ⌜ ((queueOutcome (number (r .changed .reply)) (r .changed .bench) (took len (now (numbers .exit))) ≡ sendOf bench (took len (now (numbers .entry))) bridge link) × NoZero (r .changed .reply)) × ((r .from ≤ r .past) × ((r .past ≤ min len 64) × (took len (now (numbers .exit)) ≡ sets (took len (now (numbers .entry))) (5 * r .from) (take (5 * (r .past - r .from)) (drop (5 * r .from) (now (numbers .exit))))))) ⌝ }
 {
     let before = bench.messages;
     let changed = bench::messages::send(bench, &mut numbers[..5 * room(len)], bridge, link);
@@ -61,8 +67,13 @@ pub(crate) fn decide_send(
 }
 
 // Only the places are told: the slice's messages move up by themselves.
-pub(crate) fn decide_lose(bench: Bench, numbers: [u32; 320], len: usize, place: usize) -> Decision
-    ensures { λ r. ⌜ ((flown (number (r .changed .reply)) (r .changed .bench) (shifted (r .from) (r .past) (took len numbers)) ≡ loseOf bench (took len numbers) place) × NoZero (r .changed .reply)) × ((r .from ≤ r .past) × ((r .past ≤ len - 1) × (r .past ≤ 63))) ⌝ }
+pub(crate) fn decide_lose(
+    bench: Bench,
+    numbers: [u32; MESSAGES],
+    len: usize,
+    place: usize,
+) -> Decision
+    ensures { λ r. ⌜ ((queueOutcome (number (r .changed .reply)) (r .changed .bench) (shifted (r .from) (r .past) (took len numbers)) ≡ loseOf bench (took len numbers) place) × NoZero (r .changed .reply)) × ((r .from ≤ r .past) × ((r .past ≤ len - 1) × (r .past ≤ 63))) ⌝ }
 {
     let before = bench.messages;
     let mut left = numbers;
@@ -87,11 +98,11 @@ pub(crate) fn decide_deliver(
     costs: &[u32],
     sent: &mut [u32],
     held: &mut [u32],
-    numbers: [u32; 320],
+    numbers: [u32; MESSAGES],
     len: usize,
     place: usize,
 ) -> Decided
-    ensures { λ r. ⌜ (delivered (reactionSays (r .delivered .reply)) (r .delivered .bench) (now (sent .exit)) (now (held .exit)) (shifted (r .from) (r .past) (took len numbers)) ≡ deliverOf (state bench (now (costs .entry)) (now (sent .entry)) (now (held .entry)) (took len numbers)) place) × ((r .from ≤ r .past) × ((r .past ≤ len - 1) × (r .past ≤ 63))) ⌝ }
+    ensures { λ r. ⌜ (deliveryOutcome (reactionSays (r .delivered .reply)) (r .delivered .bench) (now (sent .exit)) (now (held .exit)) (shifted (r .from) (r .past) (took len numbers)) ≡ deliverOf (state bench (now (costs .entry)) (now (sent .entry)) (now (held .entry)) (took len numbers)) place) × ((r .from ≤ r .past) × ((r .past ≤ len - 1) × (r .past ≤ 63))) ⌝ }
 {
     let before = bench.messages;
     let mut left = numbers;
@@ -123,11 +134,11 @@ pub(crate) fn decide_repeat(
     costs: &[u32],
     sent: &mut [u32],
     held: &mut [u32],
-    numbers: [u32; 320],
+    numbers: [u32; MESSAGES],
     len: usize,
     place: usize,
 ) -> Delivered
-    ensures { λ r. ⌜ delivered (reactionSays (r .reply)) (r .bench) (now (sent .exit)) (now (held .exit)) (took len numbers) ≡ repeatOf (state bench (now (costs .entry)) (now (sent .entry)) (now (held .entry)) (took len numbers)) place ⌝ }
+    ensures { λ r. ⌜ deliveryOutcome (reactionSays (r .reply)) (r .bench) (now (sent .exit)) (now (held .exit)) (took len numbers) ≡ repeatOf (state bench (now (costs .entry)) (now (sent .entry)) (now (held .entry)) (took len numbers)) place ⌝ }
 {
     let all = numbers;
     bench::messages::repeat(bench, costs, sent, held, &all[..5 * room(len)], place)

@@ -7,25 +7,27 @@ use crate::copies::write_numbers;
 use bench::Bench;
 use bench::Changed;
 use bench::Delivered;
+use bench::sizes::MESSAGES;
+use bench::sizes::MOST_MESSAGES;
 ghost use mathlib.Core.Path.{_≡_};
 ghost use Rattle.bench.specs.Changes.{number, NoZero};
 ghost use Rattle.bench.specs.State.{state};
-ghost use Rattle.bench.specs.Flights.{flown, sendOf, loseOf};
-ghost use Rattle.bench.specs.Deliveries.{reactionSays, delivered, deliverOf, repeatOf};
+ghost use Rattle.bench.specs.Flights.{queueOutcome, sendOf, loseOf};
+ghost use Rattle.bench.specs.Deliveries.{reactionSays, deliveryOutcome, deliverOf, repeatOf};
 ghost use Rattle.messages.specs.Slices.{numbersIn};
 
 pub struct ChangedNumbers {
     pub changed: Changed,
-    pub numbers: [u32; 320],
+    pub numbers: [u32; MESSAGES],
 }
 
 pub struct DeliveredNumbers {
     pub delivered: Delivered,
-    pub numbers: [u32; 320],
+    pub numbers: [u32; MESSAGES],
 }
 
 // The messages that 320 numbers are.
-pub(crate) fn messages_in(numbers: [u32; 320]) -> [Message; 64]
+pub(crate) fn messages_in(numbers: [u32; MESSAGES]) -> [Message; MOST_MESSAGES]
     ensures { λ r. ⌜ numbersIn r ≡ numbers ⌝ }
 {
     let mut ms = [Message {
@@ -34,9 +36,9 @@ pub(crate) fn messages_in(numbers: [u32; 320]) -> [Message; 64]
         view: 0,
         number: 0,
         discarded: 0,
-    }; 64];
+    }; MOST_MESSAGES];
     let mut k = 0;
-    while k < 64 {
+    while k < MOST_MESSAGES {
         ms[k] = read_message(&numbers, k);
         k += 1;
     }
@@ -44,12 +46,12 @@ pub(crate) fn messages_in(numbers: [u32; 320]) -> [Message; 64]
 }
 
 // And back.
-pub(crate) fn numbers_from(ms: [Message; 64]) -> [u32; 320]
+pub(crate) fn numbers_from(ms: [Message; MOST_MESSAGES]) -> [u32; MESSAGES]
     ensures { λ r. ⌜ r ≡ numbersIn ms ⌝ }
 {
-    let mut numbers = [0u32; 320];
+    let mut numbers = [0u32; MESSAGES];
     let mut k = 0;
-    while k < 64 {
+    while k < MOST_MESSAGES {
         write_numbers(&mut numbers, k, ms[k]);
         k += 1;
     }
@@ -57,8 +59,8 @@ pub(crate) fn numbers_from(ms: [Message; 64]) -> [u32; 320]
 }
 
 // Appends the message of a bridge over a link.
-pub fn send(bench: Bench, numbers: [u32; 320], bridge: usize, link: usize) -> ChangedNumbers
-    ensures { λ r. ⌜ (flown (number (r .changed .reply)) (r .changed .bench) (r .numbers) ≡ sendOf bench numbers bridge link) × NoZero (r .changed .reply) ⌝ }
+pub fn send(bench: Bench, numbers: [u32; MESSAGES], bridge: usize, link: usize) -> ChangedNumbers
+    ensures { λ r. ⌜ (queueOutcome (number (r .changed .reply)) (r .changed .bench) (r .numbers) ≡ sendOf bench numbers bridge link) × NoZero (r .changed .reply) ⌝ }
 {
     let mut ms = messages_in(numbers);
     let changed = calls::send(bench, &mut ms, bridge, link);
@@ -69,8 +71,8 @@ pub fn send(bench: Bench, numbers: [u32; 320], bridge: usize, link: usize) -> Ch
 }
 
 // Takes a message out; later ones move up by one.
-pub fn lose(bench: Bench, numbers: [u32; 320], place: usize) -> ChangedNumbers
-    ensures { λ r. ⌜ (flown (number (r .changed .reply)) (r .changed .bench) (r .numbers) ≡ loseOf bench numbers place) × NoZero (r .changed .reply) ⌝ }
+pub fn lose(bench: Bench, numbers: [u32; MESSAGES], place: usize) -> ChangedNumbers
+    ensures { λ r. ⌜ (queueOutcome (number (r .changed .reply)) (r .changed .bench) (r .numbers) ≡ loseOf bench numbers place) × NoZero (r .changed .reply) ⌝ }
 {
     let mut ms = messages_in(numbers);
     let changed = calls::lose(bench, &mut ms, place);
@@ -86,10 +88,10 @@ pub fn deliver(
     costs: &[u32],
     sent: &mut [u32],
     held: &mut [u32],
-    numbers: [u32; 320],
+    numbers: [u32; MESSAGES],
     place: usize,
 ) -> DeliveredNumbers
-    ensures { λ r. ⌜ delivered (reactionSays (r .delivered .reply)) (r .delivered .bench) (now (sent .exit)) (now (held .exit)) (r .numbers) ≡ deliverOf (state bench (now (costs .entry)) (now (sent .entry)) (now (held .entry)) numbers) place ⌝ }
+    ensures { λ r. ⌜ deliveryOutcome (reactionSays (r .delivered .reply)) (r .delivered .bench) (now (sent .exit)) (now (held .exit)) (r .numbers) ≡ deliverOf (state bench (now (costs .entry)) (now (sent .entry)) (now (held .entry)) numbers) place ⌝ }
 {
     let mut ms = messages_in(numbers);
     let delivered = calls::deliver(bench, costs, sent, held, &mut ms, place);
@@ -105,10 +107,10 @@ pub fn repeat(
     costs: &[u32],
     sent: &mut [u32],
     held: &mut [u32],
-    numbers: [u32; 320],
+    numbers: [u32; MESSAGES],
     place: usize,
 ) -> Delivered
-    ensures { λ r. ⌜ delivered (reactionSays (r .reply)) (r .bench) (now (sent .exit)) (now (held .exit)) numbers ≡ repeatOf (state bench (now (costs .entry)) (now (sent .entry)) (now (held .entry)) numbers) place ⌝ }
+    ensures { λ r. ⌜ deliveryOutcome (reactionSays (r .reply)) (r .bench) (now (sent .exit)) (now (held .exit)) numbers ≡ repeatOf (state bench (now (costs .entry)) (now (sent .entry)) (now (held .entry)) numbers) place ⌝ }
 {
     let ms = messages_in(numbers);
     calls::repeat(bench, costs, sent, held, &ms, place)

@@ -1,4 +1,4 @@
--- The sizes of document 01 that a plan is read by. The greatest cost is `maxCost` of distances. Assumes nothing.
+-- The sizes of document 01 that a plan is read by, and of a list of events. The greatest cost is `maxCost` of distances. Assumes nothing.
 use Prim.Native.Nat.{ℕ}
 
 abbrev pub leastBridges : ℕ
@@ -21,6 +21,6 @@ headerBytes = 3
 abbrev pub costBytes : ℕ
 costBytes = 4
 
--- the events of one list of calls
+-- the events of one list, as the bench has it
 abbrev pub mostEvents : ℕ
 mostEvents = 2048

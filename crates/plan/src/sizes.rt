@@ -1,4 +1,5 @@
 // Document 01's sizes that a plan is read by.
+
 pub(crate) const LEAST_BRIDGES: usize = 2;
 
 pub(crate) const MOST_BRIDGES: usize = 16;
@@ -14,6 +15,3 @@ pub(crate) const HEADER_BYTES: usize = 3;
 
 // A link's cost in a view.
 pub(crate) const COST_BYTES: usize = 4;
-
-// The events of one list of calls.
-pub(crate) const MOST_EVENTS: usize = 2048;

@@ -7,7 +7,7 @@ use mathlib.Core.List.{List, []}
 use lib.ListN.{length, take, drop, length-append, length-drop}
 use lib.Seq.{take-all, length-take-le, drop-drop}
 use Rattle.runner.specs.Buffers.{Buffers}
-use Rattle.runner.specs.Turns.{Turn}
+use Rattle.runner.specs.Turns.{StepOutcome}
 use Rattle.runner.specs.Plans.{firstRunner, firstBuffers, prints}
 use Rattle.runner.specs.Fills.{buffersWithOut, fillOf}
 use Rattle.runner.specs.declared.Runner.{Runner}
@@ -41,7 +41,7 @@ cond-length true l = refl
 cond-length false l = refl
 
 -- a filling, from a place of a plan that goes on
-pub record Turned (plan : List ℕ) (at printed : ℕ) (t : Turn) : Type 0 where
+pub record Turned (plan : List ℕ) (at printed : ℕ) (t : StepOutcome) : Type 0 where
   pub written : t .written ≤ length (t .buffers .out)
   pub fits : printed + t .written ≤ whole plan
   pub place : Place plan (t .going) (at + t .used) (printed + t .written) (t .runner) (t .buffers)
@@ -51,7 +51,7 @@ module _ (plan : List ℕ) (at printed : ℕ) (r : Runner) (k : Buffers) (p : Pl
   abbrev rest : List ℕ
   rest = drop at plan
 
-  abbrev t : Turn
+  abbrev t : StepOutcome
   t = fillOf r k rest
 
   -- what was to be printed: what was filled, and what is to be printed from there
@@ -84,14 +84,14 @@ module _ (plan : List ℕ) (at printed : ℕ) (r : Runner) (k : Buffers) (p : Pl
       }
 
   -- the part of the plan that is handed on
-  filled-part : (u : Turn) → u ≡ fillOf r k (take (length plan - at) (drop at plan)) → Turned plan at printed u
+  filled-part : (u : StepOutcome) → u ≡ fillOf r k (take (length plan - at) (drop at plan)) → Turned plan at printed u
   filled-part u e =
       let part = take-all (length plan - at) (drop at plan) (omega (arith, length-drop at plan)) in
       subst (Turned plan at printed) (sym (e ∙ ap (fillOf r k) part)) filled
 
 module _ (plan : List ℕ) (going : Bool) (at : ℕ) (on : going ≡ true) where
   pub turned :
-      (printed : ℕ) (r : Runner) (k : Buffers) (u : Turn) → Place plan going at printed r k →
+      (printed : ℕ) (r : Runner) (k : Buffers) (u : StepOutcome) → Place plan going at printed r k →
       u ≡ fillOf r k (take (length plan - at) (drop at plan)) → Turned plan at printed u
   turned printed r k u p = filled-part plan at printed r k (subst (λ (b : Bool). Place plan b at printed r k) on p) u
 
@@ -100,7 +100,7 @@ module _ (plan : List ℕ) (going : Bool) (at : ℕ) (on : going ≡ true) where
 
 -- a write that failed had a byte to write
 pub stopped :
-    (plan : List ℕ) (at printed : ℕ) (u : Turn) → Turned plan at printed u →
+    (plan : List ℕ) (at printed : ℕ) (u : StepOutcome) → Turned plan at printed u →
     (taken : Bool) → taken ≡ false → (taken ≡ false → 0 < length (take (u .written) (u .buffers .out))) → printed < whole plan
 stopped plan at printed u t taken e some = omega (arith, some e, t .fits, length-take-le (u .written) (u .buffers .out) (t .written))
 

@@ -1,6 +1,9 @@
 // A plan read from a descriptor and carried out from its first field to its end. What it prints goes to standard output each time the
 // runner has filled a buffer of fixed size, so it never stands in memory whole.
+use agreement::sizes::LIMITS;
+use bench::sizes::COSTS;
 use libc::STDOUT_FILENO;
+use runner::sizes::LONGEST_PLAN;
 use text::Written;
 ghost use mathlib.Core.Path.{_≡_};
 ghost use mathlib.Core.Bool.{false};
@@ -10,6 +13,12 @@ ghost use lib.Seq.{sets};
 ghost use Rattle.play.specs.Output.{Handed, Played, Within};
 ghost use Rattle.runner.specs.Plans.{firstRunner, firstBuffers, prints, printed};
 ghost use Rattle.text.specs.Lines.{refusedText};
+
+// One byte more than the longest plan, so that a longer one is noticed.
+const READ_BYTES: usize = 61441;
+
+// What waits to be printed.
+const OUT_BYTES: usize = 131072;
 
 // What became of a plan: all that it prints was handed to standard output, so many bytes; or a write failed, and so many had been handed
 // on before it; or the plan could not be read, and nothing was handed on.
@@ -30,7 +39,7 @@ enum Input {
 pub fn play(fd: i32) -> Reply
     ensures { λ r. ⌜ Played r ⌝ }
 {
-    let mut plan = [0u8; 61441];
+    let mut plan = [0u8; READ_BYTES];
     let input = read_plan(fd, &mut plan);
     let Input::Read(n) = input else {
         return Reply::Unread;
@@ -61,8 +70,8 @@ fn read_plan(fd: i32, plan: &mut [u8]) -> Input
 pub fn print(plan: &[u8]) -> Reply
     ensures { λ r. ⌜ Handed r (printed (now (plan .entry))) ⌝ }
 {
-    let mut out = [0u8; 131072];
-    if 61440 < plan.len() {
+    let mut out = [0u8; OUT_BYTES];
+    if LONGEST_PLAN < plan.len() {
         return too_long(&mut out);
     }
     carry_out(plan, &mut out)
@@ -90,9 +99,9 @@ fn carry_out(plan: &[u8], out: &mut [u8]) -> Reply
     requires { ⌜ (length (now plan) ≤ 61440) × (544 ≤ length (now out)) ⌝ }
     ensures { λ r. ⌜ Handed r (prints (suc (length (now (plan .entry)))) firstRunner firstBuffers (now (plan .entry))) ⌝ }
 {
-    let mut costs = [0u32; 1024];
-    let mut sent = [0u32; 1024];
-    let mut held = [0u32; 1024];
+    let mut costs = [0u32; COSTS];
+    let mut sent = [0u32; LIMITS];
+    let mut held = [0u32; LIMITS];
     let mut messages = runner::steps::first_messages();
     let mut r = runner::steps::first();
     let mut at = 0;

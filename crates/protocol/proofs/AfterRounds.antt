@@ -15,7 +15,7 @@ use Rattle.agreement.proofs.Ends.{opposite-opposite, linkOf-opposite, offer-giv
 use Rattle.agreement.specs.Rule.{Reaches, IsChosen, Forwards}
 use Rattle.agreement.proofs.Forwards.{chosen-exists, chosen-is, link-reaches, forwards-open}
 use Rattle.protocol.specs.Net.{Network, distanceIn}
-use Rattle.protocol.specs.Ports.{crosses, hopBy, hop, portOf}
+use Rattle.protocol.specs.Ports.{crosses, hopBy, hop, forwardingPort}
 use Rattle.protocol.proofs.Links.{across-far}
 use Rattle.protocol.proofs.Deliveries.{ToldAt, ClearedAt, OneView}
 
@@ -28,7 +28,7 @@ pub record Ready (n : Network) (t : ℕ) : Type 0 where
 -- bridge y forwards for d over the link of end e, by what t says
 pub record ForwardsOver (n : Network) (t y d e : ℕ) : Type 0 where
   pub by : Forwards (n .plan .graph) (n .plan .costs t) (distanceIn (n .plan) t) (n .records) y d (linkOf e) e
-  pub opens : portOf n y d ≡ Open (linkOf e)
+  pub opens : forwardingPort n y d ≡ Open (linkOf e)
   pub hops : hop n d y ≡ crosses (linkOf e) (farBridge (n .plan .graph) e)
 
 -- the end that bridge y chooses for d in t
@@ -65,7 +65,7 @@ module _ (n : Network) (t : ℕ) (ready : Ready n t) (y d : ℕ) (near : distanc
 
   -- where some end reaches the distance and d is another bridge, y forwards
   forwards-by : (e : ℕ) → y < n .plan .graph .bridges → (y ≡ d → ⊥) → e < 2 * n .plan .graph .links → Reaches (n .plan .graph) (n .plan .costs t) (distanceIn (n .plan) t) y d e → ForwardsOver n t y d (chosenIn n t y d)
-  unfolding portOf hop hopBy
+  unfolding forwardingPort hop hopBy
   forwards-by e there away h r =
       let g : Graph = n .plan .graph in
       let c : Costs = n .plan .costs t in
@@ -86,7 +86,7 @@ module _ (n : Network) (t : ℕ) (ready : Ready n t) (y d : ℕ) (near : distanc
               sent = sent-allows;
             };
       } in
-      let opens : portOf n y d ≡ Open (linkOf k) = rw (ready .oneView .onView y there) (forwards-open g c f (n .records) y d (range .differ) by) in
+      let opens : forwardingPort n y d ≡ Open (linkOf k) = rw (ready .oneView .onView y there) (forwards-open g c f (n .records) y d (range .differ) by) in
       record {
         by = by;
         opens = opens;

@@ -13,7 +13,7 @@ use Rattle.agreement.specs.Offer.{opposite}
 use Rattle.agreement.proofs.Told.{Told, told-by, told-still, cleared-by, cleared-still}
 use Rattle.agreement.proofs.Ends.{opposite-below, bridge-in-range}
 use Rattle.protocol.specs.Net.{Network, Plan, Message, sender, offerIn}
-use Rattle.protocol.specs.Calls.{messageAt, withMessages, delivered, receivedAt}
+use Rattle.protocol.specs.Calls.{messageAt, withMessages, afterDelivery, receivedAt}
 use Rattle.protocol.proofs.Invariant.{Invariant, InvariantBy, far}
 use Rattle.protocol.proofs.Runs.{AllowedStep, moves, delivers}
 
@@ -37,8 +37,8 @@ pub record Current (p : Plan) (number : ℕ → ℕ) (t e : ℕ) (W : Type 0) (x
   pub view : x .agreement .view ≡ t
   pub discarded : W → x .agreement .discarded ≡ number (p .graph .bridgeAt e)
 
-delivered-at : (n : Network) (x : Message) (e : ℕ) → opposite (sender x) ≡ e → delivered n x ≡ receivedAt n e x
-unfolding delivered
+delivered-at : (n : Network) (x : Message) (e : ℕ) → opposite (sender x) ≡ e → afterDelivery n x ≡ receivedAt n e x
+unfolding afterDelivery
 delivered-at n x e q = ap (λ (k : ℕ). receivedAt n k x) q
 
 module _ (n : Network) (t : ℕ) (oneView : OneView n t) where
@@ -94,18 +94,18 @@ module _ (n : Network) (t : ℕ) (oneView : OneView n t) where
           (cleared-by (n .number (n .plan .graph .bridgeAt e)) (n .records .ends e) (x .agreement) (offerIn (n .plan) t e) (n .records .sent e)
           (omega (arith, oneView .invariant .1 .direction e there .received, c .present)) (c .discarded w) d)
 
-      pub told-now : (ms : List Message) → ToldAt (withMessages (delivered n x) ms) t e × (W → ClearedAt (withMessages (delivered n x) ms) t e)
+      pub told-now : (ms : List Message) → ToldAt (withMessages (afterDelivery n x) ms) t e × (W → ClearedAt (withMessages (afterDelivery n x) ms) t e)
       told-now ms =
-          let here : delivered n x ≡ receivedAt n e x = delivered-at n x e (omega (arith, c .from)) in (
+          let here : afterDelivery n x ≡ receivedAt n e x = delivered-at n x e (omega (arith, c .from)) in (
             subst (λ (m : Network). ToldAt m t e) (sym here) newly-told,
             λ w. subst (λ (m : Network). ClearedAt m t e) (sym here) (newly-cleared w),
           )
 
   -- a delivery of a message in flight is to end e, or leaves it as it was
-  by-end : (Q : Network → Type 0) (p e : ℕ) → p < length (n .messages) → (e < 2 * n .plan .graph .links → sender (messageAt n p) ≡ opposite e → Q (receivedAt n e (messageAt n p))) → (eqb e (opposite (sender (messageAt n p))) ≡ false → Q (delivered n (messageAt n p))) → Q (delivered n (messageAt n p))
+  by-end : (Q : Network → Type 0) (p e : ℕ) → p < length (n .messages) → (e < 2 * n .plan .graph .links → sender (messageAt n p) ≡ opposite e → Q (receivedAt n e (messageAt n p))) → (eqb e (opposite (sender (messageAt n p))) ≡ false → Q (afterDelivery n (messageAt n p))) → Q (afterDelivery n (messageAt n p))
   by-end Q p e h here other = go (eqb e (opposite (sender (messageAt n p)))) refl
     where
-      go : (b : Bool) → eqb e (opposite (sender (messageAt n p))) ≡ b → Q (delivered n (messageAt n p))
+      go : (b : Bool) → eqb e (opposite (sender (messageAt n p))) ≡ b → Q (afterDelivery n (messageAt n p))
       go true q =
           let at : opposite (sender (messageAt n p)) ≡ e = sym (eqb-true e (opposite (sender (messageAt n p))) q) in
           rw (delivered-at n (messageAt n p) e at)
@@ -113,7 +113,7 @@ module _ (n : Network) (t : ℕ) (oneView : OneView n t) where
       go false q = other q
 
   pub told-kept : {m : Network} (e : ℕ) → AllowedStep n m → ToldAt n t e → ToldAt m t e
-  unfolding delivered receivedAt
+  unfolding afterDelivery receivedAt
   told-kept e (moves ms) told = told
   told-kept e (delivers p ms h) told =
       by-end (λ m. ToldAt m t e) p e h
@@ -121,7 +121,7 @@ module _ (n : Network) (t : ℕ) (oneView : OneView n t) where
       (λ q. rw q told)
 
   pub cleared-kept : {m : Network} (e : ℕ) → AllowedStep n m → ClearedAt n t e → ClearedAt m t e
-  unfolding delivered receivedAt
+  unfolding afterDelivery receivedAt
   cleared-kept e (moves ms) cleared = cleared
   cleared-kept e (delivers p ms h) cleared =
       by-end (λ m. ClearedAt m t e) p e h (λ there from. cleared-here e there (messageAt n p) cleared) (λ q d. rw q (cleared d))

@@ -13,16 +13,16 @@ use Rattle.agreement.specs.Record.{updated, sentUpdated, heldUpdated, isStale, 
 use Rattle.agreement.specs.Forwarding.{reaches, chosenEnd, isNotDestination, hasPath, isUp, heldSuffices, sentAllows, everySentAllows, conditions, portFrom}
 use Rattle.agreement.specs.Forwarding
 use Rattle.protocol.specs.Net.{PlanInRange, fresh}
-use Rattle.protocol.specs.Calls.{refusal, noSuchBridge, noSuchView, noSuchLink, noNumberLeft, notOnLink, linkCut, noRoom, noMessage, already, changeChecks, checks, refuse, accepted, moved, updatedTo, withCut, endOf, messageOf, sentOver, without, receivedAt, delivered, changed, act, step, run}
-use Rattle.protocol.specs.Ports.{portOf}
-use Rattle.protocol.specs.Rounds.{movedUp, fate, fateBy, orLater, isDelivered, isSendFrom, isSentAndDelivered, hasRound, isChange, hasNoChange}
+use Rattle.protocol.specs.Calls.{refusal, noSuchBridge, noSuchView, noSuchLink, noNumberLeft, notOnLink, linkCut, noRoom, noMessage, already, changeChecks, checks, refuse, accepted, moved, updatedTo, withCut, endOf, messageOf, sentOver, without, receivedAt, afterDelivery, afterChange, act, step, run}
+use Rattle.protocol.specs.Ports.{forwardingPort}
+use Rattle.protocol.specs.Rounds.{movedUp, messageStatus, statusBy, orLater, isDelivered, isSendFrom, isSentAndDelivered, hasRound, isChange, hasNoChange}
 use Rattle.protocol.specs.Demand3.{Settling}
 use Rattle.protocol.specs.Examples.{costsIn, plan}
 use Rattle.protocol.specs.SettlingMet.{before, opening, closing, first, second, start, SettlingCanBeMet}
 
 -- all that computes below
 computing : Bool
-unfolding costsIn before opening closing first second start present joins crossing unjoined joinedBelow relaxed relaxedBelow dist every allBelow firstBelow offer updated sentUpdated heldUpdated isStale isAgreed answer recorded isClearing sentDelivered heldDelivered reaches chosenEnd isNotDestination hasPath isUp heldSuffices sentAllows everySentAllows conditions portFrom Rattle.agreement.specs.Forwarding.port fresh refusal noSuchBridge noSuchView noSuchLink noNumberLeft notOnLink linkCut noRoom noMessage already changeChecks checks refuse accepted moved updatedTo withCut endOf messageOf sentOver without receivedAt delivered changed act step run portOf movedUp fate fateBy orLater isDelivered isSendFrom isSentAndDelivered hasRound isChange hasNoChange
+unfolding costsIn before opening closing first second start present joins crossing unjoined joinedBelow relaxed relaxedBelow dist every allBelow firstBelow offer updated sentUpdated heldUpdated isStale isAgreed answer recorded isClearing sentDelivered heldDelivered reaches chosenEnd isNotDestination hasPath isUp heldSuffices sentAllows everySentAllows conditions portFrom Rattle.agreement.specs.Forwarding.port fresh refusal noSuchBridge noSuchView noSuchLink noNumberLeft notOnLink linkCut noRoom noMessage already changeChecks checks refuse accepted moved updatedTo withCut endOf messageOf sentOver without receivedAt afterDelivery afterChange act step run forwardingPort movedUp messageStatus statusBy orLater isDelivered isSendFrom isSentAndDelivered hasRound isChange hasNoChange
 computing = true
 
 below-three : (P : ℕ → Type 0) → P 0 → P 1 → P 2 → (l : ℕ) → l < 3 → P l

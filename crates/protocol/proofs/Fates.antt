@@ -1,4 +1,4 @@
--- A message followed through calls: while it waits it is the same message, at the place that `fate` says; taken, it is delivered.
+-- A message followed through calls: while it waits it is the same message, at the place that `messageStatus` says; taken, it is delivered.
 -- Assumes nothing.
 use Prim.Native.Nat.{ℕ}
 use native.Mathlib.Omega.{arith}
@@ -9,8 +9,8 @@ use lib.Dec.{eqb}
 use borrow.Author.Tests.{eqb-true, eqb-false}
 use Rattle.distances.proofs.Booleans.{other-false}
 use Rattle.protocol.specs.Net.{Network, Message}
-use Rattle.protocol.specs.Calls.{Call, change, send, deliver, repeat, lose, port, report, path, accepted, messageAt, messageOf, withMessages, without, sentOver, delivered, receivedAt, act, step}
-use Rattle.protocol.specs.Rounds.{Fate, taken, lost, waits, movedUp, fate, fateBy, isChange}
+use Rattle.protocol.specs.Calls.{Call, change, send, deliver, repeat, lose, port, report, path, accepted, messageAt, messageOf, withMessages, without, sentOver, afterDelivery, receivedAt, act, step}
+use Rattle.protocol.specs.Rounds.{MessageStatus, taken, lost, waits, movedUp, messageStatus, statusBy, isChange}
 use Rattle.protocol.proofs.Places.{Stands, stands-before, stands-without}
 use Rattle.protocol.proofs.Runs.{Allowed}
 
@@ -33,7 +33,7 @@ lost-taken e =
     omega arith
 
 -- by a call that takes out place k, where the message itself would have fate f, which is not to wait
-stands-removed : (x : Message) (ms : List Message) (k p q : ℕ) (f : Fate) → (f ≡ waits q → ⊥) → cond (eqb k p) f (waits (movedUp k p)) ≡ waits q → Stands x ms p → Stands x (without k ms) q
+stands-removed : (x : Message) (ms : List Message) (k p q : ℕ) (f : MessageStatus) → (f ≡ waits q → ⊥) → cond (eqb k p) f (waits (movedUp k p)) ≡ waits q → Stands x ms p → Stands x (without k ms) q
 stands-removed x ms k p q f gone e s = go (eqb k p) refl e
   where
     go : (b : Bool) → eqb k p ≡ b → cond b f (waits (movedUp k p)) ≡ waits q → Stands x (without k ms) q
@@ -41,8 +41,8 @@ stands-removed x ms k p q f gone e s = go (eqb k p) refl e
     go false t e = rw (← same-place (movedUp k p) q e) (stands-without x ms k p (eqb-false k p t) s)
 
 module _ (x : Message) where
-  stands-act : (n : Network) (c : Call) (p q : ℕ) → isChange c ≡ false → Stands x (n .messages) p → fate c p ≡ waits q → Stands x (act n c .messages) q
-  unfolding act fate isChange delivered receivedAt sentOver
+  stands-act : (n : Network) (c : Call) (p q : ℕ) → isChange c ≡ false → Stands x (n .messages) p → messageStatus c p ≡ waits q → Stands x (act n c .messages) q
+  unfolding act messageStatus isChange afterDelivery receivedAt sentOver
   stands-act n (change y) p q z s e = absurd (false≢true (sym z))
   stands-act n (send b l) p q z s e = rw (← same-place p q e) (stands-before x (messageOf n b l) (n .messages) p s)
   stands-act n (deliver k) p q z s e =
@@ -59,20 +59,20 @@ module _ (x : Message) where
   stands-act n (path b d) p q z s e = rw (← same-place p q e) s
 
   -- while it waits it is the same message
-  pub stands-step : (n : Network) (c : Call) (p q : ℕ) → Allowed n c → Stands x (n .messages) p → fateBy n c p ≡ waits q → Stands x (step n c .messages) q
-  unfolding step fateBy
+  pub stands-step : (n : Network) (c : Call) (p q : ℕ) → Allowed n c → Stands x (n .messages) p → statusBy n c p ≡ waits q → Stands x (step n c .messages) q
+  unfolding step statusBy
   stands-step n c p q h s e = go (accepted n c) refl e
     where
-      go : (b : Bool) → accepted n c ≡ b → cond b (fate c p) (waits p) ≡ waits q → Stands x (cond b (act n c) n .messages) q
+      go : (b : Bool) → accepted n c ≡ b → cond b (messageStatus c p) (waits p) ≡ waits q → Stands x (cond b (act n c) n .messages) q
       go true a e = stands-act n c p q (other-false (isChange c) (accepted n c) h a) s e
       go false a e = rw (← same-place p q e) s
 
   -- the network after a call by which x is delivered
   abbrev pub DeliveredBy : Network → Network → Type 0
-  DeliveredBy n m = (ms : List Message) × (m ≡ withMessages (delivered n x) ms)
+  DeliveredBy n m = (ms : List Message) × (m ≡ withMessages (afterDelivery n x) ms)
 
-  taken-act : (n : Network) (c : Call) (p : ℕ) → messageAt n p ≡ x → fate c p ≡ taken → DeliveredBy n (act n c)
-  unfolding act fate
+  taken-act : (n : Network) (c : Call) (p : ℕ) → messageAt n p ≡ x → messageStatus c p ≡ taken → DeliveredBy n (act n c)
+  unfolding act messageStatus
   taken-act n (change y) p w e = absurd (taken-waits p (sym e))
   taken-act n (send b l) p w e = absurd (taken-waits p (sym e))
   taken-act n (deliver k) p w e = go (eqb k p) refl e
@@ -83,7 +83,7 @@ module _ (x : Message) where
   taken-act n (repeat k) p w e = go (eqb k p) refl e
     where
       go : (b : Bool) → eqb k p ≡ b → cond b taken (waits p) ≡ taken → DeliveredBy n (act n (repeat k))
-      go true t e = (delivered n x .messages, rw (eqb-true k p t, w))
+      go true t e = (afterDelivery n x .messages, rw (eqb-true k p t, w))
       go false t e = absurd (taken-waits p (sym e))
   taken-act n (lose k) p w e = go (eqb k p) e
     where
@@ -95,10 +95,10 @@ module _ (x : Message) where
   taken-act n (path b d) p w e = absurd (taken-waits p (sym e))
 
   -- taken, it is delivered
-  pub taken-step : (n : Network) (c : Call) (p : ℕ) → messageAt n p ≡ x → fateBy n c p ≡ taken → DeliveredBy n (step n c)
-  unfolding step fateBy
+  pub taken-step : (n : Network) (c : Call) (p : ℕ) → messageAt n p ≡ x → statusBy n c p ≡ taken → DeliveredBy n (step n c)
+  unfolding step statusBy
   taken-step n c p w e = go (accepted n c) e
     where
-      go : (b : Bool) → cond b (fate c p) (waits p) ≡ taken → DeliveredBy n (cond b (act n c) n)
+      go : (b : Bool) → cond b (messageStatus c p) (waits p) ≡ taken → DeliveredBy n (cond b (act n c) n)
       go true e = taken-act n c p w e
       go false e = absurd (taken-waits p (sym e))

@@ -11,7 +11,7 @@ use Rattle.agreement.proofs.Ends.{opposite-below, bridge-in-range}
 use Rattle.agreement.specs.Rule.{Forwards}
 use Rattle.agreement.proofs.Forwards.{open-forwards}
 use Rattle.protocol.specs.Net.{Network, distanceIn}
-use Rattle.protocol.specs.Ports.{crosses, ownDistance, portOf, across, hopBy, hop}
+use Rattle.protocol.specs.Ports.{crosses, ownDistance, forwardingPort, across, hopBy, hop}
 use Rattle.protocol.proofs.Invariant.{InvariantBy, far}
 use Rattle.protocol.proofs.Links.{across-far}
 
@@ -20,8 +20,8 @@ module _ (n : Network) where
   abbrev pub ForwardsBy : ℕ → ℕ → ℕ → ℕ → Type 0
   ForwardsBy y d l e = Forwards (n .plan .graph) (n .plan .costs (n .view y)) (distanceIn (n .plan) (n .view y)) (n .records) y d l e
 
-  pub port-forwards : (y d l : ℕ) → portOf n y d ≡ Open l → (e : ℕ) × ForwardsBy y d l e
-  unfolding portOf
+  pub port-forwards : (y d l : ℕ) → forwardingPort n y d ≡ Open l → (e : ℕ) × ForwardsBy y d l e
+  unfolding forwardingPort
   port-forwards y d l e = (_, open-forwards _ _ _ _ y d l e)
 
   -- the bridge across the link is the far one of the end
@@ -34,11 +34,11 @@ module _ (n : Network) where
   below-none y d some = omega (arith, dist-le-none (n .plan .graph) (n .plan .costs (n .view y)) y d)
 
   -- a frame crosses a link only by the forwarding port
-  pub hop-crosses : (d y l z : ℕ) → hop n d y ≡ crosses l z → (portOf n y d ≡ Open l) × (across (n .plan .graph) l y ≡ z)
+  pub hop-crosses : (d y l z : ℕ) → hop n d y ≡ crosses l z → (forwardingPort n y d ≡ Open l) × (across (n .plan .graph) l y ≡ z)
   unfolding hop hopBy
-  hop-crosses d y l z = go (portOf n y d) refl
+  hop-crosses d y l z = go (forwardingPort n y d) refl
     where
-      go : (p : Port) → portOf n y d ≡ p → hopBy (n .plan .graph) y p ≡ crosses l z → (portOf n y d ≡ Open l) × (across (n .plan .graph) l y ≡ z)
+      go : (p : Port) → forwardingPort n y d ≡ p → hopBy (n .plan .graph) y p ≡ crosses l z → (forwardingPort n y d ≡ Open l) × (across (n .plan .graph) l y ≡ z)
       go Closed e c = absurd (let z : _≡_ {A = ℕ} 0 1 = cc in omega arith)
       go (Open k) e c = let same : k ≡ l = cc in (cc, rw (← same) (cc))
 

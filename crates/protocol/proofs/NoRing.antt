@@ -12,7 +12,7 @@ use Rattle.agreement.specs.declared.Port.the-variants.{Open}
 use Rattle.agreement.proofs.Directions.{counted}
 use Rattle.agreement.proofs.Ends.{linkOf-opposite, opposite-below}
 use Rattle.protocol.specs.Net.{Network}
-use Rattle.protocol.specs.Ports.{Hop, stays, crosses, ownDistance, portOf, hop, Trail, stay, cross, NoRing}
+use Rattle.protocol.specs.Ports.{Hop, stays, crosses, ownDistance, forwardingPort, hop, Trail, stay, cross, NoRing}
 use Rattle.protocol.proofs.Invariant.{Invariant, HoldsNone, HoldsView, CountsView, far}
 use Rattle.protocol.proofs.Hops.{port-forwards, below-none, hop-crosses, hop-end}
 
@@ -26,7 +26,7 @@ rank n d y = rankBy (ownDistance n y d) (hop n d y)
 
 module _ (n : Network) (inv : Invariant n) (d : ℕ) where
   -- of any end whose held limit is at most x, and whose link is not cut: if the far bridge forwards, its distance is below x
-  falls : (e x l : ℕ) → e < 2 * n .plan .graph .links → n .records .cut (linkOf e) ≡ false → heldLimit (n .records .ends e) (n .records .held e) d ≤ x → x < NONE → portOf n (far n e) d ≡ Open l → ownDistance n (far n e) d < x
+  falls : (e x l : ℕ) → e < 2 * n .plan .graph .links → n .records .cut (linkOf e) ≡ false → heldLimit (n .records .ends e) (n .records .held e) d ≤ x → x < NONE → forwardingPort n (far n e) d ≡ Open l → ownDistance n (far n e) d < x
   unfolding ownDistance
   falls e x l listed up low some is = go (counted (inv .1 .direction e listed))
     where
@@ -51,7 +51,7 @@ module _ (n : Network) (inv : Invariant n) (d : ℕ) where
       subst (λ (x : ℕ). ownDistance n x d < ownDistance n y d) (by .2)
       (falls (by .0) (ownDistance n y d) l′ (by .1 .chosen .listed) (by .1 .allowed .up) (by .1 .allowed .held)
       (below-none n y d (by .1 .allowed .hasPath))
-      (subst (λ (x : ℕ). portOf n x d ≡ Open l′) (sym (by .2)) (hop-crosses n d z l′ w second .0)))
+      (subst (λ (x : ℕ). forwardingPort n x d ≡ Open l′) (sym (by .2)) (hop-crosses n d z l′ w second .0)))
 
   pub rank-falls : (y l z : ℕ) → hop n d y ≡ crosses l z → rank n d z < rank n d y
   unfolding rank rankBy

@@ -13,7 +13,7 @@ use Rattle.agreement.proofs.Direction.{InFlight}
 use Rattle.agreement.proofs.Directions.{recorded-grows, flight-kept}
 use Rattle.agreement.proofs.Ends.{opposite-opposite, opposite-below, bridge-in-range}
 use Rattle.protocol.specs.Net.{Network, Message, offerIn, sender}
-use Rattle.protocol.specs.Calls.{receivedAt, delivered, messageAt}
+use Rattle.protocol.specs.Calls.{receivedAt, afterDelivery, messageAt}
 use Rattle.protocol.proofs.Invariant.{InvariantBy, far}
 use Rattle.protocol.proofs.Sides.{Side, own-received, far-received}
 use Rattle.protocol.proofs.SoundMessages.{Sound}
@@ -80,8 +80,8 @@ module _ (n : Network) {h : ℕ → ℕ → ℕ} (inv : InvariantBy n h) (e : �
       }
 
 -- a message in flight, delivered to the end opposite to its sender
-pub kept-delivered : (n : Network) {h : ℕ → ℕ → ℕ} → InvariantBy n h → (m : Message) → Sound n h m → InvariantBy (delivered n m) h
-unfolding delivered
+pub kept-delivered : (n : Network) {h : ℕ → ℕ → ℕ} → InvariantBy n h → (m : Message) → Sound n h m → InvariantBy (afterDelivery n m) h
+unfolding afterDelivery
 kept-delivered n {h} inv m sound =
     kept-received n inv (opposite (sender m)) (omega arith) m
     (subst (λ (x : ℕ). InFlight (h (n .plan .graph .bridgeAt x)) (n .number (n .plan .graph .bridgeAt x)) (n .records .ends x) (m .agreement)) (sym (opposite-opposite (sender m))) (sound .flight))

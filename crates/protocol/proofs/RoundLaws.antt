@@ -16,7 +16,7 @@ use Rattle.agreement.specs.Offer.{linkOf, opposite}
 use Rattle.agreement.proofs.Ends.{opposite-opposite, opposite-below, linkOf-opposite}
 use Rattle.protocol.specs.Net.{Network, Message}
 use Rattle.protocol.specs.Calls.{Call, change, send, deliver, repeat, lose, port, report, path, accepted, endOf, messageOf, sentOver, act, step, run}
-use Rattle.protocol.specs.Rounds.{Fate, taken, lost, waits, fateBy, orLater, isDelivered, isSendFrom, isSentAndDelivered, hasRound, hasNoChange}
+use Rattle.protocol.specs.Rounds.{MessageStatus, taken, lost, waits, statusBy, orLater, isDelivered, isSendFrom, isSentAndDelivered, hasRound, hasNoChange}
 use Rattle.protocol.proofs.Links.{end-of-link}
 use Rattle.protocol.proofs.Accepted.{SendListed, send-listed}
 use Rattle.protocol.proofs.Steps.{invariant-step}
@@ -83,7 +83,7 @@ module _ (t : ℕ) where
     unfolding isDelivered orLater run
     heard-by x n [] p h oneView stands current q = absurd (false≢true q)
     heard-by x n (c ∷ cs) p h oneView stands current q =
-        go (fateBy n c p) refl (heard-by x (step n c) cs) q
+        go (statusBy n c p) refl (heard-by x (step n c) cs) q
       where
         allowed : Allowed n c
         allowed = first-allowed n c cs h
@@ -91,7 +91,7 @@ module _ (t : ℕ) where
         Later : Type 0
         Later = (p : ℕ) → hasNoChange (step n c) cs ≡ true → OneView (step n c) t → Stands x (step n c .messages) p → Current (step n c .plan) (step n c .number) t e W x → isDelivered (step n c) cs p ≡ true → Heard t e W (run (step n c) cs)
 
-        go : (f : Fate) → fateBy n c p ≡ f → Later → orLater (isDelivered (step n c) cs) f ≡ true → Heard t e W (run (step n c) cs)
+        go : (f : MessageStatus) → statusBy n c p ≡ f → Later → orLater (isDelivered (step n c) cs) f ≡ true → Heard t e W (run (step n c) cs)
         go taken f later q =
             let by = taken-step x n c p (stands .1) f in
             heard-run (step n c) cs (rest-allowed n c cs h) (oneView-step n c allowed oneView)

@@ -8,7 +8,7 @@ use lib.ListN.{length}
 use lib.Dec.{eqb}
 use Rattle.distances.proofs.Booleans.{both-true, true-both, other-false}
 use Rattle.protocol.specs.Net.{Network, Plan, Message}
-use Rattle.protocol.specs.Calls.{Call, Change, change, update, cut, restore, send, deliver, repeat, lose, port, report, path, checks, accepted, messageAt, withMessages, without, sentOver, delivered, receivedAt, updatedTo, moved, withCut, changed, act, step, run}
+use Rattle.protocol.specs.Calls.{Call, Change, change, update, cut, restore, send, deliver, repeat, lose, port, report, path, checks, accepted, messageAt, withMessages, without, sentOver, afterDelivery, receivedAt, updatedTo, moved, withCut, afterChange, act, step, run}
 use Rattle.protocol.specs.Rounds.{isChange, hasNoChange}
 use Rattle.protocol.proofs.Accepted.{accepted-checks, place-listed}
 
@@ -25,10 +25,10 @@ every-run P kept n (c ∷ cs) p = every-run P kept (step n c) cs (kept n c p)
 
 -- the plan stays
 pub plan-step : (n : Network) (c : Call) → step n c .plan ≡ n .plan
-unfolding step act changed updatedTo moved withCut delivered receivedAt sentOver
+unfolding step act afterChange updatedTo moved withCut afterDelivery receivedAt sentOver
 plan-step n c = go (accepted n c)
   where
-    changes : (x : Change) → changed n x .plan ≡ n .plan
+    changes : (x : Change) → afterChange n x .plan ≡ n .plan
     changes (update b t) = by (eqb (n .view b) t)
       where
         by : (b′ : Bool) → cond b′ n (moved n b t) .plan ≡ n .plan
@@ -57,10 +57,10 @@ plan-run n cs = every-run (λ m. m .plan ≡ n .plan) (λ m c e. plan-step m c �
 -- what a call that settling allows makes of n: other messages, and perhaps the message at a place is delivered
 pub data AllowedStep (n : Network) : Network → Type 0 where
   moves : (ms : List Message) → AllowedStep n (withMessages n ms)
-  delivers : (p : ℕ) (ms : List Message) → p < length (n .messages) → AllowedStep n (withMessages (delivered n (messageAt n p)) ms)
+  delivers : (p : ℕ) (ms : List Message) → p < length (n .messages) → AllowedStep n (withMessages (afterDelivery n (messageAt n p)) ms)
 
 allowed-act : (n : Network) (c : Call) → accepted n c ≡ true → isChange c ≡ false → AllowedStep n (act n c)
-unfolding act isChange checks delivered receivedAt sentOver
+unfolding act isChange checks afterDelivery receivedAt sentOver
 allowed-act n (change x) a e = absurd (false≢true (sym e))
 allowed-act n (send b l) a e = moves (sentOver n b l .messages)
 allowed-act n (deliver p) a e = delivers p (without p (n .messages)) (place-listed n p _ (accepted-checks n (deliver p) a))
@@ -112,7 +112,7 @@ abbrev pub Of : Fixed → Network → Type 0
 Of P n = P (n .plan) (n .view) (n .number) (n .records .cut)
 
 pub fixed-step : (P : Fixed) {n m : Network} → AllowedStep n m → Of P n → Of P m
-unfolding delivered receivedAt
+unfolding afterDelivery receivedAt
 fixed-step P (moves ms) p = p
 fixed-step P (delivers q ms h) p = p
 

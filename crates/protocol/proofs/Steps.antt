@@ -5,7 +5,7 @@ use mathlib.Core.Bool.{Bool, true, false, cond}
 use mathlib.Core.List.{List}
 use lib.Dec.{eqb}
 use Rattle.protocol.specs.Net.{Network, Plan, PlanInRange, fresh}
-use Rattle.protocol.specs.Calls.{Call, Change, change, send, deliver, repeat, lose, port, report, path, update, cut, restore, checks, accepted, withCut, moved, updatedTo, changed, act, step, run, receivedAt, delivered, messageAt}
+use Rattle.protocol.specs.Calls.{Call, Change, change, send, deliver, repeat, lose, port, report, path, update, cut, restore, checks, accepted, withCut, moved, updatedTo, afterChange, act, step, run, receivedAt, afterDelivery, messageAt}
 use Rattle.protocol.proofs.Invariant.{Invariant, InvariantBy}
 use Rattle.protocol.proofs.Accepted.{accepted-checks, update-listed, place-listed, send-listed}
 use Rattle.protocol.proofs.Runs.{every-run}
@@ -39,18 +39,18 @@ module _ (n : Network) where
       go false = (movedHistory n b t h, kept-moved n inv b t isView)
 
   kept-change : (c : Change) → accepted n (change c) ≡ true → Invariant n → Invariant (act n (change c))
-  unfolding act changed
+  unfolding act afterChange
   kept-change (update b t) e inv = kept-update (inv .0) (inv .1) b t (update-listed n b t e .view)
   kept-change (cut l) e inv = (inv .0, kept-cut (inv .1) l true)
   kept-change (restore l) e inv = (inv .0, kept-cut (inv .1) l false)
 
   kept-act : (c : Call) → accepted n c ≡ true → Invariant n → Invariant (act n c)
-  unfolding checks act delivered receivedAt
+  unfolding checks act afterDelivery receivedAt
   kept-act (change c) e inv = kept-change c e inv
   kept-act (send b l) e inv = (inv .0, kept-sent n (inv .1) b l (send-listed n b l e))
   kept-act (deliver p) e inv =
       let sound = each-sound n (inv .1) p (place-listed n p _ (accepted-checks n (deliver p) e)) in
-      (inv .0, kept-without (delivered n (messageAt n p)) (kept-delivered n (inv .1) (messageAt n p) sound) p)
+      (inv .0, kept-without (afterDelivery n (messageAt n p)) (kept-delivered n (inv .1) (messageAt n p) sound) p)
   kept-act (repeat p) e inv = (inv .0, kept-delivered n (inv .1) (messageAt n p) (each-sound n (inv .1) p (place-listed n p _ (accepted-checks n (repeat p) e))))
   kept-act (lose p) e inv = (inv .0, kept-without n (inv .1) p)
   kept-act (port b d) e inv = inv

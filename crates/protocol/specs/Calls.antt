@@ -1,5 +1,5 @@
 -- The calls, what turns each down, and what each does (document 01, "Events" and "Where input is turned down"). Assumes nothing.
-use Prim.Native.Nat.{ℕ, zero, suc, _+_, _*_, _/_, _%_}
+use Prim.Native.Nat.{ℕ, suc, _+_, _*_, _%_}
 use mathlib.Core.Bool.{Bool, true, false, cond, _&&_, _||_, not}
 use mathlib.Core.List.{List, [], _∷_, _++_}
 use lib.ListN.{length, getD, take, drop}
@@ -8,12 +8,12 @@ use Rattle.distances.specs.View.{Graph}
 -- the table of refusals: a row is a condition and its number; the first that applies
 pub use Rattle.distances.specs.Refusal.{Check}
 unfoldable pub use Rattle.distances.specs.Refusal.{refusal}
-use Rattle.agreement.specs.Offer.{linkOf, opposite}
+use Rattle.agreement.specs.Offer.{opposite}
 use Rattle.agreement.specs.Record.{carried, updated, sentUpdated, heldUpdated, answer, recorded, sentDelivered, heldDelivered}
 use Rattle.agreement.specs.Forwarding.{Records}
 use Rattle.agreement.specs.declared.Answer.{Answer}
 use Rattle.agreement.specs.declared.EndRecord.{EndRecord}
-use Rattle.protocol.specs.Net.{Network, Plan, Message, sender, offerIn}
+use Rattle.protocol.specs.Net.{Network, Message, sender, offerIn}
 
 -- update b t, cut l, restore l: those that the settling statement bars
 pub data Change : Type 0 where
@@ -164,7 +164,7 @@ answerTo n e m = answer (n .view (n .plan .graph .bridgeAt e)) (n .records .ends
 abbrev pub answerAt : Network → ℕ → Answer
 answerAt n p = answerTo n (opposite (sender (messageAt n p))) (messageAt n p)
 
--- Delivery of message m to the end opposite to its sender
+-- Message m at end e
 unfoldable pub receivedAt : Network → ℕ → Message → Network
 receivedAt n e m =
     let b : ℕ = n .plan .graph .bridgeAt e in
@@ -183,20 +183,21 @@ receivedAt n e m =
           (n .records .held k);
     })
 
-unfoldable pub delivered : Network → Message → Network
-delivered n m = receivedAt n (opposite (sender m)) m
+-- Delivery of message m, at the end opposite to its sender
+unfoldable pub afterDelivery : Network → Message → Network
+afterDelivery n m = receivedAt n (opposite (sender m)) m
 
 -- what an accepted call makes of the network
-unfoldable pub changed : Network → Change → Network
-changed n (update b t) = updatedTo n b t
-changed n (cut l) = withCut n l true
-changed n (restore l) = withCut n l false
+unfoldable pub afterChange : Network → Change → Network
+afterChange n (update b t) = updatedTo n b t
+afterChange n (cut l) = withCut n l true
+afterChange n (restore l) = withCut n l false
 
 unfoldable pub act : Network → Call → Network
-act n (change x) = changed n x
+act n (change x) = afterChange n x
 act n (send b l) = sentOver n b l
-act n (deliver p) = withMessages (delivered n (messageAt n p)) (without p (n .messages))
-act n (repeat p) = delivered n (messageAt n p)
+act n (deliver p) = withMessages (afterDelivery n (messageAt n p)) (without p (n .messages))
+act n (repeat p) = afterDelivery n (messageAt n p)
 act n (lose p) = withMessages n (without p (n .messages))
 act n (port b d) = n
 act n (report d) = n

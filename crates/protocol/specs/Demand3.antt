@@ -1,16 +1,15 @@
 -- Demand 3 (document 01, "Whole lists"): one claim about every list of calls from the fresh network. Assumes nothing.
-use Prim.Native.Nat.{ℕ, _-_, _<_, _≤_}
+use Prim.Native.Nat.{ℕ, _<_, _≤_, _-_}
 use mathlib.Core.Path.{_≡_}
-use mathlib.Core.Bool.{Bool, true}
+use mathlib.Core.Bool.{true}
 use mathlib.Core.List.{List, _++_}
 use lib.ListN.{length}
 use Rattle.distances.specs.View.{NONE}
 use Rattle.distances.specs.Meaning.{total}
-use Rattle.agreement.specs.declared.Port.{Port}
 use Rattle.agreement.specs.declared.Port.the-variants.{Open}
 use Rattle.protocol.specs.Net.{Network, Plan, PlanInRange, fresh, distanceIn}
 use Rattle.protocol.specs.Calls.{Call, run}
-use Rattle.protocol.specs.Ports.{NoRing, portOf}
+use Rattle.protocol.specs.Ports.{NoRing, forwardingPort}
 use Rattle.protocol.specs.Paths.{path, delivered, hops, EndsByItself, linksCrossed}
 use Rattle.protocol.specs.Rounds.{hasRound, hasNoChange}
 
@@ -25,7 +24,7 @@ pub record Settling (n : Network) (t : ℕ) (xs ys : List Call) : Type 0 where
 
 -- bridge y forwards for d, its path is delivered, and the costs in t of the links that it crosses add up to its distance in t
 pub record Settled (n : Network) (t y d : ℕ) : Type 0 where
-  pub forwards : (l : ℕ) × (portOf n y d ≡ Open l)
+  pub forwards : (l : ℕ) × (forwardingPort n y d ≡ Open l)
   pub arrives : (h : ℕ) × (path n y d ≡ delivered h)
   pub shortest : total (n .plan .costs t) (linksCrossed n y d) ≡ distanceIn (n .plan) t y d
 

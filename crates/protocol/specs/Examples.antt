@@ -10,7 +10,7 @@ use Rattle.agreement.specs.declared.Port.{Port}
 use Rattle.agreement.specs.declared.Port.the-variants.{Closed, Open}
 use Rattle.protocol.specs.Net.{Network, Plan, fresh}
 use Rattle.protocol.specs.Calls.{Call, change, update, cut, send, deliver, run, messageAt, answerAt}
-use Rattle.protocol.specs.Ports.{portOf, ownDistance}
+use Rattle.protocol.specs.Ports.{forwardingPort, ownDistance}
 use Rattle.protocol.specs.Paths.{Way, delivered, stops, path}
 
 -- the triangle with its two views
@@ -51,9 +51,9 @@ abbrev pub linkUsed : Port → ℕ
 linkUsed Closed = NONE
 linkUsed (Open l) = l
 
-abbrev pub wayNumbers : Way → List ℕ
-wayNumbers (delivered h) = 0 ∷ h ∷ []
-wayNumbers (stops b h) = 1 ∷ b ∷ h ∷ []
+abbrev pub exampleNumbers : Way → List ℕ
+exampleNumbers (delivered h) = 0 ∷ h ∷ []
+exampleNumbers (stops b h) = 1 ∷ b ∷ h ∷ []
 
 abbrev pub answerNumber : Answer → ℕ
 answerNumber Stale = 0
@@ -62,10 +62,10 @@ answerNumber (Noted number view) = 2
 
 -- for destination 0
 abbrev pub uses : List Call → ℕ → ℕ
-uses cs y = linkUsed (portOf (after cs) y 0)
+uses cs y = linkUsed (forwardingPort (after cs) y 0)
 
 abbrev pub way : List Call → ℕ → List ℕ
-way cs y = wayNumbers (path (after cs) y 0)
+way cs y = exampleNumbers (path (after cs) y 0)
 
 abbrev pub answered : List Call → ℕ → ℕ
 answered cs p = answerNumber (answerAt (after cs) p)

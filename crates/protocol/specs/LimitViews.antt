@@ -15,21 +15,21 @@ use Rattle.protocol.specs.Net.{Network, Plan, sender, offerIn, fresh}
 use Rattle.protocol.specs.Calls.{Call, change, update, cut, restore, send, deliver, repeat, lose, port, report, path, accepted, messageAt, step, run}
 
 -- what a call brings to an end: its bridge moves to another view, it receives a message, or neither
-pub data Brought : Type 0 where
-  movesTo : ℕ → Brought
-  receives : Agreement → Brought
-  nothing : Brought
+pub data EndEffect : Type 0 where
+  movesTo : ℕ → EndEffect
+  receives : Agreement → EndEffect
+  nothing : EndEffect
 
 -- "Update" of bridge b to view t: "If t is the present view, nothing changes"
-unfoldable pub updateBrings : Network → ℕ → ℕ → ℕ → Brought
+unfoldable pub updateBrings : Network → ℕ → ℕ → ℕ → EndEffect
 updateBrings n e b t = cond (eqb (n .plan .graph .bridgeAt e) b && not (eqb (n .view b) t)) (movesTo t) nothing
 
 -- delivery of the message at place p, to the end opposite to its sender
-unfoldable pub deliveryBrings : Network → ℕ → ℕ → Brought
+unfoldable pub deliveryBrings : Network → ℕ → ℕ → EndEffect
 deliveryBrings n e p = cond (eqb e (opposite (sender (messageAt n p)))) (receives (messageAt n p .agreement)) nothing
 
 -- an accepted call at end e; a refused one brings nothing
-unfoldable pub acceptedBrings : Network → ℕ → Call → Brought
+unfoldable pub acceptedBrings : Network → ℕ → Call → EndEffect
 acceptedBrings n e (change (update b t)) = updateBrings n e b t
 acceptedBrings n e (change (cut l)) = nothing
 acceptedBrings n e (change (restore l)) = nothing
@@ -41,7 +41,7 @@ acceptedBrings n e (port b d) = nothing
 acceptedBrings n e (report d) = nothing
 acceptedBrings n e (path s d) = nothing
 
-unfoldable pub brings : Network → ℕ → Call → Brought
+unfoldable pub brings : Network → ℕ → Call → EndEffect
 brings n e c = cond (accepted n c) (acceptedBrings n e c) nothing
 
 -- "the views since the last clearing": the one at the clearing, and each that the bridge moved to since
@@ -62,7 +62,7 @@ freshViews = record { since = only 0; held = none }
 -- A move to view t: t is one more view; "At each link end whose last received view is t, t becomes the one held view".
 -- A message that is not stale: where "its discarded number equals the receiver's own agreement number" it clears, and the present view
 -- alone is left; "When agreed, that view becomes the one held"
-unfoldable pub viewsAfter : Network → ℕ → Brought → EndViews → EndViews
+unfoldable pub viewsAfter : Network → ℕ → EndEffect → EndViews → EndViews
 viewsAfter n e (movesTo t) v =
     record { since = also (v .since) t; held = cond (eqb (n .records .ends e .view) t) (some t) (v .held) }
 viewsAfter n e (receives m) v =

@@ -1,14 +1,13 @@
 -- The network with its views, records, cuts and messages in flight (document 01, "Network and views", "Records of a bridge").
 -- Assumes nothing.
 use Prim.Native.Nat.{ℕ, _+_, _*_, _<_, _≤_}
-use mathlib.Core.Bool.{Bool, false}
+use mathlib.Core.Bool.{false}
 use mathlib.Core.List.{List, []}
 use Rattle.distances.specs.View.{Graph, Costs, NONE, InRange, CostsInRange}
 use Rattle.distances.specs.Distance.{dist}
 use Rattle.agreement.specs.Offer.{offer}
 use Rattle.agreement.specs.Record.{freshRecord}
 use Rattle.agreement.specs.Forwarding.{Records}
-use Rattle.agreement.specs.declared.EndRecord.{EndRecord}
 use Rattle.agreement.specs.declared.Agreement.{Agreement}
 
 -- a message in flight: its link, its direction (0 from end 2 l, 1 from end 2 l + 1), and what the send put in

@@ -1,5 +1,5 @@
 -- The forwarding ports of a network, and where a frame goes by them (document 01, "Forwarding"). Assumes nothing.
-use Prim.Native.Nat.{ℕ, zero, suc, _*_, _+_}
+use Prim.Native.Nat.{ℕ, suc, _*_, _+_}
 use mathlib.Core.Path.{_≡_}
 use mathlib.Core.Bool.{cond}
 use lib.Dec.{eqb}
@@ -14,8 +14,8 @@ unfoldable pub ownDistance : Network → ℕ → ℕ → ℕ
 ownDistance n y d = distanceIn (n .plan) (n .view y) y d
 
 -- the forwarding port of y for d
-unfoldable pub portOf : Network → ℕ → ℕ → Port
-portOf n y d = port (n .plan .graph) (n .plan .costs (n .view y)) (distanceIn (n .plan) (n .view y)) (n .records) y d
+unfoldable pub forwardingPort : Network → ℕ → ℕ → Port
+forwardingPort n y d = port (n .plan .graph) (n .plan .costs (n .view y)) (distanceIn (n .plan) (n .view y)) (n .records) y d
 
 -- where a frame for d goes from a bridge: it stays, or it crosses a link to another bridge
 pub data Hop : Type 0 where
@@ -32,7 +32,7 @@ hopBy g y Closed = stays
 hopBy g y (Open l) = crosses l (across g l y)
 
 unfoldable pub hop : Network → ℕ → ℕ → Hop
-hop n d y = hopBy (n .plan .graph) y (portOf n y d)
+hop n d y = hopBy (n .plan .graph) y (forwardingPort n y d)
 
 -- from one bridge, by k hops, to another
 pub data Trail (n : Network) (d : ℕ) : ℕ → ℕ → ℕ → Type 0 where

@@ -1,6 +1,6 @@
 -- Rounds within a list of calls (document 01, "Events", last part). A message is named by its place, followed through later calls.
 -- Assumes nothing.
-use Prim.Native.Nat.{ℕ, suc, _+_, _-_, _*_}
+use Prim.Native.Nat.{ℕ, _+_, _*_, _-_}
 use mathlib.Core.Bool.{Bool, true, false, cond, _&&_, _||_, not}
 use mathlib.Core.List.{List, [], _∷_}
 use lib.ListN.{length}
@@ -10,30 +10,30 @@ use Rattle.protocol.specs.Net.{Network}
 use Rattle.protocol.specs.Calls.{Call, change, send, deliver, repeat, lose, port, report, path, accepted, step, endOf}
 
 -- what becomes of a message by a call: it is delivered (and may stay in), it is lost, or it waits, perhaps at another place
-pub data Fate : Type 0 where
-  taken lost : Fate
-  waits : ℕ → Fate
+pub data MessageStatus : Type 0 where
+  taken lost : MessageStatus
+  waits : ℕ → MessageStatus
 
 -- later ones move up by one
 unfoldable pub movedUp : ℕ → ℕ → ℕ
 movedUp q p = cond (ltb q p) (p - 1) p
 
 -- of the message at place p, by an accepted call
-unfoldable pub fate : Call → ℕ → Fate
-fate (change x) p = waits p
-fate (send b l) p = waits p
-fate (deliver q) p = cond (eqb q p) taken (waits (movedUp q p))
-fate (repeat q) p = cond (eqb q p) taken (waits p)
-fate (lose q) p = cond (eqb q p) lost (waits (movedUp q p))
-fate (port b d) p = waits p
-fate (report d) p = waits p
-fate (path s d) p = waits p
+unfoldable pub messageStatus : Call → ℕ → MessageStatus
+messageStatus (change x) p = waits p
+messageStatus (send b l) p = waits p
+messageStatus (deliver q) p = cond (eqb q p) taken (waits (movedUp q p))
+messageStatus (repeat q) p = cond (eqb q p) taken (waits p)
+messageStatus (lose q) p = cond (eqb q p) lost (waits (movedUp q p))
+messageStatus (port b d) p = waits p
+messageStatus (report d) p = waits p
+messageStatus (path s d) p = waits p
 
 -- by any call: a refused one leaves it where it is
-unfoldable pub fateBy : Network → Call → ℕ → Fate
-fateBy n c p = cond (accepted n c) (fate c p) (waits p)
+unfoldable pub statusBy : Network → Call → ℕ → MessageStatus
+statusBy n c p = cond (accepted n c) (messageStatus c p) (waits p)
 
-unfoldable pub orLater : (ℕ → Bool) → Fate → Bool
+unfoldable pub orLater : (ℕ → Bool) → MessageStatus → Bool
 orLater later taken = true
 orLater later lost = false
 orLater later (waits q) = later q
@@ -41,7 +41,7 @@ orLater later (waits q) = later q
 -- the message at place p is delivered by some accepted deliver or repeat of the list
 unfoldable pub isDelivered : Network → List Call → ℕ → Bool
 isDelivered n [] p = false
-isDelivered n (c ∷ cs) p = orLater (isDelivered (step n c) cs) (fateBy n c p)
+isDelivered n (c ∷ cs) p = orLater (isDelivered (step n c) cs) (statusBy n c p)
 
 -- the call is an accepted send from end e
 unfoldable pub isSendFrom : Network → ℕ → Call → Bool

@@ -6,7 +6,7 @@ use Rattle.agreement.specs.declared.Answer.the-variants.{Stale}
 use Rattle.agreement.specs.declared.Port.the-variants.{Open}
 use Rattle.protocol.specs.Net.{Network, PlanInRange, distanceIn, fresh}
 use Rattle.protocol.specs.Calls.{Call, change, update, cut, send, deliver, repeat, lose, answerAt, run}
-use Rattle.protocol.specs.Ports.{portOf}
+use Rattle.protocol.specs.Ports.{forwardingPort}
 use Rattle.protocol.specs.Demand3.{Settling}
 use Rattle.protocol.specs.Examples.{plan}
 
@@ -42,4 +42,4 @@ pub record SettlingCanBeMet : Type 0 where
   -- the first delivery of `closing` is stale
   pub stale : answerAt (run start opening) 0 ≡ Stale
   -- and so both forward
-  pub ports : (portOf (run start (first ++ second)) 1 0 ≡ Open 1) × (portOf (run start (first ++ second)) 2 0 ≡ Open 2)
+  pub ports : (forwardingPort (run start (first ++ second)) 1 0 ≡ Open 1) × (forwardingPort (run start (first ++ second)) 2 0 ≡ Open 2)

@@ -11,7 +11,7 @@ use lib.Seq.{sets, length-sets, sets-eq, take-append-seam, take-append-add, leng
 use Rattle.distances.proofs.Booleans.{both-true}
 use Rattle.text.specs.Lines.{refusedText}
 use Rattle.runner.specs.Buffers.{Buffers}
-use Rattle.runner.specs.Turns.{Turn, stepOf}
+use Rattle.runner.specs.Turns.{StepOutcome, stepOf}
 use Rattle.runner.specs.Plans.{firstRunner, firstBuffers, prints, printed}
 use Rattle.runner.specs.Fills.{buffersWithOut, stepOn, stepsOn, fills, fillOf, printsAfter, FillPrints, printsFilled, PlanFilled}
 use Rattle.runner.specs.declared.Runner.{Runner}
@@ -53,11 +53,11 @@ taken-both : (w n : ℕ) (out more : List ℕ) → w ≤ length out → take (w 
 taken-both w n out more low =
     ap (λ (z : ℕ). take (z + n) (take w out ++ more)) (sym (length-take-le w out low)) ∙ take-append-add (take w out) more n
 
-module _ (rest : List ℕ) (t : Turn) where
+module _ (rest : List ℕ) (t : StepOutcome) where
   abbrev out : List ℕ
   out = t .buffers .out
 
-  abbrev u : Turn
+  abbrev u : StepOutcome
   u = next rest t
 
   -- a step on prints what would be printed
@@ -79,7 +79,7 @@ module _ (rest : List ℕ) (t : Turn) where
       (out-unread (suc (length behind)) (u .runner) (u .buffers) behind (u .buffers .out) (take (t .written) out ++ u .buffers .out) long longer
       ∙ ap (λ (l : List ℕ). prints (suc (length l)) (u .runner) (buffersWithOut (take (t .written) out ++ u .buffers .out) (u .buffers)) l) (drop-drop (u .used) (t .used) rest))
 
-fills-prints : (fuel : ℕ) (rest : List ℕ) (t : Turn) → t .written ≤ length (t .buffers .out) → printsAfter t rest ≡ printsAfter (fills fuel t rest) rest
+fills-prints : (fuel : ℕ) (rest : List ℕ) (t : StepOutcome) → t .written ≤ length (t .buffers .out) → printsAfter t rest ≡ printsAfter (fills fuel t rest) rest
 unfolding fills
 fills-prints zero rest t low = refl
 fills-prints (suc fuel) rest t low = go (fills-prints fuel rest (stepOn t rest) (on-within rest t low)) (stepsOn t) refl
@@ -99,7 +99,7 @@ unfolding printsFilled
 again zero r k rest h = absurd (not-suc-le-zero h)
 again (suc fuel) r k rest h = go (again fuel (t .runner) (t .buffers) (drop (t .used) rest)) (t .going) refl ∙ sym (fill-prints r k rest)
   where
-    t : Turn
+    t : StepOutcome
     t = fillOf r k rest
 
     go :
@@ -131,7 +131,7 @@ unfolding prints
 prints-most zero r k rest = omega arith
 prints-most (suc fuel) r k rest = go (t .going) (prints-most fuel (t .runner) (t .buffers) (drop (t .used) rest))
   where
-    t : Turn
+    t : StepOutcome
     t = stepOf r k rest
 
     go :

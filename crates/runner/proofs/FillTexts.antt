@@ -8,10 +8,11 @@ use borrow.Author.Tests.{leb-true, leb-false, le-leb, lt-leb, eqb-true}
 use lib.ListN.{length, getD}
 use lib.Seq.{sets, length-sets}
 use lib.Dec.{eqb, leb}
-use Rattle.distances.proofs.Booleans.{both-true, not-both}
+use Rattle.distances.proofs.Booleans.{not-both}
 use Rattle.bench.specs.State.{State}
 use Rattle.bench.specs.Batches.{replyOf, answersOf, answerSize}
-use Rattle.bench.specs.Changes.{Rewritten}
+use Rattle.bench.specs.Changes.{ChangeOutcome}
+use Rattle.bench.specs.declared.Bench.{Bench}
 use Rattle.bench.specs.declared.Event.{Event}
 use Rattle.bench.specs.declared.Event.the-variants.{Update, Send, Deliver, Repeat, Lose, Cut, Restore, Report, Path}
 use Rattle.bench.proofs.BatchRuns.{accepted-bridges, answers-length}
@@ -23,7 +24,7 @@ use Rattle.text.specs.Lines.{deliveredText, stopsText, endText, refusedText}
 use Rattle.text.proofs.Laws.{length-reportText, length-deliveredText, length-stopsText, length-endText, length-refusedText}
 use Rattle.runner.specs.Buffers.{Buffers, buffers, buffersLong, stateOn, buffersWith, progressOf}
 use Rattle.runner.specs.Events.{pathText, eventText, textOf, stateAfter}
-use Rattle.runner.specs.Turns.{Turn, turn, lastTurn, lastText, setupTurn, withBridges, withLink, withView, withRow, opened, viewTurn, eventTurn, fieldTurn, readTurn, runnerInRange, stepOf}
+use Rattle.runner.specs.Turns.{StepOutcome, stepOutcome, lastStep, lastText, setupStep, withBridges, withLink, withView, withRow, opened, viewStep, eventStep, fieldStep, readStep, runnerInRange, stepOf}
 use Rattle.runner.specs.Fills.{buffersWithOut}
 use Rattle.runner.specs.declared.Runner.{Runner}
 
@@ -69,7 +70,7 @@ last-short number events offset = go (eqb number 0)
 
 -- ---- a turn, as it goes by the bytes to be printed
 
-pub record Texts (most : ℕ) (f : List ℕ → Turn) : Type 0 where
+pub record Texts (most : ℕ) (f : List ℕ → StepOutcome) : Type 0 where
   pub reply : ℕ
   pub going : Bool
   pub used : ℕ
@@ -78,17 +79,17 @@ pub record Texts (most : ℕ) (f : List ℕ → Turn) : Type 0 where
   pub text : List ℕ
   pub fits : used ≤ most
   pub short : length text ≤ 544
-  pub is : (out : List ℕ) → 544 ≤ length out → f out ≡ turn reply going used (length text) runner (buffersWithOut (sets out 0 text) after)
+  pub is : (out : List ℕ) → 544 ≤ length out → f out ≡ stepOutcome reply going used (length text) runner (buffersWithOut (sets out 0 text) after)
 
 module _ (e : Event) (used most : ℕ) (r : Runner) (k : Buffers) where
   abbrev now : State
   now = stateOn (r .bench) k
 
-  event-texts : used ≤ most → Texts most (λ out. eventTurn e used r (buffersWithOut out k))
-  unfolding eventTurn lastTurn
+  event-texts : used ≤ most → Texts most (λ out. eventStep e used r (buffersWithOut out k))
+  unfolding eventStep lastStep
   event-texts low = go (eqb (replyOf now e) 0) refl
     where
-      go : (b : Bool) → eqb (replyOf now e) 0 ≡ b → Texts most (λ out. eventTurn e used r (buffersWithOut out k))
+      go : (b : Bool) → eqb (replyOf now e) 0 ≡ b → Texts most (λ out. eventStep e used r (buffersWithOut out k))
       go true q =
           record {
             reply = 0;
@@ -114,8 +115,42 @@ module _ (e : Event) (used most : ℕ) (r : Runner) (k : Buffers) where
             is = λ out long. rw q;
           }
 
-field-texts : (rest : List ℕ) (f : Field) (used most : ℕ) (r : Runner) (k : Buffers) → used ≤ most → Texts most (λ out. fieldTurn rest f used r (buffersWithOut out k))
-unfolding fieldTurn setupTurn viewTurn
+module _ (b : Bench) (costs : List ℕ) (used most : ℕ) (r : Runner) (k : Buffers) where
+  abbrev network : ChangeOutcome
+  network = opened b costs (k .sent) (k .held)
+
+  view-texts : used ≤ most → Texts most (λ out. viewStep used b costs r (buffersWithOut out k))
+  unfolding viewStep setupStep lastStep
+  view-texts low = go (eqb (network .reply) 0) refl
+    where
+      go : (q : Bool) → eqb (network .reply) 0 ≡ q → Texts most (λ out. viewStep used b costs r (buffersWithOut out k))
+      go true q =
+          record {
+            reply = 0;
+            going = true;
+            used = used;
+            runner = record { bench = network .bench; stage = 2; events = r .events; offset = r .offset + used };
+            after = buffers costs (network .sent) (network .held) (k .messages) (k .out);
+            text = [];
+            fits = low;
+            short = omega arith;
+            is = λ out long. rw q;
+          }
+      go false q =
+          record {
+            reply = network .reply;
+            going = false;
+            used = 0;
+            runner = r;
+            after = k;
+            text = refusedText (network .reply) (r .offset);
+            fits = omega arith;
+            short = length-refusedText (network .reply) (r .offset);
+            is = λ out long. rw q;
+          }
+
+field-texts : (rest : List ℕ) (f : Field) (used most : ℕ) (r : Runner) (k : Buffers) → used ≤ most → Texts most (λ out. fieldStep rest f used r (buffersWithOut out k))
+unfolding fieldStep setupStep
 field-texts rest (Field.Bridges n) used most r k low =
     record {
       reply = 0;
@@ -140,20 +175,7 @@ field-texts rest (Field.Link x y) used most r k low =
       short = omega arith;
       is = λ out long. refl;
     }
-field-texts rest Field.View used most r k low =
-    let costs : List ℕ = withRow rest (r .bench) (k .costs) in
-    let network : Rewritten = opened (withView (r .bench)) costs (k .sent) (k .held) in
-    record {
-      reply = 0;
-      going = true;
-      used = used;
-      runner = record { bench = network .bench; stage = 2; events = r .events; offset = r .offset + used };
-      after = buffers costs (network .sent) (network .held) (k .messages) (k .out);
-      text = [];
-      fits = low;
-      short = omega arith;
-      is = λ out long. refl;
-    }
+field-texts rest Field.View used most r k low = view-texts (withView (r .bench)) (withRow rest (r .bench) (k .costs)) used most r k low
 field-texts rest (Field.Event e) used most r k low = event-texts e used most r k low
 
 -- the other buffers are long enough
@@ -164,7 +186,7 @@ othersLong k =
     && (leb 1024 (length (k .held)) && (leb 320 (length (k .messages)) && true)))
 
 pub step-texts : (r : Runner) (k : Buffers) (rest : List ℕ) → Texts (length rest) (λ out. stepOf r (buffersWithOut out k) rest)
-unfolding stepOf readTurn lastTurn buffersLong
+unfolding stepOf readStep lastStep buffersLong
 step-texts r k rest = go (runnerInRange r && othersLong k) (readReply rest (progressOf r)) refl refl
   where
     go : (b : Bool) (d : Read) → (runnerInRange r && othersLong k) ≡ b → readReply rest (progressOf r) ≡ d → Texts (length rest) (λ out. stepOf r (buffersWithOut out k) rest)
@@ -209,7 +231,7 @@ step-texts r k rest = go (runnerInRange r && othersLong k) (readReply rest (prog
 -- ---- a step keeps within what is lent
 
 -- with too few bytes to be printed it is refused
-pub step-cramped : (r : Runner) (k : Buffers) (rest : List ℕ) → length (k .out) < 544 → stepOf r k rest ≡ turn 17 false 0 0 r k
+pub step-cramped : (r : Runner) (k : Buffers) (rest : List ℕ) → length (k .out) < 544 → stepOf r k rest ≡ stepOutcome 17 false 0 0 r k
 unfolding stepOf buffersLong
 step-cramped r k rest few =
     let last = lt-leb 544 (length (k .out)) few in
@@ -230,7 +252,7 @@ step-within r k rest = go (leb 544 (length (k .out))) refl
     go true e =
         let x = step-texts r k rest in
         let long = leb-true 544 (length (k .out)) e in
-        let is : stepOf r k rest ≡ turn (x .reply) (x .going) (x .used) (length (x .text)) (x .runner) (buffersWithOut (sets (k .out) 0 (x .text)) (x .after)) = x .is (k .out) long in
+        let is : stepOf r k rest ≡ stepOutcome (x .reply) (x .going) (x .used) (length (x .text)) (x .runner) (buffersWithOut (sets (k .out) 0 (x .text)) (x .after)) = x .is (k .out) long in
         record { used = rw is (x .fits); few = rw is (x .short); written = rw is (omega (arith, x .short, long)); kept = rw is (length-sets (k .out) 0 (x .text)) }
     go false e =
         let is = step-cramped r k rest (leb-false 544 (length (k .out)) e) in

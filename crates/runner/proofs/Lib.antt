@@ -5,6 +5,7 @@ pub mod RunFuel
 pub mod RunEvents
 pub mod RunFresh
 pub mod RunSetup
+pub mod ViewTurns
 pub mod RunWhole
 pub mod FillTexts
 pub mod FillTurns

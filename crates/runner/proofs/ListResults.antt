@@ -11,7 +11,7 @@ use lib.Seq.{sets, take-all, take-take}
 use lib.Dec.{eqb, leb}
 use Rattle.distances.proofs.Booleans.{both-true}
 use Rattle.bench.specs.State.{State, state}
-use Rattle.bench.specs.Batches.{answerSize, answerSizes, Batch, runs, Ran, ran, ranOf, refusalIn, batchOf}
+use Rattle.bench.specs.Batches.{answerSize, answerSizes, Batch, batchFrom, BatchOutcome, batchOutcome, batchOutcomeOf, refusalIn, batchOf}
 use Rattle.bench.specs.declared.BatchResult.{BatchResult}
 use Rattle.bench.specs.declared.Disposition.{Disposition}
 use Rattle.bench.specs.declared.Event.{Event}
@@ -21,7 +21,7 @@ use Rattle.plan.specs.Events.{Placed, eventsAt, eventsOf, mostListed, Listing, 
 use Rattle.plan.proofs.Laws.{field-bridges}
 use Rattle.plan.proofs.EventLaws.{ReadAs, reads-as, first-fits, lastEnd, end-within, length-events, Listed, listed}
 use Rattle.runner.specs.Buffers.{Buffers, buffers, buffersLong}
-use Rattle.runner.specs.Turns.{Turn, turn}
+use Rattle.runner.specs.Turns.{StepOutcome, stepOutcome}
 use Rattle.runner.specs.Fills.{stepsOn, fills}
 use Rattle.runner.specs.Lists.{textsOf, ListFits, turned, madeOn, refusedOn, endedOn, SomeNumber, listedOn, ResultFits, StepsMade}
 use Rattle.runner.specs.declared.Stepped.{Stepped}
@@ -31,26 +31,26 @@ use Rattle.runner.proofs.ListTexts.{rest-lent, texts-head}
 use Rattle.runner.proofs.ListTurns.{replyAfter, stepsOf, some-number, texts-few, At, listOn, list-steps}
 
 -- the turn of a step, with all of the buffers
-abbrev pub turnOf : Stepped → Buffers → Turn
-turnOf s k = turn (s .reply) (s .going) (s .used) (s .written) (s .runner) k
+abbrev pub turnOf : Stepped → Buffers → StepOutcome
+turnOf s k = stepOutcome (s .reply) (s .going) (s .used) (s .written) (s .runner) k
 
 -- ---- the end of a list, with all of the buffers
 
 module _ (costs sent held messages : List ℕ) where
-  abbrev with : Turn → Turn
-  with u = turn (u .reply) (u .going) (u .used) (u .written) (u .runner) (buffers costs sent held messages (u .buffers .out))
+  abbrev with : StepOutcome → StepOutcome
+  with u = stepOutcome (u .reply) (u .going) (u .used) (u .written) (u .runner) (buffers costs sent held messages (u .buffers .out))
 
-  ended-with : (how : Disposition) (t : Turn) → with (endedOn how t) ≡ endedOn how (with t)
+  ended-with : (how : Disposition) (t : StepOutcome) → with (endedOn how t) ≡ endedOn how (with t)
   unfolding endedOn refusedOn
   ended-with Disposition.Complete t = refl
   ended-with (Disposition.Refused k) t = refl
   ended-with Disposition.Full t = refl
 
 -- a turn's own reply matters only where a list did not end with a refusal
-abbrev replied : ℕ → Turn → Turn
-replied n t = turn n (t .going) (t .used) (t .written) (t .runner) (t .buffers)
+abbrev replied : ℕ → StepOutcome → StepOutcome
+replied n t = stepOutcome n (t .going) (t .used) (t .written) (t .runner) (t .buffers)
 
-reply-free : (how : Disposition) (m n : ℕ) (t : Turn) → (refusalIn how ≡ 0 → m ≡ n) → endedOn how (replied m t) ≡ endedOn how (replied n t)
+reply-free : (how : Disposition) (m n : ℕ) (t : StepOutcome) → (refusalIn how ≡ 0 → m ≡ n) → endedOn how (replied m t) ≡ endedOn how (replied n t)
 unfolding endedOn refusedOn
 reply-free Disposition.Complete m n t same = ap (λ (k : ℕ). replied k t) (same refl)
 reply-free (Disposition.Refused k) m n t same = refl
@@ -106,7 +106,7 @@ module _
     (events : List Event)
     (ends : List ℕ)
     (read : listing events ends ≡ eventsReply (take (length rest - done .used) (drop (done .used) rest)) (listProgress (done .runner .bench)) numbers first) where
-  abbrev from : Turn
+  abbrev from : StepOutcome
   from = turnOf done (buffers costs sent held messages out)
 
   abbrev behind : List ℕ
@@ -152,15 +152,15 @@ module _
       (result : BatchResult)
       (sent' held' messages' answers answers' : List ℕ)
       (lent : length answers ≡ numbers)
-      (is : ran (result .made) (result .answered) (result .disposition) (state (result .bench) costs sent' held' messages') answers' ≡ batchOf (stateAt from) events (getD ends 0 0) answers) where
+      (is : batchOutcome (result .made) (result .answered) (result .disposition) (state (result .bench) costs sent' held' messages') answers' ≡ batchOf (stateAt from) events (getD ends 0 0) answers) where
     abbrev b : Batch
-    b = runs numbers (stateAt from) (eventsOf xs)
+    b = batchFrom numbers (stateAt from) (eventsOf xs)
 
-    batch-is : ran (result .made) (result .answered) (result .disposition) (state (result .bench) costs sent' held' messages') answers' ≡ ranOf b answers
+    batch-is : batchOutcome (result .made) (result .answered) (result .disposition) (state (result .bench) costs sent' held' messages') answers' ≡ batchOutcomeOf b answers
     unfolding eventsOf
     batch-is = go xs refl
       where
-        go : (ys : List Placed) → xs ≡ ys → ran (result .made) (result .answered) (result .disposition) (state (result .bench) costs sent' held' messages') answers' ≡ ranOf b answers
+        go : (ys : List Placed) → xs ≡ ys → batchOutcome (result .made) (result .answered) (result .disposition) (state (result .bench) costs sent' held' messages') answers' ≡ batchOutcomeOf b answers
         go [] none = absurd (some (is-listed .count ∙ ap (λ (l : List Placed). length l) none))
         go (y ∷ ys) same =
             let one : take (getD ends 0 0) events ≡ y .event ∷ eventsOf ys = head ∙ first-event same in
@@ -172,16 +172,16 @@ module _
             first-event e = ap eventsOf e
 
     made-is : result .made ≡ b .made
-    made-is = ap (λ (r : Ran). r .made) batch-is
+    made-is = ap (λ (r : BatchOutcome). r .made) batch-is
 
     how-is : result .disposition ≡ b .disposition
-    how-is = ap (λ (r : Ran). r .disposition) batch-is
+    how-is = ap (λ (r : BatchOutcome). r .disposition) batch-is
 
     state-is : state (result .bench) costs sent' held' messages' ≡ b .state
-    state-is = ap (λ (r : Ran). r .state) batch-is
+    state-is = ap (λ (r : BatchOutcome). r .state) batch-is
 
     answers-is : answers' ≡ b .answers ++ drop (length (b .answers)) answers
-    answers-is = ap (λ (r : Ran). r .answers) batch-is
+    answers-is = ap (λ (r : BatchOutcome). r .answers) batch-is
 
     few : b .made ≤ length xs
     few = omega (arith, runs-few numbers (stateAt from) (eventsOf xs), length-events xs)
@@ -234,7 +234,7 @@ module _
           text = textsOf (done .runner .bench .bridges) made-events (b .answers)
 
           -- with all of the buffers
-          told : Turn
+          told : StepOutcome
           told = turnOf (madeOn done [] (result .bench) (b .made) (lastEnd 0 (take (b .made) xs)) (done .written + length text)) (buffers costs sent' held' messages' (sets out (done .written) text))
 
           as-told : turnOf s (buffers costs sent' held' messages' out') ≡ endedOn (b .disposition) told
@@ -243,13 +243,13 @@ module _
               ∙ ended-with costs sent' held' messages' (result .disposition) _
               ∙ rw (how-is, made-is, bytes-are, texts-are)
 
-          listed-so : told ≡ turn 0 true (done .used + lastEnd 0 (take (b .made) xs)) (done .written + length text)
+          listed-so : told ≡ stepOutcome 0 true (done .used + lastEnd 0 (take (b .made) xs)) (done .written + length text)
               (record { bench = b .state .bench; stage = 3; events = done .runner .events + b .made; offset = done .runner .offset + lastEnd 0 (take (b .made) xs) })
               (buffers (b .state .costs) (b .state .sent) (b .state .held) (b .state .messages) (sets out (done .written) text))
           listed-so =
               ap
               (λ (z : State).
-              turn 0 true (done .used + lastEnd 0 (take (b .made) xs)) (done .written + length text)
+              stepOutcome 0 true (done .used + lastEnd 0 (take (b .made) xs)) (done .written + length text)
               (record { bench = z .bench; stage = 3; events = done .runner .events + b .made; offset = done .runner .offset + lastEnd 0 (take (b .made) xs) })
               (buffers (z .costs) (z .sent) (z .held) (z .messages) (sets out (done .written) text)))
               state-is

@@ -20,7 +20,7 @@ use Rattle.text.specs.Lines.{refusedText}
 use Rattle.text.proofs.Laws.{length-refusedText}
 use Rattle.runner.specs.Buffers.{buffers, buffersLong, stateOn, progressOf}
 use Rattle.runner.specs.Events.{textOf, stateAfter}
-use Rattle.runner.specs.Turns.{Turn, turn, lastTurn, eventTurn, fieldTurn, readTurn, runnerInRange, stepOf}
+use Rattle.runner.specs.Turns.{StepOutcome, stepOutcome, lastStep, eventStep, fieldStep, readStep, runnerInRange, stepOf}
 use Rattle.runner.specs.Fills.{stepOn, stepsOn}
 use Rattle.runner.specs.Lists.{refusedOn}
 use Rattle.runner.proofs.FillTexts.{text-short}
@@ -37,11 +37,11 @@ behind-is out text w fits =
     ∙ sym (sets-eq text out w fits)
 
 -- the bench's state at a turn
-abbrev pub stateAt : Turn → State
+abbrev pub stateAt : StepOutcome → State
 stateAt t = stateOn (t .runner .bench) (t .buffers)
 
 -- so many events more stay in range, and what they print has room if they answer with so many numbers
-pub record Roomy (rest : List ℕ) (more numbers : ℕ) (t : Turn) : Type 0 where
+pub record Roomy (rest : List ℕ) (more numbers : ℕ) (t : StepOutcome) : Type 0 where
   pub stage : t .runner .stage ≡ 3
   pub going : t .going ≡ true
   pub room : t .written + 22 * numbers + 544 ≤ length (t .buffers .out)
@@ -54,16 +54,16 @@ pub record Roomy (rest : List ℕ) (more numbers : ℕ) (t : Turn) : Type 0 wher
   pub messages : 320 ≤ length (t .buffers .messages)
 
 -- the turn with an event of so many bytes carried out
-abbrev pub eventOn : Turn → Event → ℕ → Turn
+abbrev pub eventOn : StepOutcome → Event → ℕ → StepOutcome
 eventOn t e used =
     let s : State = stateAt t in
     let after : State = stateAfter s e in
     let text : List ℕ = textOf s e in
-    turn 0 true (t .used + used) (t .written + length text)
+    stepOutcome 0 true (t .used + used) (t .written + length text)
     (record { bench = after .bench; stage = 3; events = t .runner .events + 1; offset = t .runner .offset + used })
     (buffers (after .costs) (after .sent) (after .held) (after .messages) (sets (t .buffers .out) (t .written) text))
 
-module _ (rest : List ℕ) (more numbers : ℕ) (t : Turn) (roomy : Roomy rest more numbers t) where
+module _ (rest : List ℕ) (more numbers : ℕ) (t : StepOutcome) (roomy : Roomy rest more numbers t) where
   pub steps-on : stepsOn t ≡ true
   unfolding stepsOn
   steps-on = true-both (roomy .going) (le-leb 544 (length (t .buffers .out) - t .written) (omega (arith, roomy .room)))
@@ -87,18 +87,18 @@ module _ (rest : List ℕ) (more numbers : ℕ) (t : Turn) (roomy : Roomy rest m
 
   module _ (e : Event) (used : ℕ) (read : readReply (drop (t .used) rest) (listProgress (t .runner .bench)) ≡ Read.Field (Field.Event e) used) where
     -- the event is the step's
-    step-is-event : next rest t ≡ eventTurn e used (t .runner) (buffersBehind rest t)
-    unfolding stepOf readTurn fieldTurn
+    step-is-event : next rest t ≡ eventStep e used (t .runner) (buffersBehind rest t)
+    unfolding stepOf readStep fieldStep
     step-is-event = rw (in-range, long, progress-same, read)
 
     pub step-on-event : replyOf (stateAt t) e ≡ 0 → stepOn t rest ≡ eventOn t e used
-    unfolding stepOn eventTurn
+    unfolding stepOn eventStep
     step-on-event none =
         let short = text-short (stateAt t) e none in
         rw (step-is-event, none, behind-is (t .buffers .out) (textOf (stateAt t) e) (t .written) (omega (arith, short .room, roomy .room)))
 
     pub step-on-refused : (replyOf (stateAt t) e ≡ 0 → ⊥) → stepOn t rest ≡ refusedOn (replyOf (stateAt t) e) t
-    unfolding stepOn eventTurn lastTurn refusedOn
+    unfolding stepOn eventStep lastStep refusedOn
     step-on-refused some =
         let k : ℕ = replyOf (stateAt t) e in
         let short = length-refusedText k (t .runner .offset) in

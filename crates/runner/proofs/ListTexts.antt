@@ -16,7 +16,7 @@ use Rattle.text.specs.Writing.{Put}
 use Rattle.text.proofs.Laws.{length-refusedText}
 use Rattle.text.proofs.Puts.{joined, nothing}
 use Rattle.runner.specs.Events.{eventText, Line, line, lineOf}
-use Rattle.runner.specs.Turns.{Turn, lastText}
+use Rattle.runner.specs.Turns.{StepOutcome, lastText}
 use Rattle.runner.specs.Lists.{textsOf, turned, refusedOn, endedOn, SomeNumber}
 use Rattle.runner.specs.declared.Stepped.{Stepped}
 use Rattle.runner.proofs.ListSteps.{behind-is}
@@ -157,13 +157,13 @@ module _ (done : Stepped) (number : ℕ) (some : 0 < number) (out : List ℕ) (r
 
 -- ---- why a list ended
 
-pub ended-none : (how : Disposition) → SomeNumber how → refusalIn how ≡ 0 → (t : Turn) → endedOn how t ≡ t
+pub ended-none : (how : Disposition) → SomeNumber how → refusalIn how ≡ 0 → (t : StepOutcome) → endedOn how t ≡ t
 unfolding endedOn
 ended-none Disposition.Complete some none t = refl
 ended-none (Disposition.Refused k) some none t = absurd (omega arith)
 ended-none Disposition.Full some none t = refl
 
-pub ended-refused : (how : Disposition) → (refusalIn how ≡ 0 → ⊥) → (t : Turn) → endedOn how t ≡ refusedOn (refusalIn how) t
+pub ended-refused : (how : Disposition) → (refusalIn how ≡ 0 → ⊥) → (t : StepOutcome) → endedOn how t ≡ refusedOn (refusalIn how) t
 unfolding endedOn
 ended-refused Disposition.Complete some t = absurd (some refl)
 ended-refused (Disposition.Refused k) some t = refl

@@ -9,7 +9,7 @@ use lib.ListN.{length, take, drop, length-drop, length-append}
 use lib.Seq.{sets, length-sets, take-at, drop-at, drop-drop}
 use Rattle.bench.specs.State.{State}
 use Rattle.bench.specs.Whole.{stepBy}
-use Rattle.bench.specs.Batches.{callOf, replyOf, answersOf, answerSize, Batch, batch, happensIn, runs}
+use Rattle.bench.specs.Batches.{callOf, replyOf, answersOf, answerSize, Batch, batch, eventBatchIn, batchFrom}
 use Rattle.bench.specs.declared.Disposition.{Disposition}
 use Rattle.bench.specs.declared.Event.{Event}
 use Rattle.bench.proofs.BatchRuns.{First, full, refused, made, first-of, answers-length, following, runs-none, runs-made, runs-unmade}
@@ -23,7 +23,7 @@ use Rattle.text.specs.Writing.{Put}
 use Rattle.text.proofs.Puts.{joined}
 use Rattle.runner.specs.Buffers.{buffers}
 use Rattle.runner.specs.Events.{eventText, textOf}
-use Rattle.runner.specs.Turns.{Turn, turn}
+use Rattle.runner.specs.Turns.{StepOutcome, stepOutcome}
 use Rattle.runner.specs.Fills.{fills, stepOn}
 use Rattle.runner.specs.Lists.{textsOf, refusedOn, endedOn, SomeNumber}
 use Rattle.runner.proofs.FillTexts.{text-short}
@@ -60,28 +60,28 @@ steps-more (Disposition.Refused k) n = refl
 steps-more Disposition.Full n = refl
 
 -- a list that ended with a refusal has its number
-pub some-number : (room : ℕ) (s : State) (es : List Event) → SomeNumber (runs room s es .disposition)
+pub some-number : (room : ℕ) (s : State) (es : List Event) → SomeNumber (batchFrom room s es .disposition)
 some-number room s [] = rw runs-none tt
-some-number room s (e ∷ es) = go (some-number (room - length (answersOf s e)) (stepBy s (callOf e)) es) (happensIn room s e) refl (first-of room s e)
+some-number room s (e ∷ es) = go (some-number (room - length (answersOf s e)) (stepBy s (callOf e)) es) (eventBatchIn room s e) refl (first-of room s e)
   where
-    go : SomeNumber (following room s e es .disposition) → (b : Batch) → happensIn room s e ≡ b → First room s e b → SomeNumber (runs room s (e ∷ es) .disposition)
+    go : SomeNumber (following room s e es .disposition) → (b : Batch) → eventBatchIn room s e ≡ b → First room s e b → SomeNumber (batchFrom room s (e ∷ es) .disposition)
     go later b is (full few) = rw (runs-unmade room s e es b is refl) tt
     go later b is (refused some) = rw (runs-unmade room s e es b is refl) (above (replyOf s e) some)
     go later b is (made none fits) = rw (runs-made room s e es is) later
 
 -- the texts of a list have 22 bytes at most for each number that its events answered with
-pub texts-few : (room : ℕ) (s : State) (es : List Event) → let b : Batch = runs room s es in length (textsOf (s .bench .bridges) (take (b .made) es) (b .answers)) ≤ 22 * length (b .answers)
+pub texts-few : (room : ℕ) (s : State) (es : List Event) → let b : Batch = batchFrom room s es in length (textsOf (s .bench .bridges) (take (b .made) es) (b .answers)) ≤ 22 * length (b .answers)
 unfolding textsOf
 texts-few room s [] = rw runs-none (omega arith)
-texts-few room s (e ∷ es) = go (texts-few (room - length (answersOf s e)) (stepBy s (callOf e)) es) (happensIn room s e) refl (first-of room s e)
+texts-few room s (e ∷ es) = go (texts-few (room - length (answersOf s e)) (stepBy s (callOf e)) es) (eventBatchIn room s e) refl (first-of room s e)
   where
     then : Batch
     then = following room s e es
 
     go :
         length (textsOf (stepBy s (callOf e) .bench .bridges) (take (then .made) es) (then .answers)) ≤ 22 * length (then .answers) →
-        (b : Batch) → happensIn room s e ≡ b → First room s e b →
-        let r : Batch = runs room s (e ∷ es) in
+        (b : Batch) → eventBatchIn room s e ≡ b → First room s e b →
+        let r : Batch = batchFrom room s (e ∷ es) in
         length (textsOf (s .bench .bridges) (take (r .made) (e ∷ es)) (r .answers)) ≤ 22 * length (r .answers)
     go later b is (full few) = rw (runs-unmade room s e es b is refl) (omega arith)
     go later b is (refused some) = rw (runs-unmade room s e es b is refl) (omega arith)
@@ -104,26 +104,26 @@ texts-few room s (e ∷ es) = go (texts-few (room - length (answersOf s e)) (ste
 -- the plan's first byte of the list is at `base`, and was at `off` in the whole plan
 module _ (rest : List ℕ) (base off : ℕ) where
   -- the texts of a list, and the turn with it carried out
-  abbrev pub textsOn : Turn → List Placed → Batch → List ℕ
+  abbrev pub textsOn : StepOutcome → List Placed → Batch → List ℕ
   textsOn t xs b = textsOf (t .runner .bench .bridges) (take (b .made) (eventsOf xs)) (b .answers)
 
-  abbrev pub listOn : Turn → ℕ → List Placed → Batch → Turn
+  abbrev pub listOn : StepOutcome → ℕ → List Placed → Batch → StepOutcome
   listOn t at xs b =
-      turn (replyAfter (b .made) (t .reply)) true (base + lastEnd at (take (b .made) xs)) (t .written + length (textsOn t xs b))
+      stepOutcome (replyAfter (b .made) (t .reply)) true (base + lastEnd at (take (b .made) xs)) (t .written + length (textsOn t xs b))
       (record { bench = b .state .bench; stage = 3; events = t .runner .events + b .made; offset = off + lastEnd at (take (b .made) xs) })
       (buffers (b .state .costs) (b .state .sent) (b .state .held) (b .state .messages) (sets (t .buffers .out) (t .written) (textsOn t xs b)))
 
   -- where a turn stands in the list
-  pub record At (at : ℕ) (t : Turn) : Type 0 where
+  pub record At (at : ℕ) (t : StepOutcome) : Type 0 where
     pub used : t .used ≡ base + at
     pub offset : t .runner .offset ≡ off + at
 
   -- no event
-  none-on : (more numbers : ℕ) (t : Turn) (at : ℕ) (xs : List Placed) (how : Disposition) → At at t → Roomy rest more numbers t → t ≡ listOn t at xs (batch 0 how (stateAt t) [])
+  none-on : (more numbers : ℕ) (t : StepOutcome) (at : ℕ) (xs : List Placed) (how : Disposition) → At at t → Roomy rest more numbers t → t ≡ listOn t at xs (batch 0 how (stateAt t) [])
   unfolding textsOf
   none-on more numbers t at xs how here roomy = rw (add-zero, add-zero, ← here .used, ← here .offset, ← roomy .stage, ← roomy .going)
 
-  module _ (more numbers : ℕ) (t : Turn) (roomy : Roomy rest (suc more) numbers t) (at : ℕ) (here : At at t) (x : Placed)
+  module _ (more numbers : ℕ) (t : StepOutcome) (roomy : Roomy rest (suc more) numbers t) (at : ℕ) (here : At at t) (x : Placed)
       (none : replyOf (stateAt t) (x .event) ≡ 0) (fits : answerSize (t .runner .bench .bridges) (x .event) ≤ numbers) (used : ℕ) (past : x .past ≡ at + used) where
     abbrev e : Event
     e = x .event
@@ -179,18 +179,18 @@ module _ (rest : List ℕ) (base off : ℕ) where
 
   abbrev Steps : List Placed → Type 0
   Steps xs =
-      (t : Turn) (at numbers : ℕ) → At at t → ReadAs (listProgress (t .runner .bench)) (drop (t .used) rest) at xs → Roomy rest (length xs) numbers t →
-      let b : Batch = runs numbers (stateAt t) (eventsOf xs) in
+      (t : StepOutcome) (at numbers : ℕ) → At at t → ReadAs (listProgress (t .runner .bench)) (drop (t .used) rest) at xs → Roomy rest (length xs) numbers t →
+      let b : Batch = batchFrom numbers (stateAt t) (eventsOf xs) in
       fills (stepsOf (b .disposition) (b .made)) t rest ≡ endedOn (b .disposition) (listOn t at xs b)
 
   pub list-steps : (xs : List Placed) → Steps xs
   unfolding fills endedOn eventsOf
   list-steps [] t at numbers here read roomy = rw runs-none (none-on 0 numbers t at [] Disposition.Complete here roomy)
-  list-steps (x ∷ xs) t at numbers here read roomy = go (list-steps xs) (happensIn numbers (stateAt t) (x .event)) refl (first-of numbers (stateAt t) (x .event))
+  list-steps (x ∷ xs) t at numbers here read roomy = go (list-steps xs) (eventBatchIn numbers (stateAt t) (x .event)) refl (first-of numbers (stateAt t) (x .event))
     where
       go :
-          Steps xs → (b : Batch) → happensIn numbers (stateAt t) (x .event) ≡ b → First numbers (stateAt t) (x .event) b →
-          let r : Batch = runs numbers (stateAt t) (eventsOf (x ∷ xs)) in
+          Steps xs → (b : Batch) → eventBatchIn numbers (stateAt t) (x .event) ≡ b → First numbers (stateAt t) (x .event) b →
+          let r : Batch = batchFrom numbers (stateAt t) (eventsOf (x ∷ xs)) in
           fills (stepsOf (r .disposition) (r .made)) t rest ≡ endedOn (r .disposition) (listOn t at (x ∷ xs) r)
       go later b is (full few) = rw (runs-unmade numbers (stateAt t) (x .event) (eventsOf xs) b is refl) (none-on _ numbers t at (x ∷ xs) Disposition.Full here roomy)
       go later b is (refused some) =
@@ -201,7 +201,7 @@ module _ (rest : List ℕ) (base off : ℕ) where
           ∙ ap (refusedOn k) (none-on _ numbers t at (x ∷ xs) (Disposition.Refused k) here roomy))
       go later b is (made none fits) =
           let s : State = stateAt t in
-          let u : Turn = eventOn t (x .event) (read .used) in
+          let u : StepOutcome = eventOn t (x .event) (read .used) in
           let then : Batch = following numbers s (x .event) (eventsOf xs) in
           let size = field-size _ _ (read .read) in
           let same : drop (read .used) (drop (t .used) rest) ≡ drop (t .used + read .used) rest = drop-drop (read .used) (t .used) rest in
@@ -211,7 +211,7 @@ module _ (rest : List ℕ) (base off : ℕ) where
           (subst (λ (l : List ℕ). ReadAs (listProgress (t .runner .bench)) l (x .past) xs) same (read .then)) in
           rw (runs-made numbers s (x .event) (eventsOf xs) is, steps-more (then .disposition) (then .made))
           (fills-more (stepsOf (then .disposition) (then .made)) t rest (steps-on rest _ numbers t roomy)
-          ∙ ap (λ (z : Turn). fills (stepsOf (then .disposition) (then .made)) z rest) (step-on-event rest _ numbers t roomy (x .event) (read .used) (read .read) none)
+          ∙ ap (λ (z : StepOutcome). fills (stepsOf (then .disposition) (then .made)) z rest) (step-on-event rest _ numbers t roomy (x .event) (read .used) (read .read) none)
           ∙ later u (x .past) (numbers - length (answersOf s (x .event)))
           (at-next (length xs) numbers t roomy at here x none fits (read .used) (read .past))
           reads

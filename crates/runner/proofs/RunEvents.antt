@@ -17,22 +17,22 @@ use Rattle.plan.specs.declared.Field.{Field}
 use Rattle.plan.specs.declared.Read.{Read}
 use Rattle.plan.proofs.Laws.{Told, field-told}
 use Rattle.runner.specs.Buffers.{Buffers, stateOn, progressOf}
-use Rattle.runner.specs.Turns.{Turn, lastTurn, eventTurn, fieldTurn, stepOf}
-use Rattle.runner.specs.Whole.{Place, place, stateAt, callRead, calls, leaves}
+use Rattle.runner.specs.Turns.{StepOutcome, lastStep, eventStep, fieldStep, stepOf}
+use Rattle.runner.specs.Whole.{Position, position, stateAt, callRead, calls, leaves}
 use Rattle.runner.specs.declared.Runner.{Runner}
 use Rattle.runner.proofs.RunSteps.{Step, refused, ended, carried, step-is}
 
 -- the calls make of the state s the state at the end, and an event came
-pub record Ran (s : State) (end : Place) (cs : List Call) : Type 0 where
+pub record Ran (s : State) (end : Position) (cs : List Call) : Type 0 where
   pub state : stateAt end ≡ runBy s cs
   pub stage : end .runner .stage ≡ 3
 
 -- what follows a turn
-abbrev pub callsAfter : ℕ → List ℕ → List Call → Turn → List Call
+abbrev pub callsAfter : ℕ → List ℕ → List Call → StepOutcome → List Call
 callsAfter fuel rest read t = cond (t .going) (read ++ calls fuel (t .runner) (t .buffers) (drop (t .used) rest)) []
 
-abbrev pub endAfter : ℕ → List ℕ → Turn → Place
-endAfter fuel rest t = cond (t .going) (leaves fuel (t .runner) (t .buffers) (drop (t .used) rest)) (place (t .runner) (t .buffers))
+abbrev pub endAfter : ℕ → List ℕ → StepOutcome → Position
+endAfter fuel rest t = cond (t .going) (leaves fuel (t .runner) (t .buffers) (drop (t .used) rest)) (position (t .runner) (t .buffers))
 
 -- events from now on
 abbrev pub Follows : ℕ → Type 0
@@ -43,25 +43,25 @@ abbrev pub accepts : Runner → Buffers → Event → Bool
 accepts r k e = eqb (replyOf (stateOn (r .bench) k) e) 0
 
 module _ (fuel : ℕ) (e : Event) (used : ℕ) (r : Runner) (k : Buffers) (rest : List ℕ) where
-  abbrev pub end : Place
-  end = endAfter fuel rest (eventTurn e used r k)
+  abbrev pub end : Position
+  end = endAfter fuel rest (eventStep e used r k)
 
   abbrev pub made : List Call
-  made = callsAfter fuel rest (callOf e ∷ []) (eventTurn e used r k)
+  made = callsAfter fuel rest (callOf e ∷ []) (eventStep e used r k)
 
   pub event-ran : Follows fuel → accepts r k e ≡ true → Ran (stateOn (r .bench) k) end made
-  unfolding eventTurn
+  unfolding eventStep
   event-ran follows q =
       let n = follows _ _ (drop used rest) refl in
       rw q (record { state = n .state ∙ sym (run-next (stateOn (r .bench) k) (callOf e) _); stage = n .stage })
 
   -- refused, it leaves network and runner as they were
   pub event-stopped : accepts r k e ≡ false → (stateAt end ≡ stateOn (r .bench) k) × (end .runner .stage ≡ r .stage) × (made ≡ [])
-  unfolding eventTurn lastTurn
+  unfolding eventStep lastStep
   event-stopped q = rw q (refl, refl, refl)
 
 pub follows : (fuel : ℕ) → Follows fuel
-unfolding calls leaves lastTurn fieldTurn
+unfolding calls leaves lastStep fieldStep
 follows zero r k rest h = record { state = sym (run-none (stateOn (r .bench) k)); stage = h }
 follows (suc fuel) r k rest h = go (follows fuel) (step-is r k rest)
   where
@@ -70,7 +70,7 @@ follows (suc fuel) r k rest h = go (follows fuel) (step-is r k rest)
     go next (ended number d e) = rw e (record { state = sym (run-none (stateOn (r .bench) k)); stage = h })
     go next (carried f used long d e) = field f d e (field-told rest (progressOf r) d)
       where
-        field : (f : Field) → readReply rest (progressOf r) ≡ Read.Field f used → stepOf r k rest ≡ fieldTurn rest f used r k → Told rest (progressOf r) f →
+        field : (f : Field) → readReply rest (progressOf r) ≡ Read.Field f used → stepOf r k rest ≡ fieldStep rest f used r k → Told rest (progressOf r) f →
             Ran (stateOn (r .bench) k) (endAfter fuel rest (stepOf r k rest)) (callsAfter fuel rest (callRead (readReply rest (progressOf r))) (stepOf r k rest))
         field (Field.Bridges n) d e told = absurd (omega arith)
         field (Field.Link x y) d e told = absurd (omega arith)

@@ -9,12 +9,13 @@ use lib.ListN.{length, take}
 use lib.Seq.{length-take-le, take-append-le, take-take}
 use lib.Dec.{eqb}
 use Rattle.bench.specs.State.{part}
-use Rattle.bench.specs.Changes.{Rewritten, rewritten, freshBench, freshOf}
+use Rattle.bench.specs.Changes.{ChangeOutcome, changeOutcome, freshBench, freshOf}
 use Rattle.bench.specs.declared.Bench.{Bench}
 use Rattle.bench.proofs.TieFresh.{FreshLimits, fresh-opens, limits-same}
 use Rattle.plan.proofs.Laws.{ViewRead}
 use Rattle.runner.specs.Turns.{withView, withRow, opened}
 use Rattle.runner.proofs.RunSetup.{Begun, view-begun, fresh-begun, lasts}
+use Rattle.runner.proofs.ViewTurns.{opened-reply}
 
 -- the bench and the limits are those of a fresh network
 pub record Stands (b : Bench) (costs sent held : List ℕ) : Type 0 where
@@ -43,8 +44,18 @@ module _
   abbrev rows : List ℕ
   rows = withRow rest b costs
 
-  abbrev network : Rewritten
+  abbrev network : ChangeOutcome
   network = opened (withView b) rows sent held
+
+  -- it is not refused
+  pub view-taken : 1024 ≤ length costs → 1024 ≤ length rows → 1024 ≤ length sent → 1024 ≤ length held → network .reply ≡ 0
+  view-taken long rowsLong sentLong heldLong =
+      opened-reply rest b costs sent held (record { room = told .room; listed = told .listed; costs = told .costs }) long sentLong heldLong
+      ∙ rw (lasts 2 (withView b) rows (view-begun stage b costs (s .begun) rest told long) refl rowsLong .graph) (either (eqb (b .views) 0))
+    where
+      either : (q : Bool) → cond {A = ℕ} (cond q true true) 0 17 ≡ 0
+      either true = refl
+      either false = refl
 
   pub view-stands :
       1024 ≤ length costs →
@@ -59,7 +70,7 @@ module _
       now = view-begun stage b costs (s .begun) rest told long
 
       -- the first view
-      fresh-now : (o : Rewritten) → (o .bench ≡ freshBench (withView b)) × FreshLimits (withView b) rows (o .sent) (o .held) → Standing 2 (o .bench) rows (o .sent) (o .held)
+      fresh-now : (o : ChangeOutcome) → (o .bench ≡ freshBench (withView b)) × FreshLimits (withView b) rows (o .sent) (o .held) → Standing 2 (o .bench) rows (o .sent) (o .held)
       fresh-now o told =
           rw (told .0)
           (record {
@@ -80,7 +91,7 @@ module _
           }
 
       go : (q : Bool) → eqb (b .views + 1) 1 ≡ q →
-          let o : Rewritten = cond q (freshOf (withView b) rows sent held) (rewritten 0 (withView b) sent held) in
+          let o : ChangeOutcome = cond q (freshOf (withView b) rows sent held) (changeOutcome 0 (withView b) sent held) in
           Standing 2 (o .bench) rows (o .sent) (o .held)
       go true q = fresh-now (freshOf (withView b) rows sent held) (fresh-opens (withView b) rows sent held (lasts 2 (withView b) rows now refl rowsLong) sentLong heldLong)
       go false q =

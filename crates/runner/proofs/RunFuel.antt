@@ -9,35 +9,44 @@ use lib.ListN.{length, take, drop, length-drop}
 use lib.Dec.{eqb}
 use Rattle.distances.proofs.Booleans.{not-both}
 use Rattle.bench.specs.Batches.{replyOf}
+use Rattle.bench.specs.declared.Bench.{Bench}
 use Rattle.plan.specs.Reading.{readReply}
 use Rattle.bench.specs.declared.Event.{Event}
 use Rattle.plan.specs.declared.Field.{Field}
 use Rattle.plan.proofs.Laws.{field-size}
 use Rattle.runner.specs.Buffers.{Buffers, stateOn, progressOf}
-use Rattle.runner.specs.Turns.{lastTurn, setupTurn, viewTurn, eventTurn, fieldTurn, stepOf}
+use Rattle.runner.specs.Turns.{lastStep, setupStep, withView, withRow, opened, viewStep, eventStep, fieldStep, stepOf}
 use Rattle.runner.specs.Plans.{prints}
 use Rattle.runner.specs.Whole.{setupRead, calls, leaves, setsUp, Same, FuelEnough}
 use Rattle.runner.specs.declared.Runner.{Runner}
 use Rattle.runner.proofs.RunSteps.{Step, refused, ended, carried, step-is}
 
 -- the bytes of a field that goes on are those that were read
-event-used : (e : Event) (used : ℕ) (r : Runner) (k : Buffers) → eventTurn e used r k .going ≡ true → eventTurn e used r k .used ≡ used
-unfolding eventTurn lastTurn
+event-used : (e : Event) (used : ℕ) (r : Runner) (k : Buffers) → eventStep e used r k .going ≡ true → eventStep e used r k .used ≡ used
+unfolding eventStep lastStep
 event-used e used r k = go (eqb (replyOf (stateOn (r .bench) k) e) 0) refl
   where
-    go : (b : Bool) → eqb (replyOf (stateOn (r .bench) k) e) 0 ≡ b → eventTurn e used r k .going ≡ true → eventTurn e used r k .used ≡ used
+    go : (b : Bool) → eqb (replyOf (stateOn (r .bench) k) e) 0 ≡ b → eventStep e used r k .going ≡ true → eventStep e used r k .used ≡ used
     go true q h = rw q
     go false q h = absurd (false≢true (rw q at h))
 
-field-used : (rest : List ℕ) (f : Field) (used : ℕ) (r : Runner) (k : Buffers) → fieldTurn rest f used r k .going ≡ true → fieldTurn rest f used r k .used ≡ used
-unfolding fieldTurn setupTurn viewTurn
+view-used : (used : ℕ) (b : Bench) (costs : List ℕ) (r : Runner) (k : Buffers) → viewStep used b costs r k .going ≡ true → viewStep used b costs r k .used ≡ used
+unfolding viewStep setupStep lastStep
+view-used used b costs r k = go (eqb (opened b costs (k .sent) (k .held) .reply) 0) refl
+  where
+    go : (q : Bool) → eqb (opened b costs (k .sent) (k .held) .reply) 0 ≡ q → viewStep used b costs r k .going ≡ true → viewStep used b costs r k .used ≡ used
+    go true q h = rw q
+    go false q h = absurd (false≢true (rw q at h))
+
+field-used : (rest : List ℕ) (f : Field) (used : ℕ) (r : Runner) (k : Buffers) → fieldStep rest f used r k .going ≡ true → fieldStep rest f used r k .used ≡ used
+unfolding fieldStep setupStep
 field-used rest (Field.Bridges n) used r k e = refl
 field-used rest (Field.Link x y) used r k e = refl
-field-used rest Field.View used r k e = refl
+field-used rest Field.View used r k e = view-used used (withView (r .bench)) (withRow rest (r .bench) (k .costs)) r k e
 field-used rest (Field.Event v) used r k e = event-used v used r k e
 
 pub uses : (r : Runner) (k : Buffers) (rest : List ℕ) → stepOf r k rest .going ≡ true → length (drop (stepOf r k rest .used) rest) < length rest
-unfolding lastTurn
+unfolding lastStep
 uses r k rest = go (step-is r k rest)
   where
     go : Step r k rest → stepOf r k rest .going ≡ true → length (drop (stepOf r k rest .used) rest) < length rest

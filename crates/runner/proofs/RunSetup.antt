@@ -10,7 +10,7 @@ use borrow.Author.Tests.{eqb-true, eqb-false}
 use lib.ListN.{length, getD, set, take, drop, length-set, length-append, length-drop, length-replicate, List·getD-append}
 use lib.Seq.{getD-take, getD-set-same, getD-set-other, getD-append-add, length-take-le}
 use lib.Dec.{eqb}
-use Rattle.distances.specs.Call.{graphPasses}
+use Rattle.distances.specs.Call.{graphPasses, costsPass}
 use Rattle.distances.proofs.Ranges.{graph-made, costs-made}
 use Rattle.bench.specs.State.{part}
 use Rattle.bench.specs.Changes.{freshBench}
@@ -20,7 +20,7 @@ use Rattle.plan.specs.Fields.{costIn}
 use Rattle.plan.specs.Reading.{costsReply}
 use Rattle.plan.proofs.CostRows.{row-length, row-cost}
 use Rattle.plan.proofs.Laws.{ViewRead}
-use Rattle.runner.specs.Turns.{withBridges, withLink, withView, withRow}
+use Rattle.runner.specs.Turns.{withBridges, withLink, withView, withRow, ViewFits}
 use Rattle.runner.specs.Plans.{firstRunner, firstBuffers}
 
 -- the costs with one more row: the rows before it are as they were, and it holds what was read
@@ -57,6 +57,20 @@ row-kept rest b costs few long =
       length-drop 32 (drop (32 * b .views) costs),
       length-drop (32 * b .views) costs,
     ) (omega arith)
+
+-- the row that was read passes
+pub row-passes :
+    (rest : List ℕ) (b : Bench) (costs : List ℕ) →
+    ViewFits rest b →
+    1024 ≤ length costs →
+    costsPass (b .links) (part 32 (b .views) (withRow rest b costs)) ≡ true
+row-passes rest b costs fits long =
+    let room : b .views < 32 = fits .room in
+    let few : b .links ≤ 32 = fits .listed in
+    let rows : List ℕ = withRow rest b costs in
+    let kept : length rows ≡ length costs = row-kept rest b costs room long in
+    costs-made (b .links) (part 32 (b .views) rows) (omega (arith, part-length 32 (b .views) rows (omega arith)))
+    (λ l h. rw (part-at 32 (b .views) rows l (omega arith), row-new rest b costs l (omega arith) few h) (fits .costs l h))
 
 -- the ends of a link are two bridges
 pub record Joins (bridges a b : ℕ) : Type 0 where

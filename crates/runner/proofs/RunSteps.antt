@@ -8,16 +8,16 @@ use Rattle.plan.specs.Reading.{readReply}
 use Rattle.plan.specs.declared.Field.{Field}
 use Rattle.plan.specs.declared.Read.{Read}
 use Rattle.runner.specs.Buffers.{Buffers, buffersLong, progressOf}
-use Rattle.runner.specs.Turns.{turn, lastTurn, lastText, fieldTurn, readTurn, runnerInRange, stepOf}
+use Rattle.runner.specs.Turns.{stepOutcome, lastStep, lastText, fieldStep, readStep, runnerInRange, stepOf}
 use Rattle.runner.specs.declared.Runner.{Runner}
 
 pub data Step (r : Runner) (k : Buffers) (rest : List ℕ) : Type 0 where
-  refused : stepOf r k rest ≡ turn 17 false 0 0 r k → Step r k rest
-  ended : (number : ℕ) → readReply rest (progressOf r) ≡ Read.Stop number → stepOf r k rest ≡ lastTurn number (lastText number (r .events) (r .offset)) r k → Step r k rest
-  carried : (f : Field) (used : ℕ) → buffersLong k ≡ true → readReply rest (progressOf r) ≡ Read.Field f used → stepOf r k rest ≡ fieldTurn rest f used r k → Step r k rest
+  refused : stepOf r k rest ≡ stepOutcome 17 false 0 0 r k → Step r k rest
+  ended : (number : ℕ) → readReply rest (progressOf r) ≡ Read.Stop number → stepOf r k rest ≡ lastStep number (lastText number (r .events) (r .offset)) r k → Step r k rest
+  carried : (f : Field) (used : ℕ) → buffersLong k ≡ true → readReply rest (progressOf r) ≡ Read.Field f used → stepOf r k rest ≡ fieldStep rest f used r k → Step r k rest
 
 pub step-is : (r : Runner) (k : Buffers) (rest : List ℕ) → Step r k rest
-unfolding stepOf readTurn
+unfolding stepOf readStep
 step-is r k rest = go (runnerInRange r && buffersLong k) (readReply rest (progressOf r)) refl refl
   where
     go : (b : Bool) (d : Read) → (runnerInRange r && buffersLong k) ≡ b → readReply rest (progressOf r) ≡ d → Step r k rest

@@ -2,16 +2,15 @@
 -- Assumes nothing.
 use Prim.Native.Nat.{ℕ, zero, suc, _≤_}
 use native.Mathlib.Omega.{arith}
-use mathlib.Core.Path.{_≡_, refl, subst}
+use mathlib.Core.Path.{_≡_, refl, _∙_, subst}
 use mathlib.Core.Logic.{_⊎_, inl, inr}
 use mathlib.Core.Bool.{Bool, true, false}
-use mathlib.Core.List.{List, [], _∷_}
+use mathlib.Core.List.{List}
 use borrow.Author.Tests.{leb-true}
 use lib.ListN.{length, drop}
 use lib.Dec.{leb}
 use Rattle.distances.proofs.Booleans.{both-true}
 use Rattle.protocol.specs.Calls.{Call}
-use Rattle.bench.specs.Batches.{callOf}
 use Rattle.protocol.specs.Net as net
 use Rattle.bench.specs.Whole.{runBy, Represents, planIn}
 use Rattle.bench.specs.declared.Bench.{Bench}
@@ -24,14 +23,15 @@ use Rattle.plan.specs.declared.Field.{Field}
 use Rattle.plan.specs.declared.Read.{Read}
 use Rattle.plan.proofs.Laws.{Told, field-told}
 use Rattle.runner.specs.Buffers.{Buffers, buffersLong, stateOn, progressOf}
-use Rattle.runner.specs.Turns.{lastTurn, setupTurn, viewTurn, fieldTurn, stepOf}
+use Rattle.runner.specs.Turns.{lastStep, setupStep, withView, withRow, fieldStep, stepOf}
 use Rattle.runner.specs.Plans.{firstRunner, firstBuffers}
-use Rattle.runner.specs.Whole.{Place, place, stateAt, planAt, calls, leaves, setsUp, NoEvent, RunsFrom, PlanRuns}
+use Rattle.runner.specs.Whole.{Position, position, stateAt, planAt, calls, leaves, setsUp, NoEvent, RunsFrom, PlanRuns}
 use Rattle.runner.specs.declared.Runner.{Runner}
 use Rattle.runner.proofs.RunSteps.{Step, refused, ended, carried, step-is}
 use Rattle.runner.proofs.RunEvents.{accepts, end, made, event-ran, event-stopped, follows}
 use Rattle.runner.proofs.RunSetup.{Begun, row-kept, begun-first, bridges-begun, link-begun, lasts}
-use Rattle.runner.proofs.RunFresh.{Standing, view-stands}
+use Rattle.runner.proofs.ViewTurns.{view-goes}
+use Rattle.runner.proofs.RunFresh.{Standing, view-taken, view-stands}
 
 -- buffers that are long enough
 record Long (k : Buffers) : Type 0 where
@@ -55,13 +55,13 @@ long-told k e =
     }
 
 -- events were carried out, and all but demand 3 itself
-record Opens (p : Place) (end : Place) (cs : List Call) : Type 0 where
+record Opens (p : Position) (end : Position) (cs : List Call) : Type 0 where
   stage : end .runner .stage ≡ 3
   inRange : net.PlanInRange (planAt p)
   fresh : Represents (stateAt p) (net.fresh (planAt p))
   ran : stateAt end ≡ runBy (stateAt p) cs
 
-abbrev Outcome : Place → Place → List Call → Type 0
+abbrev Outcome : Position → Position → List Call → Type 0
 Outcome p end cs = NoEvent end cs ⊎ Opens p end cs
 
 abbrev SetUp : Runner → Buffers → Type 0
@@ -75,16 +75,16 @@ module _ (fuel : ℕ) (v : Event) (used : ℕ) (r : Runner) (k : Buffers) (rest 
   lasting : LastingOf (r .bench) (k .costs)
   lasting = lasts (r .stage) (r .bench) (k .costs) (s .begun) two (long .costs)
 
-  stands : Represents (stateAt (place r k)) (net.fresh (planAt (place r k)))
+  stands : Represents (stateAt (position r k)) (net.fresh (planAt (position r k)))
   stands =
       let was = s .stood two in
       subst (λ (b : Bench). Represents (stateOn b k) (net.fresh (planIn b (k .costs)))) (was .bench)
       (fresh-stands (r .bench) (k .costs) (k .sent) (k .held) (k .messages) lasting (was .limits) (long .messages))
 
-  first-event : Outcome (place r k) (end fuel v used r k rest) (made fuel v used r k rest)
+  first-event : Outcome (position r k) (end fuel v used r k rest) (made fuel v used r k rest)
   first-event = go (accepts r k v) refl
     where
-      go : (b : Bool) → accepts r k v ≡ b → Outcome (place r k) (end fuel v used r k rest) (made fuel v used r k rest)
+      go : (b : Bool) → accepts r k v ≡ b → Outcome (position r k) (end fuel v used r k rest) (made fuel v used r k rest)
       go true q =
           let e = event-ran fuel v used r k rest (follows fuel) q in
           inr (record { stage = e .stage; inRange = plan-in-range (r .bench) (k .costs) lasting; fresh = stands; ran = e .state })
@@ -93,7 +93,7 @@ module _ (fuel : ℕ) (v : Event) (used : ℕ) (r : Runner) (k : Buffers) (rest 
           inl (record { stage = omega (arith, left .1, two); none = left .2 })
 
 set-up : (fuel : ℕ) (r : Runner) (k : Buffers) (rest : List ℕ) → SetUp r k → Outcome (setsUp fuel r k rest) (leaves fuel r k rest) (calls fuel r k rest)
-unfolding setsUp leaves calls lastTurn fieldTurn setupTurn viewTurn
+unfolding setsUp leaves calls lastStep fieldStep setupStep
 set-up zero r k rest s = inl (record { stage = omega (arith, s .begun .early); none = refl })
 set-up (suc fuel) r k rest s = go (set-up fuel) (step-is r k rest)
   where
@@ -107,20 +107,23 @@ set-up (suc fuel) r k rest s = go (set-up fuel) (step-is r k rest)
         early : {b : Bench} → Begun 1 b (k .costs) → Standing 1 b (k .costs) (k .sent) (k .held)
         early now = record { begun = now; stood = λ h. absurd (omega arith) }
 
-        field : (f : Field) → readReply rest (progressOf r) ≡ Read.Field f used → stepOf r k rest ≡ fieldTurn rest f used r k → Told rest (progressOf r) f →
+        field : (f : Field) → readReply rest (progressOf r) ≡ Read.Field f used → stepOf r k rest ≡ fieldStep rest f used r k → Told rest (progressOf r) f →
             Outcome (setsUp (suc fuel) r k rest) (leaves (suc fuel) r k rest) (calls (suc fuel) r k rest)
         field (Field.Bridges n) d e told = rw (e, d) (next _ _ (drop used rest) (early (bridges-begun _ _ _ (s .begun) n (told .opening) (told .least) (told .most))))
         field (Field.Link x y) d e told =
             rw (e, d) (next _ _ (drop used rest) (early (link-begun _ _ _ (s .begun) x y (told .counted) (told .room) (record { first = told .first; second = told .second; differ = told .differ }))))
         field Field.View d e told =
             let room = long-told k long in
-            rw (e, d) (next _ _ (drop used rest) (view-stands _ _ _ _ _ s rest told (room .costs) (rw (row-kept rest (r .bench) (k .costs) (told .room) (room .costs)) (room .costs)) (room .sent) (room .held)))
+            let rows : 1024 ≤ length (withRow rest (r .bench) (k .costs)) = rw (row-kept rest (r .bench) (k .costs) (told .room) (room .costs)) (room .costs) in
+            let taken = view-taken _ _ _ _ _ s rest told (room .costs) rows (room .sent) (room .held) in
+            rw (e ∙ view-goes used r k (withView (r .bench)) (withRow rest (r .bench) (k .costs)) taken, d)
+            (next _ _ (drop used rest) (view-stands _ _ _ _ _ s rest told (room .costs) rows (room .sent) (room .held)))
         field (Field.Event v) d e told = rw (e, d) (first-event fuel v used r k rest s told (long-told k long))
 
 pub plan-runs : PlanRuns
 plan-runs plan = go _ _ _ (set-up (suc (length plan)) firstRunner firstBuffers plan (record { begun = begun-first; stood = λ h. absurd (omega arith) }))
   where
-    go : (p end : Place) (cs : List Call) → Outcome p end cs → NoEvent end cs ⊎ RunsFrom p end cs
+    go : (p end : Position) (cs : List Call) → Outcome p end cs → NoEvent end cs ⊎ RunsFrom p end cs
     go p end cs (inl n) = inl n
     go p end cs (inr o) =
         let all = whole-from (stateAt p) (planAt p) (o .inRange) (o .fresh) cs in

@@ -9,6 +9,9 @@ use Rattle.bench.specs.State.{State, state}
 use Rattle.bench.specs.declared.Bench.{Bench}
 use Rattle.plan.specs.declared.Progress.{Progress}
 use Rattle.runner.specs.declared.Runner.{Runner}
+use Rattle.agreement.specs.Sizes.{limitNumbers}
+use Rattle.bench.specs.Sizes.{costNumbers, flightNumbers}
+use Rattle.text.specs.Writing.{longestText}
 
 -- costs, the two limit tables, the messages, and the bytes to be printed
 pub record Buffers : Type 0 where
@@ -24,10 +27,10 @@ buffers costs sent held messages out = record { costs = costs; sent = sent; held
 -- each is as long as a run needs
 unfoldable pub buffersLong : Buffers → Bool
 buffersLong k =
-    leb 1024 (length (k .costs))
-    && (leb 1024 (length (k .sent))
-    && (leb 1024 (length (k .held))
-    && (leb 320 (length (k .messages)) && leb 544 (length (k .out)))))
+    leb costNumbers (length (k .costs))
+    && (leb limitNumbers (length (k .sent))
+    && (leb limitNumbers (length (k .held))
+    && (leb flightNumbers (length (k .messages)) && leb longestText (length (k .out)))))
 
 -- the bench's state in the buffers
 abbrev pub stateOn : Bench → Buffers → State

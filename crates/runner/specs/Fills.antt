@@ -1,42 +1,43 @@
 -- Field after field, each text behind the last, as long as the lent bytes have room for the longest; and what is printed where that is
 -- done again and again. For every input. Assumes nothing.
-use Prim.Native.Nat.{ℕ, zero, suc, _+_, _-_, _≤_}
+use Prim.Native.Nat.{ℕ, zero, suc, _+_, _≤_, _-_}
 use mathlib.Core.Path.{_≡_}
 use mathlib.Core.Bool.{Bool, cond, _&&_}
 use mathlib.Core.List.{List, [], _++_}
 use lib.ListN.{length, take, drop}
 use lib.Dec.{leb}
 use Rattle.runner.specs.Buffers.{Buffers, buffers}
-use Rattle.runner.specs.Turns.{Turn, turn, stepOf}
+use Rattle.runner.specs.Turns.{StepOutcome, stepOutcome, stepOf}
 use Rattle.runner.specs.Plans.{firstRunner, firstBuffers, prints}
 use Rattle.runner.specs.declared.Runner.{Runner}
+use Rattle.text.specs.Writing.{longestText}
 
 -- the buffers with other bytes to be printed
 abbrev pub buffersWithOut : List ℕ → Buffers → Buffers
 buffersWithOut out k = buffers (k .costs) (k .sent) (k .held) (k .messages) out
 
 -- one step more: on what is left of the plan, its text behind what is to be printed already
-unfoldable pub stepOn : Turn → List ℕ → Turn
+unfoldable pub stepOn : StepOutcome → List ℕ → StepOutcome
 stepOn t rest =
-    let u : Turn = stepOf (t .runner) (buffersWithOut (drop (t .written) (t .buffers .out)) (t .buffers)) (drop (t .used) rest) in
-    turn (u .reply) (u .going) (t .used + u .used) (t .written + u .written) (u .runner)
+    let u : StepOutcome = stepOf (t .runner) (buffersWithOut (drop (t .written) (t .buffers .out)) (t .buffers)) (drop (t .used) rest) in
+    stepOutcome (u .reply) (u .going) (t .used + u .used) (t .written + u .written) (u .runner)
     (buffersWithOut (take (t .written) (t .buffers .out) ++ u .buffers .out) (u .buffers))
 
 -- the plan goes on, and 544 bytes are left: room for the longest text
-unfoldable pub stepsOn : Turn → Bool
-stepsOn t = t .going && leb 544 (length (t .buffers .out) - t .written)
+unfoldable pub stepsOn : StepOutcome → Bool
+stepsOn t = t .going && leb longestText (length (t .buffers .out) - t .written)
 
 -- so many steps more, at most
-unfoldable pub fills : ℕ → Turn → List ℕ → Turn
+unfoldable pub fills : ℕ → StepOutcome → List ℕ → StepOutcome
 fills zero t rest = t
 fills (suc fuel) t rest = cond (stepsOn t) (fills fuel (stepOn t rest) rest) t
 
 -- the lent bytes filled: a step, which may be refused with 17, and those that follow it
-unfoldable pub fillOf : Runner → Buffers → List ℕ → Turn
+unfoldable pub fillOf : Runner → Buffers → List ℕ → StepOutcome
 fillOf r k rest = fills (suc (length rest)) (stepOf r k rest) rest
 
 -- what is printed from a turn on: its own bytes, and where the plan goes on what is printed from there
-abbrev pub printsAfter : Turn → List ℕ → List ℕ
+abbrev pub printsAfter : StepOutcome → List ℕ → List ℕ
 printsAfter t rest =
     take (t .written) (t .buffers .out)
     ++ cond (t .going) (prints (suc (length (drop (t .used) rest))) (t .runner) (t .buffers) (drop (t .used) rest)) []
@@ -49,12 +50,12 @@ FillPrints = (r : Runner) (k : Buffers) (rest : List ℕ) → prints (suc (lengt
 unfoldable pub printsFilled : ℕ → Runner → Buffers → List ℕ → List ℕ
 printsFilled zero r k rest = []
 printsFilled (suc fuel) r k rest =
-    let t : Turn = fillOf r k rest in
+    let t : StepOutcome = fillOf r k rest in
     take (t .written) (t .buffers .out) ++ cond (t .going) (printsFilled fuel (t .runner) (t .buffers) (drop (t .used) rest)) []
 
 -- a plan that is filled and printed again and again, by whatever bytes are lent, prints what a plan prints
 abbrev pub PlanFilled : Type 0
 PlanFilled =
     (plan out : List ℕ) →
-    544 ≤ length out →
+    longestText ≤ length out →
     printsFilled (suc (length plan)) firstRunner (buffersWithOut out firstBuffers) plan ≡ prints (suc (length plan)) firstRunner firstBuffers plan

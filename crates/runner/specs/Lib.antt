@@ -1,3 +1,4 @@
+pub mod Sizes
 pub mod Buffers
 pub mod Events
 pub mod Turns

@@ -15,10 +15,12 @@ use Rattle.plan.specs.Events.{bytesBy}
 use Rattle.text.specs.Lines.{refusedText}
 use Rattle.runner.specs.Buffers.{buffers}
 use Rattle.runner.specs.Events.{eventText}
-use Rattle.runner.specs.Turns.{Turn, turn}
+use Rattle.runner.specs.Turns.{StepOutcome, stepOutcome}
 use Rattle.runner.specs.Fills.{buffersWithOut, fills}
 use Rattle.runner.specs.declared.Runner.{Runner}
 use Rattle.runner.specs.declared.Stepped.{Stepped}
+use Rattle.runner.specs.Sizes.{longestPlan}
+use Rattle.text.specs.Writing.{longestText}
 
 -- the texts of events, one behind the other, by the numbers that they answered with
 unfoldable pub textsOf : ℕ → List Event → List ℕ → List ℕ
@@ -29,12 +31,12 @@ textsOf bridges (e ∷ es) answers =
 -- a list is in range from here on: its events, and the bytes that are left
 pub record ListFits (r : Runner) (left : ℕ) : Type 0 where
   pub stage : r .stage ≡ 3
-  pub events : r .events + 2048 ≤ 61440
-  pub offset : r .offset + left ≤ 61440
+  pub events : r .events + 2048 ≤ longestPlan
+  pub offset : r .offset + left ≤ longestPlan
 
 -- a turn of which only the bytes to be printed are lent
-abbrev pub turned : Stepped → List ℕ → Turn
-turned s out = turn (s .reply) (s .going) (s .used) (s .written) (s .runner) (buffers [] [] [] [] out)
+abbrev pub turned : Stepped → List ℕ → StepOutcome
+turned s out = stepOutcome (s .reply) (s .going) (s .used) (s .written) (s .runner) (buffers [] [] [] [] out)
 
 -- with so many events of so many bytes made, and their texts up to an end
 abbrev pub madeOn : Stepped → List Message → Bench → ℕ → ℕ → ℕ → Stepped
@@ -49,20 +51,20 @@ madeOn done messages b made used end =
     }
 
 -- the plan ends with the refusal of its next event
-unfoldable pub refusedOn : ℕ → Turn → Turn
+unfoldable pub refusedOn : ℕ → StepOutcome → StepOutcome
 refusedOn number t =
     let text : List ℕ = refusedText number (t .runner .offset) in
-    turn number false (t .used) (t .written + length text) (t .runner)
+    stepOutcome number false (t .used) (t .written + length text) (t .runner)
     (buffersWithOut (sets (t .buffers .out) (t .written) text) (t .buffers))
 
 -- why a list ended
-unfoldable pub endedOn : Disposition → Turn → Turn
+unfoldable pub endedOn : Disposition → StepOutcome → StepOutcome
 endedOn Disposition.Complete t = t
 endedOn (Disposition.Refused k) t = refusedOn k t
 endedOn Disposition.Full t = t
 
 -- the events that were made, with their lines, and the refusal of the next one if it was refused
-unfoldable pub listedOn : Stepped → BatchResult → List Event → List ℕ → List ℕ → List ℕ → Turn
+unfoldable pub listedOn : Stepped → BatchResult → List Event → List ℕ → List ℕ → List ℕ → StepOutcome
 listedOn done ran events ends answers out =
     let texts : List ℕ = textsOf (done .runner .bench .bridges) (take (ran .made) events) answers in
     endedOn (ran .disposition)
@@ -81,13 +83,13 @@ pub record ResultFits (done : Stepped) (ran : BatchResult) (events : List Event)
   pub few : ran .made ≤ 2048
   pub ended : ran .made < length ends
   pub sizes : answerSizes (done .runner .bench .bridges) (take (ran .made) events) ≤ length answers
-  pub room : done .written + length (textsOf (done .runner .bench .bridges) (take (ran .made) events) answers) + 544 ≤ out
-  pub counted : done .runner .events + ran .made ≤ 61440
-  pub offset : done .runner .offset + bytesBy ends (ran .made) ≤ 61440
+  pub room : done .written + length (textsOf (done .runner .bench .bridges) (take (ran .made) events) answers) + longestText ≤ out
+  pub counted : done .runner .events + ran .made ≤ longestPlan
+  pub offset : done .runner .offset + bytesBy ends (ran .made) ≤ longestPlan
   pub used : done .used + bytesBy ends (ran .made) < 2 ^ 64
   pub number : SomeNumber (ran .disposition)
 
 -- one step on, or more
-pub record StepsMade (from : Turn) (rest : List ℕ) (t : Turn) : Type 0 where
+pub record StepsMade (from : StepOutcome) (rest : List ℕ) (t : StepOutcome) : Type 0 where
   pub more : ℕ
   pub is : t ≡ fills (suc more) from rest

@@ -1,15 +1,18 @@
 -- What is printed for any list of bytes (document 01, "Plan file"). Assumes nothing.
 use Prim.Native.Nat.{ℕ, zero, suc}
-use mathlib.Core.Bool.{Bool, false, cond}
-use mathlib.Core.List.{List, [], _∷_, _++_}
+use mathlib.Core.Bool.{false, cond}
+use mathlib.Core.List.{List, [], _++_}
 use lib.ListN.{length, take, drop, replicate}
 use lib.Dec.{ltb}
 use Rattle.agreement.specs.Record.{freshRecord}
-use Rattle.bench.specs.declared.Bench.{Bench}
 use Rattle.text.specs.Lines.{refusedText}
 use Rattle.runner.specs.Buffers.{Buffers, buffers}
-use Rattle.runner.specs.Turns.{Turn, stepOf}
+use Rattle.runner.specs.Turns.{StepOutcome, stepOf}
 use Rattle.runner.specs.declared.Runner.{Runner}
+use Rattle.agreement.specs.Sizes.{limitNumbers}
+use Rattle.bench.specs.Sizes.{costNumbers, flightNumbers}
+use Rattle.text.specs.Writing.{longestText}
+use Rattle.runner.specs.Sizes.{longestPlan}
 
 -- before the first field
 abbrev pub firstRunner : Runner
@@ -34,16 +37,16 @@ firstRunner =
 
 abbrev pub firstBuffers : Buffers
 firstBuffers =
-    buffers (replicate 1024 0) (replicate 1024 0) (replicate 1024 0) (replicate 320 0) (replicate 544 0)
+    buffers (replicate costNumbers 0) (replicate limitNumbers 0) (replicate limitNumbers 0) (replicate flightNumbers 0) (replicate longestText 0)
 
 -- field after field, with fuel for so many
 unfoldable pub prints : ℕ → Runner → Buffers → List ℕ → List ℕ
 prints zero r k rest = []
 prints (suc fuel) r k rest =
-    let t : Turn = stepOf r k rest in
+    let t : StepOutcome = stepOf r k rest in
     take (t .written) (t .buffers .out) ++ cond (t .going) (prints fuel (t .runner) (t .buffers) (drop (t .used) rest)) []
 
 -- the whole output: 18 for a plan longer than 61,440 bytes
 unfoldable pub printed : List ℕ → List ℕ
 printed plan =
-    cond (ltb 61440 (length plan)) (refusedText 18 61440) (prints (suc (length plan)) firstRunner firstBuffers plan)
+    cond (ltb longestPlan (length plan)) (refusedText 18 longestPlan) (prints (suc (length plan)) firstRunner firstBuffers plan)

@@ -1,13 +1,17 @@
 -- One step of a plan: a field read and carried out, for every input. Assumes nothing.
-use Prim.Native.Nat.{ℕ, _+_, _*_, _<_}
+use Prim.Native.Nat.{ℕ, _+_, _*_, _≤_, _<_}
 use mathlib.Core.Bool.{Bool, true, false, cond, _&&_}
-use mathlib.Core.List.{List, [], _∷_, _++_}
+use mathlib.Core.List.{List, _++_}
 use lib.ListN.{length, set, take, drop}
 use lib.Dec.{eqb, leb}
+use Rattle.distances.specs.View.{maxCost}
+use Rattle.distances.specs.Call.{graphPasses}
 use Rattle.bench.specs.State.{State, part}
 use Rattle.bench.specs.Batches.{replyOf}
-use Rattle.bench.specs.Changes.{Rewritten, rewritten, freshOf}
+use Rattle.bench.specs.Changes.{ChangeOutcome, changeOutcome, freshOf}
 use Rattle.bench.specs.declared.Bench.{Bench}
+use Rattle.plan.specs.Sizes.{mostLinks, mostViews}
+use Rattle.plan.specs.Fields.{costIn}
 use Rattle.plan.specs.Reading.{readReply, costsReply}
 use Rattle.bench.specs.declared.Event.{Event}
 use Rattle.plan.specs.declared.Field.{Field}
@@ -17,9 +21,10 @@ use Rattle.text.specs.declared.Written.{Written}
 use Rattle.runner.specs.Buffers.{Buffers, buffers, buffersLong, stateOn, buffersWith, progressOf}
 use Rattle.runner.specs.Events.{textOf, stateAfter}
 use Rattle.runner.specs.declared.Runner.{Runner}
+use Rattle.runner.specs.Sizes.{longestPlan}
 
 -- after a step: document 01's number, whether the plan goes on, the bytes used and those to be printed, the runner and the buffers
-pub record Turn : Type 0 where
+pub record StepOutcome : Type 0 where
   pub reply : ℕ
   pub going : Bool
   pub used : ℕ
@@ -27,18 +32,18 @@ pub record Turn : Type 0 where
   pub runner : Runner
   pub buffers : Buffers
 
-abbrev pub turn : ℕ → Bool → ℕ → ℕ → Runner → Buffers → Turn
-turn reply going used written runner k =
+abbrev pub stepOutcome : ℕ → Bool → ℕ → ℕ → Runner → Buffers → StepOutcome
+stepOutcome reply going used written runner k =
     record { reply = reply; going = going; used = used; written = written; runner = runner; buffers = k }
 
 -- the plan ends here, with its last line
-unfoldable pub lastTurn : ℕ → List ℕ → Runner → Buffers → Turn
-lastTurn reply text r k = turn reply false 0 (length text) r (buffersWith (stateOn (r .bench) k) text k)
+unfoldable pub lastStep : ℕ → List ℕ → Runner → Buffers → StepOutcome
+lastStep reply text r k = stepOutcome reply false 0 (length text) r (buffersWith (stateOn (r .bench) k) text k)
 
 -- the plan goes on after a setup of so many bytes
-unfoldable pub setupTurn : ℕ → Bench → ℕ → Runner → Buffers → Turn
-setupTurn used b stage r k =
-    turn 0 true used 0 (record { bench = b; stage = stage; events = r .events; offset = r .offset + used }) k
+unfoldable pub setupStep : ℕ → Bench → ℕ → Runner → Buffers → StepOutcome
+setupStep used b stage r k =
+    stepOutcome 0 true used 0 (record { bench = b; stage = stage; events = r .events; offset = r .offset + used }) k
 
 -- the bench with a bridge count, with one more link, with one more view
 abbrev pub withBridges : Bench → ℕ → Bench
@@ -90,49 +95,51 @@ withRow rest b costs =
     ++ (costsReply rest (b .links) (part 32 (b .views) costs) .row ++ drop 32 (drop (32 * b .views) costs))
 
 -- "A fresh network": it is made with the first view, which is all that it needs
-unfoldable pub opened : Bench → List ℕ → List ℕ → List ℕ → Rewritten
-opened b costs sent held = cond (eqb (b .views) 1) (freshOf b costs sent held) (rewritten 0 b sent held)
+unfoldable pub opened : Bench → List ℕ → List ℕ → List ℕ → ChangeOutcome
+opened b costs sent held = cond (eqb (b .views) 1) (freshOf b costs sent held) (changeOutcome 0 b sent held)
 
--- the plan goes on after a view of so many bytes: b and costs have the view
-unfoldable pub viewTurn : ℕ → Bench → List ℕ → Runner → Buffers → Turn
-viewTurn used b costs r k =
-    let o : Rewritten = opened b costs (k .sent) (k .held) in
-    setupTurn used (o .bench) 2 r (buffers costs (o .sent) (o .held) (k .messages) (k .out))
+-- a view of so many bytes, which b and costs have: the plan goes on, or ends where the network cannot be made
+unfoldable pub viewStep : ℕ → Bench → List ℕ → Runner → Buffers → StepOutcome
+viewStep used b costs r k =
+    let o : ChangeOutcome = opened b costs (k .sent) (k .held) in
+    cond (eqb (o .reply) 0)
+    (setupStep used (o .bench) 2 r (buffers costs (o .sent) (o .held) (k .messages) (k .out)))
+    (lastStep (o .reply) (refusedText (o .reply) (r .offset)) r k)
 
 -- an event: accepted, it is counted and printed; refused, it ends the plan and leaves runner, network and messages as they were
-unfoldable pub eventTurn : Event → ℕ → Runner → Buffers → Turn
-eventTurn e used r k =
+unfoldable pub eventStep : Event → ℕ → Runner → Buffers → StepOutcome
+eventStep e used r k =
     let s : State = stateOn (r .bench) k in
     let reply : ℕ = replyOf s e in
     cond (eqb reply 0)
-    (turn 0 true used (length (textOf s e))
+    (stepOutcome 0 true used (length (textOf s e))
     (record { bench = stateAfter s e .bench; stage = 3; events = r .events + 1; offset = r .offset + used })
     (buffersWith (stateAfter s e) (textOf s e) k))
-    (lastTurn reply (refusedText reply (r .offset)) r k)
+    (lastStep reply (refusedText reply (r .offset)) r k)
 
 -- the field
-unfoldable pub fieldTurn : List ℕ → Field → ℕ → Runner → Buffers → Turn
-fieldTurn rest (Field.Bridges n) used r k = setupTurn used (withBridges (r .bench) n) 1 r k
-fieldTurn rest (Field.Link x y) used r k = setupTurn used (withLink (r .bench) x y) 1 r k
-fieldTurn rest Field.View used r k = viewTurn used (withView (r .bench)) (withRow rest (r .bench) (k .costs)) r k
-fieldTurn rest (Field.Event e) used r k = eventTurn e used r k
+unfoldable pub fieldStep : List ℕ → Field → ℕ → Runner → Buffers → StepOutcome
+fieldStep rest (Field.Bridges n) used r k = setupStep used (withBridges (r .bench) n) 1 r k
+fieldStep rest (Field.Link x y) used r k = setupStep used (withLink (r .bench) x y) 1 r k
+fieldStep rest Field.View used r k = viewStep used (withView (r .bench)) (withRow rest (r .bench) (k .costs)) r k
+fieldStep rest (Field.Event e) used r k = eventStep e used r k
 
 -- the plan's last line: its proper end where the number is 0, else the refusal
 unfoldable pub lastText : ℕ → ℕ → ℕ → List ℕ
 lastText number events offset = cond (eqb number 0) (endText events) (refusedText number offset)
 
 -- what was read: a field, or the plan's end
-unfoldable pub readTurn : List ℕ → Read → Runner → Buffers → Turn
-readTurn rest (Read.Field f used) r k = fieldTurn rest f used r k
-readTurn rest (Read.Stop number) r k = lastTurn number (lastText number (r .events) (r .offset)) r k
+unfoldable pub readStep : List ℕ → Read → Runner → Buffers → StepOutcome
+readStep rest (Read.Field f used) r k = fieldStep rest f used r k
+readStep rest (Read.Stop number) r k = lastStep number (lastText number (r .events) (r .offset)) r k
 
 -- counts that no plan of 61,440 bytes exceeds
 unfoldable pub runnerInRange : Runner → Bool
-runnerInRange r = leb (r .events) 61440 && leb (r .offset) 61440
+runnerInRange r = leb (r .events) longestPlan && leb (r .offset) longestPlan
 
 -- a step: 17 where a lent buffer is too short or the runner's counts of events and bytes are out of range, and then nothing is changed
-unfoldable pub stepOf : Runner → Buffers → List ℕ → Turn
-stepOf r k rest = cond (runnerInRange r && buffersLong k) (readTurn rest (readReply rest (progressOf r)) r k) (turn 17 false 0 0 r k)
+unfoldable pub stepOf : Runner → Buffers → List ℕ → StepOutcome
+stepOf r k rest = cond (runnerInRange r && buffersLong k) (readStep rest (readReply rest (progressOf r)) r k) (stepOutcome 17 false 0 0 r k)
 
 -- for private functions: the count of bytes of a reply, the number of a plan that ends
 abbrev pub countOf : Written → ℕ
@@ -143,21 +150,19 @@ abbrev pub stopNumber : Read → ℕ
 stopNumber (Read.Stop number) = number
 stopNumber (Read.Field f used) = 0
 
--- a bench and the costs, after a setup
-pub record SetUp : Type 0 where
-  pub bench : Bench
-  pub costs : List ℕ
+-- a further view, or the first one of a graph in range
+abbrev pub mayView : Bench → Bool
+mayView b = cond (eqb (b .views) 0) (graphPasses (b .bridges) (b .links) (b .ends)) true
 
-abbrev pub setUp : Bench → List ℕ → SetUp
-setUp bench costs = record { bench = bench; costs = costs }
+-- what the reader has told of a view at the head of these bytes
+pub record ViewFits (rest : List ℕ) (b : Bench) : Type 0 where
+  pub room : b .views < mostViews
+  pub listed : b .links ≤ mostLinks
+  pub costs : (l : ℕ) → l < b .links → costIn rest l ≤ maxCost
 
--- the bench and the limits that stand, whatever `fresh` replied
-abbrev pub openedAs : Rewritten → Rewritten
-openedAs o = rewritten 0 (o .bench) (o .sent) (o .held)
-
--- what the reader has told of a field
-abbrev pub fieldFits : Bench → Field → Type 0
-fieldFits b (Field.Bridges n) = Unit {0}
-fieldFits b (Field.Link x y) = b .links < 32
-fieldFits b Field.View = b .views < 32
-fieldFits b (Field.Event e) = Unit {0}
+-- and of any field
+abbrev pub fieldFits : List ℕ → Bench → Field → Type 0
+fieldFits rest b (Field.Bridges n) = Unit {0}
+fieldFits rest b (Field.Link x y) = b .links < 32
+fieldFits rest b Field.View = ViewFits rest b
+fieldFits rest b (Field.Event e) = Unit {0}

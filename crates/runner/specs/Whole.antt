@@ -17,7 +17,7 @@ use Rattle.plan.specs.Reading.{readReply}
 use Rattle.plan.specs.declared.Field.{Field}
 use Rattle.plan.specs.declared.Read.{Read}
 use Rattle.runner.specs.Buffers.{Buffers, stateOn, progressOf}
-use Rattle.runner.specs.Turns.{Turn, stepOf}
+use Rattle.runner.specs.Turns.{StepOutcome, stepOf}
 use Rattle.runner.specs.Plans.{firstRunner, firstBuffers, prints}
 use Rattle.runner.specs.declared.Runner.{Runner}
 
@@ -41,56 +41,56 @@ setupRead (Read.Stop number) = false
 unfoldable pub calls : ℕ → Runner → Buffers → List ℕ → List Call
 calls zero r k rest = []
 calls (suc fuel) r k rest =
-    let t : Turn = stepOf r k rest in
+    let t : StepOutcome = stepOf r k rest in
     cond (t .going) (callRead (readReply rest (progressOf r)) ++ calls fuel (t .runner) (t .buffers) (drop (t .used) rest)) []
 
 -- the runner and the buffers at some place of a plan
-pub record Place : Type 0 where
+pub record Position : Type 0 where
   pub runner : Runner
   pub buffers : Buffers
 
-abbrev pub place : Runner → Buffers → Place
-place r k = record { runner = r; buffers = k }
+abbrev pub position : Runner → Buffers → Position
+position r k = record { runner = r; buffers = k }
 
-abbrev pub stateAt : Place → State
+abbrev pub stateAt : Position → State
 stateAt p = stateOn (p .runner .bench) (p .buffers)
 
 -- the plan of the network that was set up
-abbrev pub planAt : Place → Plan
+abbrev pub planAt : Position → Plan
 planAt p = planIn (p .runner .bench) (p .buffers .costs)
 
 -- where the plan ends
-unfoldable pub leaves : ℕ → Runner → Buffers → List ℕ → Place
-leaves zero r k rest = place r k
+unfoldable pub leaves : ℕ → Runner → Buffers → List ℕ → Position
+leaves zero r k rest = position r k
 leaves (suc fuel) r k rest =
-    let t : Turn = stepOf r k rest in
-    cond (t .going) (leaves fuel (t .runner) (t .buffers) (drop (t .used) rest)) (place (t .runner) (t .buffers))
+    let t : StepOutcome = stepOf r k rest in
+    cond (t .going) (leaves fuel (t .runner) (t .buffers) (drop (t .used) rest)) (position (t .runner) (t .buffers))
 
 -- where the setup ends: before the first event, carried out or refused
-unfoldable pub setsUp : ℕ → Runner → Buffers → List ℕ → Place
-setsUp zero r k rest = place r k
+unfoldable pub setsUp : ℕ → Runner → Buffers → List ℕ → Position
+setsUp zero r k rest = position r k
 setsUp (suc fuel) r k rest =
-    let t : Turn = stepOf r k rest in
-    cond (setupRead (readReply rest (progressOf r)) && t .going) (setsUp fuel (t .runner) (t .buffers) (drop (t .used) rest)) (place r k)
+    let t : StepOutcome = stepOf r k rest in
+    cond (setupRead (readReply rest (progressOf r)) && t .going) (setsUp fuel (t .runner) (t .buffers) (drop (t .used) rest)) (position r k)
 
 -- the calls of a whole plan, the place of its first event, its end
 abbrev pub planCalls : List ℕ → List Call
 planCalls plan = calls (suc (length plan)) firstRunner firstBuffers plan
 
-abbrev pub planStart : List ℕ → Place
+abbrev pub planStart : List ℕ → Position
 planStart plan = setsUp (suc (length plan)) firstRunner firstBuffers plan
 
-abbrev pub planEnd : List ℕ → Place
+abbrev pub planEnd : List ℕ → Position
 planEnd plan = leaves (suc (length plan)) firstRunner firstBuffers plan
 
 -- no event was carried out
-pub record NoEvent (end : Place) (cs : List Call) : Type 0 where
+pub record NoEvent (end : Position) (cs : List Call) : Type 0 where
   pub stage : end .runner .stage < 3
   pub none : cs ≡ []
 
 -- events were carried out: the fresh network stood before the first, and the state at the end is what the calls make of that state; therefore
 -- demand 3 holds of the calls, and the network of Demand3 is the one that stands in the state at the end, and the one that answers are about
-pub record RunsFrom (p : Place) (end : Place) (cs : List Call) : Type 0 where
+pub record RunsFrom (p : Position) (end : Position) (cs : List Call) : Type 0 where
   pub stage : end .runner .stage ≡ 3
   pub fresh : Represents (stateAt p) (net.fresh (planAt p))
   pub ran : stateAt end ≡ runBy (stateAt p) cs

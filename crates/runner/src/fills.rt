@@ -5,19 +5,24 @@ use crate::lists::answer_room;
 use crate::lists::list_fits;
 use crate::lists::listed_on;
 use crate::lists::nothing_made;
+use crate::sizes::ANSWERS;
+use crate::sizes::EVENT_ENDS;
 use crate::steps::buffers_long;
 use crate::steps::step;
+use bench::sizes::MESSAGES;
+use bench::sizes::MOST_MESSAGES;
 use distances::ready::both;
 use messages::Message;
 use messages::batches::run_by_value;
+use text::LONGEST;
 ghost use mathlib.Core.Path.{_≡_};
 ghost use mathlib.Core.Bool.{true, _&&_};
-ghost use Prim.Native.Nat.{_-_, _≤_};
+ghost use Prim.Native.Nat.{_≤_, _-_};
 ghost use lib.ListN.{length};
 ghost use lib.Dec.{leb};
 ghost use Rattle.messages.specs.Slices.{numbersIn};
 ghost use Rattle.runner.specs.Buffers.{buffers, buffersLong};
-ghost use Rattle.runner.specs.Turns.{turn};
+ghost use Rattle.runner.specs.Turns.{stepOutcome};
 ghost use Rattle.runner.specs.Fills.{stepOn, stepsOn, fillOf};
 ghost use Rattle.runner.specs.Lists.{ListFits, StepsMade};
 
@@ -26,7 +31,7 @@ fn steps_on(going: bool, written: usize, room: usize) -> bool
     requires { ⌜ written ≤ room ⌝ }
     ensures { λ b. ⌜ b ≡ (going && leb 544 (room - written)) ⌝ }
 {
-    both(going, 544 <= room - written)
+    both(going, LONGEST <= room - written)
 }
 
 // One step more, behind what was used of the plan and what is written.
@@ -39,7 +44,7 @@ fn step_on(
     out: &mut [u8],
 ) -> Stepped
     requires { ⌜ (done .used ≤ length (now rest)) × (done .written ≤ length (now out)) ⌝ }
-    ensures { λ s. ⌜ turn (s .reply) (s .going) (s .used) (s .written) (s .runner) (buffers (now (costs .exit)) (now (sent .exit)) (now (held .exit)) (numbersIn (s .messages)) (now (out .exit))) ≡ stepOn (turn (done .reply) (done .going) (done .used) (done .written) (done .runner) (buffers (now (costs .entry)) (now (sent .entry)) (now (held .entry)) (numbersIn (done .messages)) (now (out .entry)))) (now (rest .entry)) ⌝ }
+    ensures { λ s. ⌜ stepOutcome (s .reply) (s .going) (s .used) (s .written) (s .runner) (buffers (now (costs .exit)) (now (sent .exit)) (now (held .exit)) (numbersIn (s .messages)) (now (out .exit))) ≡ stepOn (stepOutcome (done .reply) (done .going) (done .used) (done .written) (done .runner) (buffers (now (costs .entry)) (now (sent .entry)) (now (held .entry)) (numbersIn (done .messages)) (now (out .entry)))) (now (rest .entry)) ⌝ }
 {
     let used = done.used;
     let written = done.written;
@@ -68,23 +73,23 @@ fn steps_listed(
     held: &mut [u32],
     out: &mut [u8],
 ) -> Stepped
-    requires { ⌜ (done .used ≤ length (now rest)) × (done .written ≤ length (now out)) × (stepsOn (turn (done .reply) (done .going) (done .used) (done .written) (done .runner) (buffers (now costs) (now sent) (now held) (numbersIn (done .messages)) (now out))) ≡ true) ⌝ }
+    requires { ⌜ (done .used ≤ length (now rest)) × (done .written ≤ length (now out)) × (stepsOn (stepOutcome (done .reply) (done .going) (done .used) (done .written) (done .runner) (buffers (now costs) (now sent) (now held) (numbersIn (done .messages)) (now out))) ≡ true) ⌝ }
     requires { ⌜ ListFits (done .runner) (length (now rest) - done .used) × (buffersLong (buffers (now costs) (now sent) (now held) (numbersIn (done .messages)) (now out)) ≡ true) ⌝ }
-    ensures { λ s. ⌜ StepsMade (turn (done .reply) (done .going) (done .used) (done .written) (done .runner) (buffers (now (costs .entry)) (now (sent .entry)) (now (held .entry)) (numbersIn (done .messages)) (now (out .entry)))) (now (rest .entry)) (turn (s .reply) (s .going) (s .used) (s .written) (s .runner) (buffers (now (costs .exit)) (now (sent .exit)) (now (held .exit)) (numbersIn (s .messages)) (now (out .exit)))) ⌝ }
+    ensures { λ s. ⌜ StepsMade (stepOutcome (done .reply) (done .going) (done .used) (done .written) (done .runner) (buffers (now (costs .entry)) (now (sent .entry)) (now (held .entry)) (numbersIn (done .messages)) (now (out .entry)))) (now (rest .entry)) (stepOutcome (s .reply) (s .going) (s .used) (s .written) (s .runner) (buffers (now (costs .exit)) (now (sent .exit)) (now (held .exit)) (numbersIn (s .messages)) (now (out .exit)))) ⌝ }
 {
     let used = done.used;
     let r = done.runner;
     let messages = done.messages;
     let bench = r.bench;
     let room = answer_room(out.len() - done.written);
-    let mut ends = [0usize; 2049];
+    let mut ends = [0usize; EVENT_ENDS];
     let progress = plan::events::list_progress(bench);
     let events = plan::events::read_events(&rest[used..], progress, room, &mut ends);
     let count = ends[0];
     if count == 0 {
         return step_on(done, rest, costs, sent, held, out);
     }
-    let mut answers = [0u32; 6144];
+    let mut answers = [0u32; ANSWERS];
     let listed = run_by_value(
         bench,
         costs,
@@ -110,13 +115,13 @@ fn steps_more(
     held: &mut [u32],
     out: &mut [u8],
 ) -> Stepped
-    requires { ⌜ (done .used ≤ length (now rest)) × (done .written ≤ length (now out)) × (stepsOn (turn (done .reply) (done .going) (done .used) (done .written) (done .runner) (buffers (now costs) (now sent) (now held) (numbersIn (done .messages)) (now out))) ≡ true) ⌝ }
-    ensures { λ s. ⌜ StepsMade (turn (done .reply) (done .going) (done .used) (done .written) (done .runner) (buffers (now (costs .entry)) (now (sent .entry)) (now (held .entry)) (numbersIn (done .messages)) (now (out .entry)))) (now (rest .entry)) (turn (s .reply) (s .going) (s .used) (s .written) (s .runner) (buffers (now (costs .exit)) (now (sent .exit)) (now (held .exit)) (numbersIn (s .messages)) (now (out .exit)))) ⌝ }
+    requires { ⌜ (done .used ≤ length (now rest)) × (done .written ≤ length (now out)) × (stepsOn (stepOutcome (done .reply) (done .going) (done .used) (done .written) (done .runner) (buffers (now costs) (now sent) (now held) (numbersIn (done .messages)) (now out))) ≡ true) ⌝ }
+    ensures { λ s. ⌜ StepsMade (stepOutcome (done .reply) (done .going) (done .used) (done .written) (done .runner) (buffers (now (costs .entry)) (now (sent .entry)) (now (held .entry)) (numbersIn (done .messages)) (now (out .entry)))) (now (rest .entry)) (stepOutcome (s .reply) (s .going) (s .used) (s .written) (s .runner) (buffers (now (costs .exit)) (now (sent .exit)) (now (held .exit)) (numbersIn (s .messages)) (now (out .exit)))) ⌝ }
 {
     let used = done.used;
     let r = done.runner;
     let fits = list_fits(r, rest.len() - used);
-    let long = buffers_long(costs.len(), sent.len(), held.len(), 320, out.len());
+    let long = buffers_long(costs.len(), sent.len(), held.len(), MESSAGES, out.len());
     if both(fits, long) {
         return steps_listed(done, rest, costs, sent, held, out);
     }
@@ -131,10 +136,10 @@ pub fn fill(
     costs: &mut [u32],
     sent: &mut [u32],
     held: &mut [u32],
-    messages: [Message; 64],
+    messages: [Message; MOST_MESSAGES],
     out: &mut [u8],
 ) -> Stepped
-    ensures { λ s. ⌜ turn (s .reply) (s .going) (s .used) (s .written) (s .runner) (buffers (now (costs .exit)) (now (sent .exit)) (now (held .exit)) (numbersIn (s .messages)) (now (out .exit))) ≡ fillOf r (buffers (now (costs .entry)) (now (sent .entry)) (now (held .entry)) (numbersIn messages) (now (out .entry))) (now (rest .entry)) ⌝ }
+    ensures { λ s. ⌜ stepOutcome (s .reply) (s .going) (s .used) (s .written) (s .runner) (buffers (now (costs .exit)) (now (sent .exit)) (now (held .exit)) (numbersIn (s .messages)) (now (out .exit))) ≡ fillOf r (buffers (now (costs .entry)) (now (sent .entry)) (now (held .entry)) (numbersIn messages) (now (out .entry))) (now (rest .entry)) ⌝ }
 {
     let mut done = step(r, rest, costs, sent, held, messages, out);
     while steps_on(done.going, done.written, out.len()) {

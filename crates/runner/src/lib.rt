@@ -1,11 +1,13 @@
 // A plan carried out field by field: one step reads a field, does what it says, and writes the lines that it prints.
 use bench::Bench;
+use bench::sizes::MOST_MESSAGES;
 use messages::Message;
 
 mod events;
 pub mod fills;
 mod lists;
 mod setup;
+pub mod sizes;
 pub mod steps;
 mod stops;
 
@@ -21,7 +23,7 @@ pub struct Runner {
 // document 01's number, 0 where nothing is refused.
 pub struct Stepped {
     pub runner: Runner,
-    pub messages: [Message; 64],
+    pub messages: [Message; MOST_MESSAGES],
     pub going: bool,
     pub used: usize,
     pub written: usize,

@@ -2,13 +2,20 @@
 use crate::Runner;
 use crate::Stepped;
 use crate::events::event_text;
+use crate::sizes::ANSWERS;
+use crate::sizes::BYTES_FOR_A_NUMBER;
+use crate::sizes::LONGEST_PLAN;
+use crate::sizes::MOST_BEFORE_A_LIST;
 use crate::stops::last_line;
 use bench::Bench;
 use bench::Event;
 use bench::batches::refusal_in;
+use bench::sizes::MOST_EVENTS;
+use bench::sizes::MOST_MESSAGES;
 use distances::ready::both;
 use messages::Message;
 use messages::batches::RanMessages;
+use text::LONGEST;
 ghost use mathlib.Core.Path.{_≡_};
 ghost use mathlib.Core.Bool.{true, _&&_};
 ghost use Prim.Native.Nat.{_+_, _*_, _^_, _<_, _≤_};
@@ -22,12 +29,15 @@ ghost use Rattle.runner.specs.Lists.{textsOf, ListFits, turned, madeOn, 
 pub(crate) fn list_fits(r: Runner, left: usize) -> bool
     ensures { λ b. ⌜ (b ≡ true → ListFits r left) ⌝ }
 {
-    if 61440 < left {
+    if LONGEST_PLAN < left {
         return false;
     }
     both(
         r.stage == 3,
-        both(r.events <= 59392, r.offset as usize <= 61440 - left),
+        both(
+            r.events <= MOST_BEFORE_A_LIST,
+            r.offset as usize <= LONGEST_PLAN - left,
+        ),
     )
 }
 
@@ -36,9 +46,9 @@ pub(crate) fn answer_room(bytes: usize) -> usize
     requires { ⌜ 544 ≤ bytes ⌝ }
     ensures { λ n. ⌜ (n ≤ 6144) × (22 * n + 544 ≤ bytes) ⌝ }
 {
-    let numbers = (bytes - 544) / 22;
-    if 6144 < numbers {
-        return 6144;
+    let numbers = (bytes - LONGEST) / BYTES_FOR_A_NUMBER;
+    if ANSWERS < numbers {
+        return ANSWERS;
     }
     numbers
 }
@@ -47,7 +57,7 @@ pub(crate) fn answer_room(bytes: usize) -> usize
 fn put_texts(
     written: usize,
     bridges: usize,
-    events: [Event; 2048],
+    events: [Event; MOST_EVENTS],
     made: usize,
     answers: &[u32],
     out: &mut [u8],
@@ -81,7 +91,7 @@ pub(crate) fn nothing_made(listed: RanMessages) -> bool
 // With so many events of so many bytes made, and their texts up to `end`.
 fn made_on(
     done: Stepped,
-    messages: [Message; 64],
+    messages: [Message; MOST_MESSAGES],
     bench: Bench,
     made: usize,
     used: usize,
@@ -131,7 +141,7 @@ fn refused_on(done: Stepped, number: u8, out: &mut [u8]) -> Stepped
 pub(crate) fn listed_on(
     done: Stepped,
     listed: RanMessages,
-    events: [Event; 2048],
+    events: [Event; MOST_EVENTS],
     ends: &[usize],
     answers: &[u32],
     out: &mut [u8],

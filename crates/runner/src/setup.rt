@@ -3,8 +3,8 @@ use bench::Bench;
 ghost use mathlib.Core.Path.{_≡_};
 ghost use Prim.Native.Nat.{_≤_, _<_};
 ghost use lib.ListN.{length};
-ghost use Rattle.bench.specs.Changes.{rewritten};
-ghost use Rattle.runner.specs.Turns.{withBridges, withLink, withView, withRow, opened, openedAs};
+ghost use Rattle.bench.specs.Changes.{changeOutcome};
+ghost use Rattle.runner.specs.Turns.{withBridges, withLink, withView, withRow, mayView, opened};
 
 pub(crate) fn with_bridges(bench: Bench, count: u8) -> Bench
     ensures { λ r. ⌜ r ≡ withBridges bench count ⌝ }
@@ -45,9 +45,21 @@ pub(crate) fn store_row(rest: &[u8], bench: Bench, costs: &mut [u32])
     plan::fields::read_costs(rest, bench.links, &mut costs[row..past]);
 }
 
+// May a view be taken? The first one makes the network, which the graph has to be in range for.
+pub(crate) fn may_view(bench: Bench) -> bool
+    ensures { λ r. ⌜ r ≡ mayView bench ⌝ }
+{
+    if bench.views != 0 {
+        return true;
+    }
+    let ends = bench.ends;
+    distances::ready::graph_passes(bench.bridges, bench.links, &ends)
+}
+
 // The network is fresh with the first view.
 pub(crate) fn open(bench: Bench, costs: &[u32], sent: &mut [u32], held: &mut [u32]) -> Bench
-    ensures { λ b. ⌜ rewritten 0 b (now (sent .exit)) (now (held .exit)) ≡ openedAs (opened bench (now (costs .entry)) (now (sent .entry)) (now (held .entry))) ⌝ }
+    requires { ⌜ opened bench (now costs) (now sent) (now held) .reply ≡ 0 ⌝ }
+    ensures { λ b. ⌜ changeOutcome 0 b (now (sent .exit)) (now (held .exit)) ≡ opened bench (now (costs .entry)) (now (sent .entry)) (now (held .entry)) ⌝ }
 {
     if bench.views == 1 {
         let started = bench::changes::fresh(bench, costs, sent, held);

@@ -3,17 +3,24 @@ use crate::Runner;
 use crate::Stepped;
 use crate::events::event_text;
 use crate::setup;
+use crate::sizes::MOST_COUNTED;
 use crate::stops::last_line;
 use crate::stops::stop_number;
+use agreement::sizes::LIMITS;
 use bench::Bench;
 use bench::Event;
 use bench::batches::refusal_in;
+use bench::sizes::COSTS;
+use bench::sizes::MESSAGES;
+use bench::sizes::MOST_EVENTS;
+use bench::sizes::MOST_MESSAGES;
 use distances::ready::both;
 use messages::Message;
 use messages::batches::run_by_value;
 use plan::Field;
 use plan::Progress;
 use plan::Read;
+use text::LONGEST;
 ghost use mathlib.Core.Path.{_≡_};
 ghost use mathlib.Core.Bool.{_&&_};
 ghost use mathlib.Core.List.{[]};
@@ -22,7 +29,7 @@ ghost use lib.ListN.{length, replicate};
 ghost use lib.Dec.{leb};
 ghost use Rattle.messages.specs.Slices.{numbersIn};
 ghost use Rattle.runner.specs.Buffers.{buffers};
-ghost use Rattle.runner.specs.Turns.{turn, setupTurn, lastTurn, lastText, fieldTurn, fieldFits, runnerInRange, stepOf};
+ghost use Rattle.runner.specs.Turns.{stepOutcome, setupStep, lastStep, lastText, fieldStep, ViewFits, fieldFits, runnerInRange, stepOf};
 ghost use Rattle.runner.specs.Plans.{firstRunner};
 
 // Before the first field.
@@ -64,16 +71,16 @@ pub(crate) fn buffers_long(
     ensures { λ r. ⌜ r ≡ (leb 1024 costs && (leb 1024 sent && (leb 1024 held && (leb 320 messages && leb 544 out)))) ⌝ }
 {
     both(
-        1024 <= costs,
+        COSTS <= costs,
         both(
-            1024 <= sent,
-            both(1024 <= held, both(320 <= messages, 544 <= out)),
+            LIMITS <= sent,
+            both(LIMITS <= held, both(MESSAGES <= messages, LONGEST <= out)),
         ),
     )
 }
 
 // No message in flight.
-pub fn first_messages() -> [Message; 64]
+pub fn first_messages() -> [Message; MOST_MESSAGES]
     ensures { λ r. ⌜ numbersIn r ≡ replicate 320 0 ⌝ }
 {
     messages::batches::no_messages()
@@ -82,13 +89,13 @@ pub fn first_messages() -> [Message; 64]
 fn runner_in_range(r: Runner) -> bool
     ensures { λ b. ⌜ b ≡ runnerInRange r ⌝ }
 {
-    both(r.events <= 61440, r.offset <= 61440)
+    both(r.events <= MOST_COUNTED, r.offset <= MOST_COUNTED)
 }
 
 // The plan ends here.
-fn ended(r: Runner, messages: [Message; 64], number: u8, out: &mut [u8]) -> Stepped
+fn ended(r: Runner, messages: [Message; MOST_MESSAGES], number: u8, out: &mut [u8]) -> Stepped
     requires { ⌜ 544 ≤ length (now out) ⌝ }
-    ensures { λ s. ⌜ turn (s .reply) (s .going) (s .used) (s .written) (s .runner) (buffers [] [] [] [] (now (out .exit))) ≡ lastTurn number (lastText number (r .events) (r .offset)) r (buffers [] [] [] [] (now (out .entry))) ⌝ }
+    ensures { λ s. ⌜ stepOutcome (s .reply) (s .going) (s .used) (s .written) (s .runner) (buffers [] [] [] [] (now (out .exit))) ≡ lastStep number (lastText number (r .events) (r .offset)) r (buffers [] [] [] [] (now (out .entry))) ⌝ }
     ensures { λ s. ⌜ s .messages ≡ messages ⌝ }
 {
     let written = last_line(out, number, r.events, r.offset);
@@ -102,9 +109,15 @@ fn ended(r: Runner, messages: [Message; 64], number: u8, out: &mut [u8]) -> Step
     }
 }
 
-fn set_up(r: Runner, messages: [Message; 64], bench: Bench, stage: usize, used: usize) -> Stepped
+fn set_up(
+    r: Runner,
+    messages: [Message; MOST_MESSAGES],
+    bench: Bench,
+    stage: usize,
+    used: usize,
+) -> Stepped
     requires { ⌜ (r .offset ≤ 61440) × (used ≤ 65538) ⌝ }
-    ensures { λ s. ⌜ turn (s .reply) (s .going) (s .used) (s .written) (s .runner) (buffers [] [] [] [] []) ≡ setupTurn used bench stage r (buffers [] [] [] [] []) ⌝ }
+    ensures { λ s. ⌜ stepOutcome (s .reply) (s .going) (s .used) (s .written) (s .runner) (buffers [] [] [] [] []) ≡ setupStep used bench stage r (buffers [] [] [] [] []) ⌝ }
     ensures { λ s. ⌜ s .messages ≡ messages ⌝ }
 {
     let runner = Runner {
@@ -129,16 +142,16 @@ fn event_step(
     costs: &[u32],
     sent: &mut [u32],
     held: &mut [u32],
-    messages: [Message; 64],
+    messages: [Message; MOST_MESSAGES],
     out: &mut [u8],
     event: Event,
     used: usize,
 ) -> Stepped
     requires { ⌜ (r .offset ≤ 61440) × (r .events ≤ 61440) × (used ≤ 65538) × (544 ≤ length (now out)) ⌝ }
-    ensures { λ s. ⌜ turn (s .reply) (s .going) (s .used) (s .written) (s .runner) (buffers (now (costs .entry)) (now (sent .exit)) (now (held .exit)) (numbersIn (s .messages)) (now (out .exit))) ≡ fieldTurn [] (Field.Event event) used r (buffers (now (costs .entry)) (now (sent .entry)) (now (held .entry)) (numbersIn messages) (now (out .entry))) ⌝ }
+    ensures { λ s. ⌜ stepOutcome (s .reply) (s .going) (s .used) (s .written) (s .runner) (buffers (now (costs .entry)) (now (sent .exit)) (now (held .exit)) (numbersIn (s .messages)) (now (out .exit))) ≡ fieldStep [] (Field.Event event) used r (buffers (now (costs .entry)) (now (sent .entry)) (now (held .entry)) (numbersIn messages) (now (out .entry))) ⌝ }
 {
     let bench = r.bench;
-    let events = [event; 2048];
+    let events = [event; MOST_EVENTS];
     let mut answers = [0u32; 32];
     let listed = run_by_value(bench, costs, sent, held, messages, events, 1, &mut answers);
     let ran = listed.ran;
@@ -167,20 +180,44 @@ fn event_step(
     }
 }
 
+// A view. Costs and limits are written only where the network can be made.
+fn view_step(
+    r: Runner,
+    rest: &[u8],
+    costs: &mut [u32],
+    sent: &mut [u32],
+    held: &mut [u32],
+    messages: [Message; MOST_MESSAGES],
+    out: &mut [u8],
+    used: usize,
+) -> Stepped
+    requires { ⌜ (r .offset ≤ 61440) × (used ≤ 65538) × (1024 ≤ length (now costs)) × (1024 ≤ length (now sent)) × (1024 ≤ length (now held)) × (544 ≤ length (now out)) ⌝ }
+    requires { ⌜ ViewFits (now rest) (r .bench) ⌝ }
+    ensures { λ s. ⌜ stepOutcome (s .reply) (s .going) (s .used) (s .written) (s .runner) (buffers (now (costs .exit)) (now (sent .exit)) (now (held .exit)) (numbersIn (s .messages)) (now (out .exit))) ≡ fieldStep (now (rest .entry)) Field.View used r (buffers (now (costs .entry)) (now (sent .entry)) (now (held .entry)) (numbersIn messages) (now (out .entry))) ⌝ }
+{
+    let bench = r.bench;
+    if !setup::may_view(bench) {
+        return ended(r, messages, 17, out);
+    }
+    setup::store_row(rest, bench, costs);
+    let viewed = setup::with_view(bench);
+    set_up(r, messages, setup::open(viewed, costs, sent, held), 2, used)
+}
+
 fn field_step(
     r: Runner,
     rest: &[u8],
     costs: &mut [u32],
     sent: &mut [u32],
     held: &mut [u32],
-    messages: [Message; 64],
+    messages: [Message; MOST_MESSAGES],
     out: &mut [u8],
     field: Field,
     used: usize,
 ) -> Stepped
-    requires { ⌜ (r .offset ≤ 61440) × (r .events ≤ 61440) × (used ≤ 65538) × (1024 ≤ length (now costs)) × (544 ≤ length (now out)) ⌝ }
-    requires { ⌜ fieldFits (r .bench) field ⌝ }
-    ensures { λ s. ⌜ turn (s .reply) (s .going) (s .used) (s .written) (s .runner) (buffers (now (costs .exit)) (now (sent .exit)) (now (held .exit)) (numbersIn (s .messages)) (now (out .exit))) ≡ fieldTurn (now (rest .entry)) field used r (buffers (now (costs .entry)) (now (sent .entry)) (now (held .entry)) (numbersIn messages) (now (out .entry))) ⌝ }
+    requires { ⌜ (r .offset ≤ 61440) × (r .events ≤ 61440) × (used ≤ 65538) × (1024 ≤ length (now costs)) × (1024 ≤ length (now sent)) × (1024 ≤ length (now held)) × (544 ≤ length (now out)) ⌝ }
+    requires { ⌜ fieldFits (now rest) (r .bench) field ⌝ }
+    ensures { λ s. ⌜ stepOutcome (s .reply) (s .going) (s .used) (s .written) (s .runner) (buffers (now (costs .exit)) (now (sent .exit)) (now (held .exit)) (numbersIn (s .messages)) (now (out .exit))) ≡ fieldStep (now (rest .entry)) field used r (buffers (now (costs .entry)) (now (sent .entry)) (now (held .entry)) (numbersIn messages) (now (out .entry))) ⌝ }
 {
     let bench = r.bench;
     match field {
@@ -192,11 +229,7 @@ fn field_step(
             1,
             used,
         ),
-        Field::View => {
-            setup::store_row(rest, bench, costs);
-            let viewed = setup::with_view(bench);
-            set_up(r, messages, setup::open(viewed, costs, sent, held), 2, used)
-        }
+        Field::View => view_step(r, rest, costs, sent, held, messages, out, used),
         Field::Event(event) => event_step(r, costs, sent, held, messages, out, event, used),
     }
 }
@@ -208,12 +241,12 @@ pub fn step(
     costs: &mut [u32],
     sent: &mut [u32],
     held: &mut [u32],
-    messages: [Message; 64],
+    messages: [Message; MOST_MESSAGES],
     out: &mut [u8],
 ) -> Stepped
-    ensures { λ s. ⌜ turn (s .reply) (s .going) (s .used) (s .written) (s .runner) (buffers (now (costs .exit)) (now (sent .exit)) (now (held .exit)) (numbersIn (s .messages)) (now (out .exit))) ≡ stepOf r (buffers (now (costs .entry)) (now (sent .entry)) (now (held .entry)) (numbersIn messages) (now (out .entry))) (now (rest .entry)) ⌝ }
+    ensures { λ s. ⌜ stepOutcome (s .reply) (s .going) (s .used) (s .written) (s .runner) (buffers (now (costs .exit)) (now (sent .exit)) (now (held .exit)) (numbersIn (s .messages)) (now (out .exit))) ≡ stepOf r (buffers (now (costs .entry)) (now (sent .entry)) (now (held .entry)) (numbersIn messages) (now (out .entry))) (now (rest .entry)) ⌝ }
 {
-    let long = buffers_long(costs.len(), sent.len(), held.len(), 320, out.len());
+    let long = buffers_long(costs.len(), sent.len(), held.len(), MESSAGES, out.len());
     if !both(runner_in_range(r), long) {
         return Stepped {
             runner: r,

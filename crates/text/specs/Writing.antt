@@ -1,12 +1,16 @@
 -- What a call writes into the lent bytes: a text from the first byte on, all else as before. Assumes nothing.
-use Prim.Native.Nat.{ℕ, _+_, _≤_}
+use Prim.Native.Nat.{ℕ, _+_}
 use mathlib.Core.Path.{_≡_}
 use mathlib.Core.Bool.{Bool, cond, _&&_}
-use mathlib.Core.List.{List, [], _∷_}
+use mathlib.Core.List.{List}
 use lib.ListN.{length}
 use lib.Seq.{sets}
 use lib.Dec.{leb}
 use Rattle.text.specs.declared.Written.{Written}
+
+-- every text has room in so many bytes
+abbrev pub longestText : ℕ
+longestText = 544
 
 -- the reply by document 01's number and the count of bytes, and the lent bytes
 pub record Outcome : Type 0 where
@@ -21,7 +25,7 @@ outcome (Written.Bytes k) bytes = record { number = 0; count = k; bytes = bytes 
 -- a text of at most 544 bytes, refused unless as many are lent
 unfoldable pub writing : Bool → List ℕ → List ℕ → Outcome
 writing ready text out =
-    cond (ready && leb 544 (length out)) (outcome (Written.Bytes (length text)) (sets out 0 text)) (outcome Written.Refused out)
+    cond (ready && leb longestText (length out)) (outcome (Written.Bytes (length text)) (sets out 0 text)) (outcome Written.Refused out)
 
 -- something written at a place, by a private function
 pub record Put (l : List ℕ) (at : ℕ) (text : List ℕ) (m : List ℕ) (r : ℕ) : Type 0 where

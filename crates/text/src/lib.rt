@@ -3,7 +3,11 @@ mod decimal;
 pub mod lines;
 mod words;
 
-// How many bytes were written, from the first on; refused where fewer than 544 bytes are lent, or more than 16 bridges are reported.
+// Every text has room in so many bytes.
+pub const LONGEST: usize = 544;
+
+// How many bytes were written, from the first on; refused where fewer than `LONGEST` bytes are lent, more than 16 bridges are reported, or a report has
+// fewer than two numbers for each bridge.
 pub enum Written {
     Refused,
     Bytes(usize),

@@ -1,4 +1,5 @@
 // The public calls: each writes its text from the first lent byte on.
+use crate::LONGEST;
 use crate::Written;
 use crate::decimal::put_byte;
 use crate::decimal::put_number;
@@ -6,9 +7,8 @@ use crate::decimal::put_or_dash;
 use crate::words::put_word;
 ghost use mathlib.Core.Path.{_≡_};
 ghost use mathlib.Core.Bool.{true, _&&_};
-ghost use mathlib.Core.List.{_++_};
 ghost use Prim.Native.Nat.{_+_, _*_, _≤_, _<_};
-ghost use lib.ListN.{length, getD};
+ghost use lib.ListN.{length};
 ghost use lib.Dec.{leb};
 ghost use Rattle.text.specs.Lines.{rowLine, rowLines, reportText, deliveredText, stopsText, endText, refusedText};
 ghost use Rattle.text.specs.Writing.{Put, outcome, writing};
@@ -49,7 +49,7 @@ pub fn report(out: &mut [u8], dest: u32, bridges: usize, rows: &[u32]) -> Writte
     if rows.len() < 2 * bridges {
         return Written::Refused;
     }
-    if out.len() < 544 {
+    if out.len() < LONGEST {
         return Written::Refused;
     }
     let a = put_word(out, 0, b"dest ");
@@ -61,7 +61,7 @@ pub fn report(out: &mut [u8], dest: u32, bridges: usize, rows: &[u32]) -> Writte
 pub fn path_delivered(out: &mut [u8], start: u32, dest: u32, hops: u32) -> Written
     ensures { λ r. ⌜ outcome r (now (out .exit)) ≡ writing true (deliveredText start dest hops) (now (out .entry)) ⌝ }
 {
-    if out.len() < 544 {
+    if out.len() < LONGEST {
         return Written::Refused;
     }
     let a = put_word(out, 0, b"path ");
@@ -76,7 +76,7 @@ pub fn path_delivered(out: &mut [u8], start: u32, dest: u32, hops: u32) -> Writt
 pub fn path_stops(out: &mut [u8], start: u32, dest: u32, last: u32, hops: u32) -> Written
     ensures { λ r. ⌜ outcome r (now (out .exit)) ≡ writing true (stopsText start dest last hops) (now (out .entry)) ⌝ }
 {
-    if out.len() < 544 {
+    if out.len() < LONGEST {
         return Written::Refused;
     }
     let a = put_word(out, 0, b"path ");
@@ -94,7 +94,7 @@ pub fn path_stops(out: &mut [u8], start: u32, dest: u32, last: u32, hops: u32) -
 pub fn end(out: &mut [u8], events: u32) -> Written
     ensures { λ r. ⌜ outcome r (now (out .exit)) ≡ writing true (endText events) (now (out .entry)) ⌝ }
 {
-    if out.len() < 544 {
+    if out.len() < LONGEST {
         return Written::Refused;
     }
     let a = put_word(out, 0, b"end ");
@@ -106,7 +106,7 @@ pub fn end(out: &mut [u8], events: u32) -> Written
 pub fn refused(out: &mut [u8], number: u32, offset: u32) -> Written
     ensures { λ r. ⌜ outcome r (now (out .exit)) ≡ writing true (refusedText number offset) (now (out .entry)) ⌝ }
 {
-    if out.len() < 544 {
+    if out.len() < LONGEST {
         return Written::Refused;
     }
     let a = put_word(out, 0, b"refused ");

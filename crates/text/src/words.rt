@@ -1,8 +1,6 @@
 // The words of the lines at a place of the lent bytes.
-ghost use mathlib.Core.Path.{_≡_};
 ghost use Prim.Native.Nat.{_+_, _≤_};
 ghost use lib.ListN.{length};
-ghost use lib.Seq.{sets};
 ghost use Rattle.text.specs.Writing.{Put};
 
 // A word, byte after byte.

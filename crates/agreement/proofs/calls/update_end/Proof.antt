@@ -1,55 +1,51 @@
--- `calls::update_end` meets its contract. An accepted end is ready, and its rows are lowered and renewed as document 01 says. Assumes nothing.
-use mathlib.Core.Bool.{Bool, true, _&&_}
+-- `calls::update_end` meets its contract: on a checked view it is the call by the end's numbers. Assumes nothing.
+use native.Mathlib.Omega.{arith}
+use mathlib.Core.Bool.{true}
 use mathlib.Core.Path.{_≡_, _∙_, sym}
 use borrow.Author.Needs.{needs}
-use lib.ListN.{length}
-use Rattle.distances.proofs.Booleans.{both-true}
-use Rattle.agreement.specs.Ranges.{isView, recordInRange, endInRange}
-use Rattle.agreement.proofs.Limits.{row-lowered, row-updated}
-use Rattle.agreement.proofs.Entry.{both-is, end-accepted}
-use Rattle.agreement.proofs.Outcomes.{update-accepted, update-refused}
+use Rattle.agreement.specs.Call.{ViewData, viewData, lentEndInRange}
+use Rattle.agreement.proofs.BetweenLaws.{EndListed, end-listed, update-between}
+use Rattle.agreement.proofs.Outcomes.{update-refused}
 use Rattle.agreement.proofs.calls.update_end.Statement.{statement}
 use Rattle.agreement.proofs.calls.update_end.Tie as tie
 
--- the entry check, of the arguments
-abbrev Check : tie.Start → Bool
-Check s =
-    let a = s .args in
-    endInRange (a .bridges) (a .links) (a .ends .now) (a .costs .now) (a .table .now) (length (a .sent .now)) (length (a .held .now)) (a .end)
-    && (isView (a .views) (a .view) && recordInRange (a .views) (a .old))
+abbrev View : tie.Start → ViewData
+View s = let a = s .args in viewData (a .bridges) (a .links) (a .ends .now) (a .costs .now) (a .table .now)
 
-checked : (c : tie.After-both2) → Check (c .before .before .before .before .before .before .before .before .before .before) ≡ c .both2 .result
-checked c =
-    sym
-    (both-is (c .both2 .ensures) (c .before .end-in-range .ensures)
-    (both-is (c .before .before .both .ensures) (c .before .before .before .before .is-view .ensures) (c .before .before .before .record-in-range .ensures)))
+accepted : (c : tie.Then1) → let s = c .before .before .before .before .before .before .before in lentEndInRange (View s) (s .args .sent .now) (s .args .held .now) (s .args .end) ≡ true
+accepted c = sym (c .before .end-in-range .ensures) ∙ c .if1 .taken
 
-accepted : (c : tie.Then1) → Check (c .before .before .before .before .before .before .before .before .before .before .before) ≡ true
-accepted c = checked (c .before) ∙ c .if1 .taken
-
-is-view-requires : tie.Need-is-view-requires
-is-view-requires c κs = search needs
-
-record-in-range-requires : tie.Need-record-in-range-requires
-record-in-range-requires c κs = search needs
-
-both-requires : tie.Need-both-requires
-both-requires c κs = search needs
+listed : (c : tie.After-opposite-end) → let a = c .before .before .before .before .before .before .before .before .args in EndListed (a .ends .now) (a .costs .now) (a .end) (c .opposite-end .result)
+listed c =
+    let s = c .before .before .before .before .before .before .before .before in
+    end-listed (View s) (s .args .end) (s .args .sent .now) (s .args .held .now) (accepted (c .before)) (c .opposite-end .result) (c .opposite-end .ensures)
 
 end-in-range-requires : tie.Need-end-in-range-requires
 end-in-range-requires c κs = search needs
 
-both-requires-2 : tie.Need-both-requires-2
-both-requires-2 c κs = search needs
+opposite-end-requires : tie.Need-opposite-end-requires
+opposite-end-requires c κs = search needs
 
-renew-if-requires : tie.Need-renew-if-requires
-renew-if-requires c κs = search needs
+shared-slice-read-near : tie.Need-shared-slice-read-near
+shared-slice-read-near c = omega (arith, listed (c .before))
 
-rewrite-end-requires : tie.Need-rewrite-end-requires
-rewrite-end-requires c κs = end-accepted _ _ _ _ _ _ _ _ (both-true _ _ (accepted (c .before .before .before .before)) .0)
+cast-near : tie.Need-cast-near
+cast-near c = omega (arith, listed (c .before))
 
-updated-record-requires : tie.Need-updated-record-requires
-updated-record-requires c κs = search needs
+shared-slice-read-far : tie.Need-shared-slice-read-far
+shared-slice-read-far c = omega (arith, listed (c .before .before))
+
+cast-far : tie.Need-cast-far
+cast-far c = omega (arith, listed (c .before .before))
+
+mul-cost : tie.Need-mul-cost
+mul-cost c = omega (arith, listed (c .before .before))
+
+shared-slice-read-cost : tie.Need-shared-slice-read-cost
+shared-slice-read-cost c = omega (arith, listed (c .before .before .before))
+
+update-between-requires : tie.Need-update-between-requires
+update-between-requires c κs = search needs
 
 same-length : tie.Need-same-length
 same-length c = search needs
@@ -59,32 +55,25 @@ same-length-2 c = search needs
 
 returns : tie.Need-returns
 returns c =
-    let s = c .before .before .before .before .before .before .before .before .before .before .before .before .before .before .before .before .before .before .before .before .before .args in
-    rw (
-      c .updated-record .ensures,
-      c .before .before .before .before .before .rewrite-end .ensures .0,
-      c .before .before .before .before .before .rewrite-end .ensures .1,
-      c .before .before .before .before .before .before .before .before .renew-if .ensures,
-      row-lowered,
-      row-updated (s .view) (s .old),
-    )
-    (sym (update-accepted _ _ _ _ _ _ _ (accepted (c .before .before .before .before .before .before .before .before .before .before))))
+    let s = c .before .before .before .before .before .before .before .before .before .before .before .before .before .before .before .before .before .before in
+    c .before .before .before .before .update-between .ensures ∙ rw (c .before .before .before .before .before .before .before .before .before .before .opposite-end .ensures) (sym (update-between (View s) _ _ _ _ _ _ (accepted (c .before .before .before .before .before .before .before .before .before .before .before))))
 
 returns-2 : tie.Need-returns-2
-returns-2 c = sym (update-refused _ _ _ _ _ _ _ (checked (c .before) ∙ c .if1 .left))
+returns-2 c = sym (update-refused (View (c .before .before .before .before .before .before .before)) _ _ _ _ _ _ (rw (sym (c .before .end-in-range .ensures) ∙ c .if1 .left)))
 
 pub update-end-spec : {M : Type 1} → statement M
 update-end-spec =
     tie.close
     (tie.spec
-    is-view-requires
-    record-in-range-requires
-    both-requires
     end-in-range-requires
-    both-requires-2
-    renew-if-requires
-    rewrite-end-requires
-    updated-record-requires
+    opposite-end-requires
+    shared-slice-read-near
+    cast-near
+    shared-slice-read-far
+    cast-far
+    mul-cost
+    shared-slice-read-cost
+    update-between-requires
     same-length
     same-length-2
     returns

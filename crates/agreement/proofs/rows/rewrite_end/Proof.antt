@@ -4,7 +4,7 @@ use native.Mathlib.Omega.{arith}
 use mathlib.Core.Path.{_∙_, refl}
 use borrow.Author.Needs.{needs}
 use Rattle.agreement.specs.Offer.{opposite}
-use Rattle.agreement.specs.Call.{lent}
+use Rattle.agreement.specs.Call.{viewData}
 use Rattle.agreement.proofs.Offers.{lent-offers}
 use Rattle.agreement.proofs.Entry.{BothEnds, both-ends-ready}
 use Rattle.agreement.proofs.rows.rewrite_end.Statement.{statement}
@@ -52,7 +52,7 @@ same-length-2 c = search needs
 returns : tie.Need-returns
 returns c =
     let s = c .before .before .before .before .before .before .before .before .before .before .before .before .before .before .before .before .before in
-    let v = lent (s .args .bridges) (s .args .links) (s .args .ends .now) (s .args .costs .now) (s .args .table .now) in
+    let v = viewData (s .args .bridges) (s .args .links) (s .args .ends .now) (s .args .costs .now) (s .args .table .now) in
     let e = s .args .end in
     let o = c .before .before .before .before .before .before .before .before .before .before .before .opposite-end .result in
     let other = c .before .before .before .before .before .before .before .before .before .before .before .opposite-end .ensures in (

@@ -1,5 +1,5 @@
 -- `answers::path_ready` meets its contract: nothing of the table applies, then the walk itself. Assumes nothing.
-use mathlib.Core.Path.{sym, _∙_}
+use mathlib.Core.Path.{sym, _∙_, refl}
 use mathlib.Core.List.{[]}
 use Rattle.bench.specs.Answers.{pathOf}
 use Rattle.bench.specs.Deliveries.{refusedBy}
@@ -16,18 +16,18 @@ port-refusal-requires c κs = tt
 
 returns : tie.Need-returns
 unfolding pathOf refuse checks noSuchBridge
-returns c = (turned-down _ _ _ refusedBy _ (c .before .before .before .before .before .before .before .pre .0) _ (c .before .port-refusal .ensures) (c .if1 .taken), c .before .before .before .before .before .before .before .pre .1)
+returns c = (turned-down _ _ _ refusedBy _ (c .before .before .before .before .before .before .before .before .pre .0) _ (c .before .port-refusal .ensures (c .before .before .before .before .before .before .before .before .args .bench) refl) (c .if1 .taken), c .before .before .before .before .before .before .before .before .pre .1 .0)
 
 walk-requires : tie.Need-walk-requires
 unfolding refuse checks
 walk-requires c κs =
-    let s = c .before .before .before .before .before .before .before .before .before in
-    let two = bridges-listed (networkOf (s .args .bench) []) (s .args .start) (s .args .dest) _ (sym (c .before .before .before .port-refusal .ensures) ∙ c .before .before .if1 .left) in
-    (ports-told _ _ _ _ (s .pre .0), (two .0, two .1, s .pre .1))
+    let s = (c .before .before .before .before .before .before .before .before .before .before) in
+    let two = bridges-listed (networkOf (s .args .bench) []) (s .args .start) (s .args .dest) _ (sym (c .before .before .before .port-refusal .ensures (c .before .before .before .before .before .before .before .before .before .before .args .bench) refl) ∙ c .before .before .if1 .left) in
+    (ports-told _ _ _ _ (s .pre .0), (two .0, two .1, s .pre .1 .0, s .pre .1 .1))
 
 returns-2 : tie.Need-returns-2
 unfolding pathOf refuse checks noSuchBridge
-returns-2 c = (rw (c .before .before .before .before .walk .ensures .0) (goes-on _ _ _ refusedBy _ (c .before .before .before .before .before .before .before .before .before .before .before .before .before .before .pre .0) _ (c .before .before .before .before .before .before .before .before .port-refusal .ensures) (c .before .before .before .before .before .before .before .if1 .left)), c .before .before .before .before .walk .ensures .1)
+returns-2 c = (rw (c .before .before .before .before .walk .ensures .0) (goes-on _ _ _ refusedBy _ (c .before .before .before .before .before .before .before .before .before .before .before .before .before .before .before .pre .0) _ (c .before .before .before .before .before .before .before .before .port-refusal .ensures (c .before .before .before .before .before .before .before .before .before .before .before .before .before .before .before .args .bench) refl) (c .before .before .before .before .before .before .before .if1 .left)), c .before .before .before .before .walk .ensures .1)
 
 same-length : tie.Need-same-length
 same-length c = c .before .before .before .before .walk .kept .1 .1 .0

@@ -8,7 +8,7 @@ use Rattle.distances.proofs.Booleans.{true-both, not-both}
 use Rattle.protocol.specs.Calls.{refuse, checks, noSuchBridge}
 use Rattle.bench.specs.State.{State, state, networkOf}
 use Rattle.bench.specs.Changes.{stateInRange}
-use Rattle.bench.specs.Answers.{Reported, report, reportOf}
+use Rattle.bench.specs.Answers.{ReportOutcome, reportOutcome, reportOf}
 use Rattle.bench.proofs.EntrySettled.{out-of-range, turned-down, goes-on}
 use Rattle.bench.proofs.ChoiceSteps.{ports-told}
 use Rattle.bench.proofs.WalkSteps.{bridge-listed}
@@ -21,8 +21,8 @@ abbrev StateOf : tie.Start → State
 StateOf s = let a = s .args in state (a .bench) (a .costs .now) (a .sent .now) (a .held .now) []
 
 -- refused, with the rows as they were
-abbrev Refused : tie.Start → ℕ → Reported
-Refused s k = report k (s .args .rows .now)
+abbrev Refused : tie.Start → ℕ → ReportOutcome
+Refused s k = reportOutcome k (s .args .rows .now)
 
 network-in-range-requires : tie.Need-network-in-range-requires
 network-in-range-requires c κs = tt
@@ -30,7 +30,7 @@ network-in-range-requires c κs = tt
 returns : tie.Need-returns
 unfolding reportOf
 returns c =
-    let s = c .before .before .before .before .before .before in (
+    let s = (c .before .before .before .before .before .before) in (
       out-of-range _ _ _ (Refused s) _ (rw (sym (c .before .network-in-range .ensures) ∙ not-true _ (c .if1 .taken))),
       omega arith,
     )
@@ -38,7 +38,7 @@ returns c =
 returns-2 : tie.Need-returns-2
 unfolding reportOf
 returns-2 c =
-    let s = c .before .before .before .before .before .before .before in (
+    let s = (c .before .before .before .before .before .before .before) in (
       out-of-range _ _ _ (Refused s) _ (not-both (stateInRange (StateOf s)) _ (lt-leb 32 _ (c .if2 .taken))),
       omega arith,
     )
@@ -49,18 +49,18 @@ report-refusal-requires c κs = tt
 returns-3 : tie.Need-returns-3
 unfolding reportOf refuse checks noSuchBridge
 returns-3 c =
-    let s = c .before .before .before .before .before .before .before .before .before in (
-      turned-down _ _ _ (Refused s) _ (true-both (sym (c .before .before .before .before .network-in-range .ensures) ∙ not-false _ (c .before .before .before .if1 .left)) (le-leb 32 _ (c .before .before .if2 .left))) _ (c .before .report-refusal .ensures) (c .if3 .taken),
+    let s = (c .before .before .before .before .before .before .before .before .before) in (
+      turned-down _ _ _ (Refused s) _ (true-both (sym (c .before .before .before .before .network-in-range .ensures) ∙ not-false _ (c .before .before .before .if1 .left)) (le-leb 32 _ (c .before .before .if2 .left))) _ (c .before .report-refusal .ensures (c .before .before .before .before .before .before .before .before .before .args .bench) refl) (c .if3 .taken),
       omega (arith, c .if3 .taken),
     )
 
 report-rows-requires : tie.Need-report-rows-requires
 unfolding refuse checks
 report-rows-requires c κs =
-    let s = c .before .before .before .before .before .before .before .before .before .before .before .before in
-    let passes = sym (c .before .before .before .before .report-refusal .ensures) ∙ c .before .before .before .if3 .left in (
+    let s = (c .before .before .before .before .before .before .before .before .before .before .before .before) in
+    let passes = sym (c .before .before .before .before .report-refusal .ensures (c .before .before .before .before .before .before .before .before .before .before .before .before .args .bench) refl) ∙ c .before .before .before .if3 .left in (
       ports-told _ _ _ _ (sym (c .before .before .before .before .before .before .before .network-in-range .ensures) ∙ not-false _ (c .before .before .before .before .before .before .if1 .left)),
-      (bridge-listed (networkOf (s .args .bench) []) (s .args .dest) _ passes, omega (arith, c .before .before .before .before .before .if2 .left, (ports-told (s .args .bench) (s .args .costs .now) (s .args .sent .now) (s .args .held .now) (sym (c .before .before .before .before .before .before .before .network-in-range .ensures) ∙ not-false _ (c .before .before .before .before .before .before .if1 .left))) .ready .fewBridges), tables-none _ _),
+      (bridge-listed (networkOf (s .args .bench) []) (s .args .dest) _ passes, omega (arith, c .before .before .before .before .before .if2 .left, (ports-told (s .args .bench) (s .args .costs .now) (s .args .sent .now) (s .args .held .now) (sym (c .before .before .before .before .before .before .before .network-in-range .ensures) ∙ not-false _ (c .before .before .before .before .before .before .if1 .left))) .ready .fewBridges), tables-none (s .args .bench) _),
     )
 
 same-length : tie.Need-same-length
@@ -69,9 +69,9 @@ same-length c = c .before .before .before .before .report-rows .kept .1 .1 .1 .1
 returns-4 : tie.Need-returns-4
 unfolding reportOf refuse checks noSuchBridge
 returns-4 c =
-    let s = c .before .before .before .before .before .before .before .before .before .before .before .before .before .before .before .before .before in (
+    let s = (c .before .before .before .before .before .before .before .before .before .before .before .before .before .before .before .before .before) in (
       rw (c .before .before .before .before .report-rows .ensures .0)
-          (goes-on _ _ _ (Refused s) _ (true-both (sym (c .before .before .before .before .before .before .before .before .before .before .before .before .network-in-range .ensures) ∙ not-false _ (c .before .before .before .before .before .before .before .before .before .before .before .if1 .left)) (le-leb 32 _ (c .before .before .before .before .before .before .before .before .before .before .if2 .left))) _ (c .before .before .before .before .before .before .before .before .before .report-refusal .ensures) (c .before .before .before .before .before .before .before .before .if3 .left)),
+          (goes-on _ _ _ (Refused s) _ (true-both (sym (c .before .before .before .before .before .before .before .before .before .before .before .before .network-in-range .ensures) ∙ not-false _ (c .before .before .before .before .before .before .before .before .before .before .before .if1 .left)) (le-leb 32 _ (c .before .before .before .before .before .before .before .before .before .before .if2 .left))) _ (c .before .before .before .before .before .before .before .before .before .report-refusal .ensures (c .before .before .before .before .before .before .before .before .before .before .before .before .before .before .before .before .before .args .bench) refl) (c .before .before .before .before .before .before .before .before .if3 .left)),
       tt,
     )
 

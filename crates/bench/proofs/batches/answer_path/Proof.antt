@@ -15,8 +15,8 @@ cast-put-three c = let fits = subst WayFits (c .before .before .way .given .1) (
 put-three-requires : tie.Need-put-three-requires
 put-three-requires c κs = omega arith
 
-result-of-requires : tie.Need-result-of-requires
-result-of-requires c κs = tt
+event-result-requires : tie.Need-event-result-requires
+event-result-requires c κs = tt
 
 enum-known-way-2 : tie.Need-enum-known-way-2
 enum-known-way-2 c = c .match .keys2
@@ -30,32 +30,32 @@ cast-put-three-3 c = let fits = subst WayFits (c .before .before .way2 .given .1
 put-three-requires-2 : tie.Need-put-three-requires-2
 put-three-requires-2 c κs = omega arith
 
-result-of-requires-2 : tie.Need-result-of-requires-2
-result-of-requires-2 c κs = tt
+event-result-requires-2 : tie.Need-event-result-requires-2
+event-result-requires-2 c κs = tt
 
 enum-known-way-3 : tie.Need-enum-known-way-3
 enum-known-way-3 c = c .match .keys3
 
-result-of-requires-3 : tie.Need-result-of-requires-3
-result-of-requires-3 c κs = tt
+event-result-requires-3 : tie.Need-event-result-requires-3
+event-result-requires-3 c κs = tt
 
 same-length : tie.Need-same-length
 same-length c = c .before .before .before .put-three .kept .0
 
 returns : tie.Need-returns
 unfolding wayNumbers
-returns c = rw (c .before .before .before .before .before .before .way .given .1) (c .result-of .ensures, c .before .before .before .put-three .ensures)
+returns c = rw (c .before .before .before .before .before .before .way .given .1) (c .event-result .ensures, c .before .before .before .put-three .ensures)
 
 same-length-2 : tie.Need-same-length-2
 same-length-2 c = c .before .before .before .put-three2 .kept .0
 
 returns-2 : tie.Need-returns-2
 unfolding wayNumbers
-returns-2 c = rw (c .before .before .before .before .before .before .way2 .given .1) (c .result-of2 .ensures, c .before .before .before .put-three2 .ensures)
+returns-2 c = rw (c .before .before .before .before .before .before .way2 .given .1) (c .event-result2 .ensures, c .before .before .before .put-three2 .ensures)
 
 returns-3 : tie.Need-returns-3
 unfolding wayNumbers
-returns-3 c = rw (c .before .before .way3 .given .1) (c .result-of3 .ensures, refl)
+returns-3 c = rw (c .before .before .way3 .given .1) (c .event-result3 .ensures, refl)
 
 pub answer-path-spec : {M : Type 1} → statement M
 answer-path-spec =
@@ -64,14 +64,14 @@ answer-path-spec =
     enum-known-way
     cast-put-three
     put-three-requires
-    result-of-requires
+    event-result-requires
     enum-known-way-2
     cast-put-three-2
     cast-put-three-3
     put-three-requires-2
-    result-of-requires-2
+    event-result-requires-2
     enum-known-way-3
-    result-of-requires-3
+    event-result-requires-3
     same-length
     returns
     same-length-2

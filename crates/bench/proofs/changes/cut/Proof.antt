@@ -1,11 +1,22 @@
--- `changes::cut` meets its contract: out of range, or `cut_ready`. Assumes nothing.
-use mathlib.Core.Path.{sym, _∙_}
+-- `changes::cut` meets its contract: out of range, turned down, or the link is cut. Assumes nothing.
+use native.Mathlib.Omega.{arith}
+use Prim.Native.Nat.{ℕ}
+use mathlib.Core.Path.{_≡_, refl, sym, _∙_}
+use mathlib.Core.Bool.{true}
+use mathlib.Core.List.{[]}
 use borrow.Author.Needs.{needs}
 use borrow.Author.Tests.{not-true, not-false}
-use Rattle.bench.specs.Changes.{changed, cutOf}
-use Rattle.bench.proofs.EntrySettled.{out-of-range}
+use Rattle.protocol.specs.Calls.{refuse, checks, changeChecks}
+use Rattle.bench.specs.State.{networkOf}
+use Rattle.bench.specs.Ranges.{benchInRange}
+use Rattle.bench.specs.Changes.{benchOutcome, cutOf}
+use Rattle.bench.proofs.EntrySettled.{out-of-range, turned-down, goes-on, link-listed}
+use Rattle.bench.proofs.EntryChecks.{bench-counted}
 use Rattle.bench.proofs.changes.cut.Statement.{statement}
 use Rattle.bench.proofs.changes.cut.Tie as tie
+
+inside : (c : tie.Else1) → benchInRange (c .before .before .args .bench) ≡ true
+inside c = sym (c .before .bench-in-range .ensures) ∙ not-false _ (c .if1 .left)
 
 bench-in-range-requires : tie.Need-bench-in-range-requires
 bench-in-range-requires c κs = tt
@@ -16,17 +27,47 @@ refused-requires c κs = search needs
 returns : tie.Need-returns
 unfolding cutOf
 returns c = (
-  c .refused .ensures .0 ∙ out-of-range _ _ _ (λ k. changed k (c .before .before .before .args .bench)) _ (sym (c .before .before .bench-in-range .ensures) ∙ not-true _ (c .before .if1 .taken)),
+  c .refused .ensures .0 ∙ out-of-range _ _ _ (λ k. benchOutcome k (c .before .before .before .args .bench)) _ (sym (c .before .before .bench-in-range .ensures) ∙ not-true _ (c .before .if1 .taken)),
   c .refused .ensures .1,
 )
 
-cut-ready-requires : tie.Need-cut-ready-requires
-cut-ready-requires c κs = sym (c .before .bench-in-range .ensures) ∙ not-false _ (c .if1 .left)
+cut-refusal-requires : tie.Need-cut-refusal-requires
+cut-refusal-requires c κs = bench-counted _ (inside (c .before)) .links
+
+refused-requires-2 : tie.Need-refused-requires-2
+refused-requires-2 c κs = omega arith
 
 returns-2 : tie.Need-returns-2
-returns-2 c = c .cut-ready .ensures
+unfolding cutOf
+returns-2 c = (
+  c .refused2 .ensures .0 ∙ turned-down _ _ _ (λ k. benchOutcome k (c .before .before .before .before .before .before .args .bench)) _ (inside (c .before .before .before .before)) _ (c .before .before .cut-refusal .ensures (c .before .before .before .before .before .before .args .bench) refl refl) (c .before .if2 .taken),
+  c .refused2 .ensures .1,
+)
+
+with-cut-requires : tie.Need-with-cut-requires
+unfolding refuse checks changeChecks
+with-cut-requires c κs = omega (
+  arith,
+  link-listed (networkOf (c .before .before .before .before .before .args .bench) []) (c .before .before .before .before .before .args .link) _ (sym (c .before .cut-refusal .ensures (c .before .before .before .before .before .args .bench) refl refl) ∙ c .if2 .left),
+  bench-counted _ (inside (c .before .before .before)) .links,
+)
+
+returns-3 : tie.Need-returns-3
+unfolding cutOf
+returns-3 c = (
+  rw (c .with-cut .ensures) (goes-on _ _ _ (λ k. benchOutcome k (c .before .before .before .before .before .before .args .bench)) _ (inside (c .before .before .before .before)) _ (c .before .before .cut-refusal .ensures (c .before .before .before .before .before .before .args .bench) refl refl) (c .before .if2 .left)),
+  tt,
+)
 
 pub cut-spec : {M : Type 1} → statement M
 cut-spec =
     tie.close
-    (tie.spec bench-in-range-requires refused-requires returns cut-ready-requires returns-2)
+    (tie.spec
+    bench-in-range-requires
+    refused-requires
+    returns
+    cut-refusal-requires
+    refused-requires-2
+    returns-2
+    with-cut-requires
+    returns-3)

@@ -6,7 +6,7 @@ use borrow.Author.Needs.{needs}
 use Rattle.distances.proofs.Booleans.{both-true}
 use Rattle.distances.specs.Call.{Outcome}
 use Rattle.bench.specs.State.{distanceTable}
-use Rattle.bench.specs.Changes.{Changed, rewritten, freshOf}
+use Rattle.bench.specs.Changes.{BenchOutcome, changeOutcome, freshOf}
 use Rattle.bench.proofs.EntryChecks.{graph-counted}
 use Rattle.bench.proofs.ChangeEntry.{plan-lasting}
 use Rattle.bench.proofs.changes.fresh.Statement.{statement}
@@ -22,7 +22,7 @@ returns : tie.Need-returns
 unfolding freshOf
 returns c =
     let a = c .before .before .before .before .before .before .args in (
-      ap (λ (o : Changed). rewritten (o .reply) (o .bench) (a .sent .now) (a .held .now)) (c .refused .ensures .0)
+      ap (λ (o : BenchOutcome). changeOutcome (o .reply) (o .bench) (a .sent .now) (a .held .now)) (c .refused .ensures .0)
           ∙ rw (sym (c .before .before .plan-in-range .ensures) ∙ not-true _ (c .before .if1 .taken)),
       c .refused .ensures .1,
     )

@@ -1,4 +1,4 @@
--- `messages::deliver` meets its contract: out of range, or `deliver_ready`. Assumes nothing.
+-- `messages::deliver` meets its contract: out of range, or `deliver_ready`, and then the bench with what it took. Assumes nothing.
 use native.Mathlib.Omega.{arith}
 use mathlib.Core.Path.{sym, _∙_, refl}
 use borrow.Author.Tests.{not-true, not-false}
@@ -26,19 +26,25 @@ returns : tie.Need-returns
 returns c = deliver-refused (Given (c .before .before .before .before .before .before .before .before)) _ 17 (refusal-out _ _ _ (sym (c .before .before .delivery-in-range .ensures) ∙ not-true _ (c .before .if1 .taken))) (λ z. omega arith) (c .refused-delivery .ensures .0) (c .refused-delivery .ensures .1)
 
 deliver-ready-requires : tie.Need-deliver-ready-requires
-deliver-ready-requires c κs = (sym (c .before .before .before .before .before .before .delivery-in-range .ensures) ∙ not-false _ (c .before .before .before .before .before .if1 .left), tables-none _ _)
+deliver-ready-requires c κs = (sym (c .before .before .before .before .before .before .delivery-in-range .ensures) ∙ not-false _ (c .before .before .before .before .before .if1 .left), tables-none (c .before .before .before .before .before .before .before .before .before .before .before .before .args .bench) _)
 
 same-length-2 : tie.Need-same-length-2
-same-length-2 c = c .before .before .before .before .before .before .before .before .deliver-ready .kept .1 .1 .1 .1 .0
+same-length-2 c = c .before .before .before .before .before .before .before .before .before .before .deliver-ready .kept .1 .1 .1 .1 .0
 
 same-length-3 : tie.Need-same-length-3
-same-length-3 c = c .before .before .before .before .before .before .before .before .deliver-ready .kept .1 .1 .1 .1 .1 .0
+same-length-3 c = c .before .before .before .before .before .before .before .before .before .before .deliver-ready .kept .1 .1 .1 .1 .1 .0
 
 same-length-4 : tie.Need-same-length-4
-same-length-4 c = c .before .before .before .before .before .before .before .before .deliver-ready .kept .1 .1 .1 .1 .1 .1 .0
+same-length-4 c = c .before .before .before .before .before .before .before .before .before .before .deliver-ready .kept .1 .1 .1 .1 .1 .1 .0
 
 returns-2 : tie.Need-returns-2
-returns-2 c = c .before .before .before .before .before .before .before .before .deliver-ready .ensures .0
+returns-2 c = rw (c .taken .ensures .0, c .taken .ensures .1, c .before .taken-count .ensures) (c .before .before .before .before .before .before .before .before .before .before .deliver-ready .ensures .0 .0)
+
+taken-requires : tie.Need-taken-requires
+taken-requires c κs = c .before .before .before .before .before .before .before .before .before .deliver-ready .ensures .0 .1
+
+taken-count-requires : tie.Need-taken-count-requires
+taken-count-requires c κs = tt
 
 slice-aggregate-deliver-ready : tie.Need-slice-aggregate-deliver-ready
 slice-aggregate-deliver-ready c = refl
@@ -57,6 +63,8 @@ deliver-spec =
     slice-aggregate-deliver-ready
     slice-aggregate-deliver-ready-2
     deliver-ready-requires
+    taken-count-requires
+    taken-requires
     same-length-2
     same-length-3
     same-length-4

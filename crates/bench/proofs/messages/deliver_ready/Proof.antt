@@ -11,6 +11,7 @@ use Rattle.bench.proofs.TieRefusals.{refusal-ready}
 use Rattle.bench.proofs.TieRanges.{told, few}
 use Rattle.bench.proofs.TieChecks.{message-told}
 use Rattle.bench.proofs.FlightCalls.{delivery-told, deliver-refused, deliver-done}
+use Rattle.bench.proofs.ReceiveSteps.{reception-counted, reception-told}
 use Rattle.bench.proofs.messages.deliver_ready.Statement.{statement}
 use Rattle.bench.proofs.messages.deliver_ready.Tie as tie
 
@@ -23,59 +24,47 @@ same : (s : tie.Start) (k : ℕ) → k ≡ refuse (networkOf (s .args .bench) (s
 same s k e = e ∙ sym (refusal-ready _ _ _ (s .pre .0))
 
 deliver-refusal-requires : tie.Need-deliver-refusal-requires
-deliver-refusal-requires c κs = let h = told (Given (c .before .before .before .before .before .before .before)) (c .before .before .before .before .before .before .before .pre .0) in ((h .count, h .messagesLong), λ low. omega (arith, few (c .before .before .before .before .before .before .before .args .bench) (c .before .before .before .before .before .before .before .args .costs .now) (h .lasting), message-told _ _ _ (h .message (c .before .before .before .before .before .before .before .args .place) low) .link))
-
-refused-delivery-requires : tie.Need-refused-delivery-requires
-refused-delivery-requires c κs = tt
+deliver-refusal-requires c κs = let h = told (Given (c .before .before .before .before .before .before .before .before)) (c .before .before .before .before .before .before .before .before .pre .0) in ((h .count, h .messagesLong), λ low. omega (arith, few (c .before .before .before .before .before .before .before .before .args .bench) (c .before .before .before .before .before .before .before .before .args .costs .now) (h .lasting), message-told _ _ _ (h .message (c .before .before .before .before .before .before .before .before .args .place) low) .link))
 
 same-length : tie.Need-same-length
 same-length c = refl
 
 returns : tie.Need-returns
-returns c = (deliver-refused (Given (c .before .before .before .before .before .before .before .before .before .before)) _ _ (same (c .before .before .before .before .before .before .before .before .before .before) _ (c .before .before .deliver-refusal .ensures)) (c .before .if1 .taken) (c .refused-delivery .ensures .0) (c .refused-delivery .ensures .1), c .before .before .before .before .before .before .before .before .before .before .pre .1)
+returns c = ((deliver-refused (Given (c .before .before .before .before .before .before .before .before .before .before)) _ _ (same (c .before .before .before .before .before .before .before .before .before .before) _ (c .before .deliver-refusal .ensures (c .before .before .before .before .before .before .before .before .before .before .args .bench) refl refl)) (c .if1 .taken) refl refl, omega arith), c .before .before .before .before .before .before .before .before .before .before .pre .1)
 
 receive-at-requires : tie.Need-receive-at-requires
-receive-at-requires c κs = let h = delivery-told (Given (c .before .before .before .before .before .before .before .before .before .before .before .before .before .before)) _ _ (same (c .before .before .before .before .before .before .before .before .before .before .before .before .before .before) _ (c .before .before .before .before .before .before .deliver-refusal .ensures)) (c .before .before .before .before .before .if1 .left) in (h .ready, ((omega arith, h .long, h .message), c .before .before .before .before .before .before .before .before .before .before .before .before .before .before .pre .1))
+receive-at-requires c κs = let h = delivery-told (Given (c .before .before .before .before .before .before .before .before .before .before .before .before .before .before .before)) _ _ (same (c .before .before .before .before .before .before .before .before .before .before .before .before .before .before .before) _ (c .before .before .before .before .before .before .deliver-refusal .ensures (c .before .before .before .before .before .before .before .before .before .before .before .before .before .before .before .args .bench) refl refl)) (c .before .before .before .before .before .if1 .left) in ((c .before .before .before .before .before .before .before .before .before .before .before .before .before .before .before .pre .0, h .listed), c .before .before .before .before .before .before .before .before .before .before .before .before .before .before .before .pre .1)
 
 take-out-requires : tie.Need-take-out-requires
-take-out-requires c κs = let h = delivery-told (Given (c .before .before .before .before .before .before .before .before .before .before .before .before .before .before .before .before .before .before .before .before .before .before .before .before)) _ _ (same (c .before .before .before .before .before .before .before .before .before .before .before .before .before .before .before .before .before .before .before .before .before .before .before .before) _ (c .before .before .before .before .before .before .before .before .before .before .before .before .before .before .before .before .deliver-refusal .ensures)) (c .before .before .before .before .before .before .before .before .before .before .before .before .before .before .before .if1 .left) in (h .listed, h .count, h .long)
-
-sub-with-count : tie.Need-sub-with-count
-sub-with-count c = omega (arith, delivery-told (Given (c .before .before .before .before .before .before .before .before .before .before .before .before .before .before .before .before .before .before .before .before .before .before .before .before .before .before .before .before)) _ _ (same (c .before .before .before .before .before .before .before .before .before .before .before .before .before .before .before .before .before .before .before .before .before .before .before .before .before .before .before .before) _ (c .before .before .before .before .before .before .before .before .before .before .before .before .before .before .before .before .before .before .before .before .deliver-refusal .ensures)) (c .before .before .before .before .before .before .before .before .before .before .before .before .before .before .before .before .before .before .before .if1 .left) .listed)
-
-with-count-requires : tie.Need-with-count-requires
-with-count-requires c κs = tt
+take-out-requires c κs = let h = delivery-told (Given (c .before .before .before .before .before .before .before .before .before .before .before .before .before .before .before .before .before .before .before .before .before .before .before .before .before)) _ _ (same (c .before .before .before .before .before .before .before .before .before .before .before .before .before .before .before .before .before .before .before .before .before .before .before .before .before) _ (c .before .before .before .before .before .before .before .before .before .before .before .before .before .before .before .before .deliver-refusal .ensures (c .before .before .before .before .before .before .before .before .before .before .before .before .before .before .before .before .before .before .before .before .before .before .before .before .before .args .bench) refl refl)) (c .before .before .before .before .before .before .before .before .before .before .before .before .before .before .before .if1 .left) in (h .listed, h .count, h .long)
 
 same-length-2 : tie.Need-same-length-2
-same-length-2 c = c .before .before .before .before .before .before .before .before .before .before .before .before .before .before .receive-at .kept .1 .1 .0
+same-length-2 c = c .before .before .before .before .before .before .before .before .before .before .before .before .receive-at .kept .1 .1 .0
 
 same-length-3 : tie.Need-same-length-3
-same-length-3 c = c .before .before .before .before .before .before .before .before .before .before .before .before .before .before .receive-at .kept .1 .1 .1 .0
+same-length-3 c = c .before .before .before .before .before .before .before .before .before .before .before .before .receive-at .kept .1 .1 .1 .0
 
 same-length-4 : tie.Need-same-length-4
-same-length-4 c = c .before .before .before .before .before .before .before .before .before .before .before .before .before .before .receive-at .kept .1 .1 .1 .1 .0
+same-length-4 c = c .before .before .before .before .before .before .before .before .before .before .before .before .receive-at .kept .1 .1 .1 .1 .0
 
 returns-2 : tie.Need-returns-2
-returns-2 c = (deliver-done (Given (c .before .before .before .before .before .before .before .before .before .before .before .before .before .before .before .before .before .before .before .before .before .before .before .before .before .before .before .before .before)) _ _ (same (c .before .before .before .before .before .before .before .before .before .before .before .before .before .before .before .before .before .before .before .before .before .before .before .before .before .before .before .before .before) _ (c .before .before .before .before .before .before .before .before .before .before .before .before .before .before .before .before .before .before .before .before .before .deliver-refusal .ensures)) (c .before .before .before .before .before .before .before .before .before .before .before .before .before .before .before .before .before .before .before .before .if1 .left) (c .before .before .before .before .before .before .before .before .before .before .before .before .before .before .receive-at .ensures .0) (c .with-count .ensures) (c .before .before .before .before .take-out .ensures), c .before .before .before .before .before .before .before .before .before .before .before .before .before .before .receive-at .ensures .1)
+returns-2 c = ((deliver-done (Given (c .before .before .before .before .before .before .before .before .before .before .before .before .before .before .before .before .before .before .before .before .before .before .before .before .before .before .before .before)) _ _ (same (c .before .before .before .before .before .before .before .before .before .before .before .before .before .before .before .before .before .before .before .before .before .before .before .before .before .before .before .before) _ (c .before .before .before .before .before .before .before .before .before .before .before .before .before .before .before .before .before .before .before .deliver-refusal .ensures (c .before .before .before .before .before .before .before .before .before .before .before .before .before .before .before .before .before .before .before .before .before .before .before .before .before .before .before .before .args .bench) refl refl)) (c .before .before .before .before .before .before .before .before .before .before .before .before .before .before .before .before .before .before .if1 .left) (c .before .before .before .before .before .before .before .before .before .before .before .before .receive-at .ensures .0 .0) (reception-counted (c .before .before .before .before .before .before .before .before .before .before .before .before .receive-at .result) (c .before .before .before .before .before .before .before .before .before .before .before .before .before .before .before .before .before .before .before .before .before .before .before .before .before .before .before .before .args .bench) (c .before .before .before .before .before .before .before .before .before .before .before .before .before .before .before .before .before .before .before .before .before .before .before .before .before .before .before .before .args .bench .messages) _ (c .before .before .before .before .before .before .before .before .before .before .before .before .receive-at .ensures .0 .1)) (c .before .before .take-out .ensures), reception-told (c .before .before .before .before .before .before .before .before .before .before .before .before .receive-at .result) (c .before .before .before .before .before .before .before .before .before .before .before .before .receive-at .ensures .0 .1)), c .before .before .before .before .before .before .before .before .before .before .before .before .receive-at .ensures .1)
 
 same-length-5 : tie.Need-same-length-5
-same-length-5 c = c .before .before .before .before .before .before .before .before .before .before .before .before .before .before .receive-at .kept .1 .1 .1 .1 .1 .0
+same-length-5 c = c .before .before .before .before .before .before .before .before .before .before .before .before .receive-at .kept .1 .1 .1 .1 .1 .0
 
 same-length-6 : tie.Need-same-length-6
-same-length-6 c = c .before .before .before .before .take-out .kept .0
+same-length-6 c = c .before .before .take-out .kept .0
 
 pub deliver-ready-spec : {M : Type 1} → statement M
 deliver-ready-spec =
     tie.close
     (tie.spec
     deliver-refusal-requires
-    refused-delivery-requires
     same-length
     returns
     receive-at-requires
     take-out-requires
-    sub-with-count
-    with-count-requires
     same-length-2
     same-length-3
     same-length-4

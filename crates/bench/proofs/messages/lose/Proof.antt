@@ -1,8 +1,8 @@
--- `messages::lose` meets its contract: out of range, or `lose_ready`. Assumes nothing.
+-- `messages::lose` meets its contract: out of range, or `lose_ready`, and then the bench with so many messages. Assumes nothing.
 use mathlib.Core.Path.{sym, _∙_, refl}
 use borrow.Author.Needs.{needs}
 use borrow.Author.Tests.{not-true, not-false}
-use Rattle.bench.specs.Flights.{flown, loseOf}
+use Rattle.bench.specs.Flights.{queueOutcome, loseOf}
 use Rattle.bench.proofs.EntrySettled.{out-of-range}
 use Rattle.bench.proofs.FlightCalls.{flown-refused}
 use Rattle.bench.proofs.messages.lose.Statement.{statement}
@@ -21,7 +21,7 @@ returns : tie.Need-returns
 unfolding loseOf
 returns c = let a = c .before .before .before .before .before .args in (
   flown-refused (a .messages .now) (c .refused .ensures .0)
-      ∙ out-of-range _ _ _ (λ k. flown k (a .bench) (a .messages .now)) _ (sym (c .before .before .flight-in-range .ensures) ∙ not-true _ (c .before .if1 .taken)),
+      ∙ out-of-range _ _ _ (λ k. queueOutcome k (a .bench) (a .messages .now)) _ (sym (c .before .before .flight-in-range .ensures) ∙ not-true _ (c .before .if1 .taken)),
   c .refused .ensures .1,
 )
 
@@ -29,10 +29,13 @@ lose-ready-requires : tie.Need-lose-ready-requires
 lose-ready-requires c κs = sym (c .before .before .flight-in-range .ensures) ∙ not-false _ (c .before .if1 .left)
 
 same-length-2 : tie.Need-same-length-2
-same-length-2 c = c .before .before .lose-ready .kept .1 .0
+same-length-2 c = c .before .before .before .lose-ready .kept .1 .0
 
 returns-2 : tie.Need-returns-2
-returns-2 c = c .before .before .lose-ready .ensures
+returns-2 c = (flown-refused _ (c .queued .ensures .0) ∙ c .before .before .before .lose-ready .ensures .0, c .queued .ensures .1)
+
+queued-requires : tie.Need-queued-requires
+queued-requires c κs = c .before .before .lose-ready .ensures .1
 
 pub lose-spec : {M : Type 1} → statement M
 lose-spec =
@@ -43,5 +46,6 @@ lose-spec =
     same-length
     returns
     lose-ready-requires
+    queued-requires
     same-length-2
     returns-2)

@@ -1,4 +1,4 @@
--- `messages::repeat` meets its contract: out of range, or `repeat_ready`. Assumes nothing.
+-- `messages::repeat` meets its contract: out of range, or `repeat_ready`, and then the bench with what it took. Assumes nothing.
 use native.Mathlib.Omega.{arith}
 use mathlib.Core.Path.{sym, _∙_, refl}
 use borrow.Author.Tests.{not-true, not-false}
@@ -23,16 +23,19 @@ returns : tie.Need-returns
 returns c = repeat-refused (Given (c .before .before .before .before .before .before .before)) _ 17 (refusal-out _ _ _ (sym (c .before .before .delivery-in-range .ensures) ∙ not-true _ (c .before .if1 .taken))) (λ z. omega arith) (c .refused-delivery .ensures .0) (c .refused-delivery .ensures .1)
 
 repeat-ready-requires : tie.Need-repeat-ready-requires
-repeat-ready-requires c κs = (sym (c .before .before .before .before .before .delivery-in-range .ensures) ∙ not-false _ (c .before .before .before .before .if1 .left), tables-none _ _)
+repeat-ready-requires c κs = (sym (c .before .before .before .before .before .delivery-in-range .ensures) ∙ not-false _ (c .before .before .before .before .if1 .left), tables-none (c .before .before .before .before .before .before .before .before .before .before .args .bench) _)
 
 same-length : tie.Need-same-length
-same-length c = c .before .before .before .before .before .before .repeat-ready .kept .1 .1 .1 .1 .0
+same-length c = c .before .before .before .before .before .before .before .repeat-ready .kept .1 .1 .1 .1 .0
 
 same-length-2 : tie.Need-same-length-2
-same-length-2 c = c .before .before .before .before .before .before .repeat-ready .kept .1 .1 .1 .1 .1 .0
+same-length-2 c = c .before .before .before .before .before .before .before .repeat-ready .kept .1 .1 .1 .1 .1 .0
 
 returns-2 : tie.Need-returns-2
-returns-2 c = c .before .before .before .before .before .before .repeat-ready .ensures .0
+returns-2 c = rw (c .taken .ensures .0, c .taken .ensures .1) (c .before .before .before .before .before .before .before .repeat-ready .ensures .0 .0)
+
+taken-requires : tie.Need-taken-requires
+taken-requires c κs = c .before .before .before .before .before .before .repeat-ready .ensures .0 .1
 
 slice-aggregate-repeat-ready : tie.Need-slice-aggregate-repeat-ready
 slice-aggregate-repeat-ready c = refl
@@ -50,6 +53,7 @@ repeat-spec =
     slice-aggregate-repeat-ready
     slice-aggregate-repeat-ready-2
     repeat-ready-requires
+    taken-requires
     same-length
     same-length-2
     returns-2)

@@ -2,7 +2,7 @@
 -- Assumes nothing.
 use Prim.Native.Nat.{ℕ}
 use native.Mathlib.Omega.{arith}
-use mathlib.Core.Path.{_≡_, sym, _∙_}
+use mathlib.Core.Path.{_≡_, sym, _∙_, refl}
 use Rattle.bench.specs.State.{State, state, networkOf}
 use Rattle.protocol.specs.Calls.{deliver, refuse}
 use Rattle.bench.specs.Changes.{refusalOf}
@@ -11,6 +11,7 @@ use Rattle.bench.proofs.TieRefusals.{refusal-ready}
 use Rattle.bench.proofs.TieRanges.{told, few}
 use Rattle.bench.proofs.TieChecks.{message-told}
 use Rattle.bench.proofs.FlightCalls.{delivery-told, repeat-refused, repeat-done}
+use Rattle.bench.proofs.ReceiveSteps.{reception-told}
 use Rattle.bench.proofs.messages.repeat_ready.Statement.{statement}
 use Rattle.bench.proofs.messages.repeat_ready.Tie as tie
 
@@ -23,16 +24,13 @@ same : (s : tie.Start) (k : ℕ) → k ≡ refuse (networkOf (s .args .bench) (s
 same s k e = e ∙ sym (refusal-ready _ _ _ (s .pre .0))
 
 deliver-refusal-requires : tie.Need-deliver-refusal-requires
-deliver-refusal-requires c κs = let h = told (Given (c .before .before .before .before .before .before)) (c .before .before .before .before .before .before .pre .0) in ((h .count, h .messagesLong), λ low. omega (arith, few (c .before .before .before .before .before .before .args .bench) (c .before .before .before .before .before .before .args .costs .now) (h .lasting), message-told _ _ _ (h .message (c .before .before .before .before .before .before .args .place) low) .link))
-
-refused-delivery-requires : tie.Need-refused-delivery-requires
-refused-delivery-requires c κs = tt
+deliver-refusal-requires c κs = let h = told (Given (c .before .before .before .before .before .before .before)) (c .before .before .before .before .before .before .before .pre .0) in ((h .count, h .messagesLong), λ low. omega (arith, few (c .before .before .before .before .before .before .before .args .bench) (c .before .before .before .before .before .before .before .args .costs .now) (h .lasting), message-told _ _ _ (h .message (c .before .before .before .before .before .before .before .args .place) low) .link))
 
 returns : tie.Need-returns
-returns c = (repeat-refused (Given (c .before .before .before .before .before .before .before .before .before)) _ _ (same (c .before .before .before .before .before .before .before .before .before) _ (c .before .before .deliver-refusal .ensures)) (c .before .if1 .taken) (c .refused-delivery .ensures .0) (c .refused-delivery .ensures .1), c .before .before .before .before .before .before .before .before .before .pre .1)
+returns c = ((repeat-refused (Given (c .before .before .before .before .before .before .before .before .before)) _ _ (same (c .before .before .before .before .before .before .before .before .before) _ (c .before .deliver-refusal .ensures (c .before .before .before .before .before .before .before .before .before .args .bench) refl refl)) (c .if1 .taken) refl refl, omega arith), c .before .before .before .before .before .before .before .before .before .pre .1)
 
 receive-at-requires : tie.Need-receive-at-requires
-receive-at-requires c κs = let h = delivery-told (Given (c .before .before .before .before .before .before .before .before .before .before .before .before)) _ _ (same (c .before .before .before .before .before .before .before .before .before .before .before .before) _ (c .before .before .before .before .before .deliver-refusal .ensures)) (c .before .before .before .before .if1 .left) in (h .ready, ((omega arith, h .long, h .message), c .before .before .before .before .before .before .before .before .before .before .before .before .pre .1))
+receive-at-requires c κs = let h = delivery-told (Given (c .before .before .before .before .before .before .before .before .before .before .before .before .before)) _ _ (same (c .before .before .before .before .before .before .before .before .before .before .before .before .before) _ (c .before .before .before .before .before .deliver-refusal .ensures (c .before .before .before .before .before .before .before .before .before .before .before .before .before .args .bench) refl refl)) (c .before .before .before .before .if1 .left) in ((c .before .before .before .before .before .before .before .before .before .before .before .before .before .pre .0, h .listed), c .before .before .before .before .before .before .before .before .before .before .before .before .before .pre .1)
 
 same-length : tie.Need-same-length
 same-length c = c .before .before .before .before .before .before .before .before .receive-at .kept .1 .1 .0
@@ -41,7 +39,7 @@ same-length-2 : tie.Need-same-length-2
 same-length-2 c = c .before .before .before .before .before .before .before .before .receive-at .kept .1 .1 .1 .0
 
 returns-2 : tie.Need-returns-2
-returns-2 c = (repeat-done (Given (c .before .before .before .before .before .before .before .before .before .before .before .before .before .before .before .before .before .before .before .before .before)) _ _ (same (c .before .before .before .before .before .before .before .before .before .before .before .before .before .before .before .before .before .before .before .before .before) _ (c .before .before .before .before .before .before .before .before .before .before .before .before .before .before .deliver-refusal .ensures)) (c .before .before .before .before .before .before .before .before .before .before .before .before .before .if1 .left) (c .before .before .before .before .before .before .before .before .receive-at .ensures .0), c .before .before .before .before .before .before .before .before .receive-at .ensures .1)
+returns-2 c = ((repeat-done (Given (c .before .before .before .before .before .before .before .before .before .before .before .before .before .before .before .before .before .before .before .before .before .before)) _ _ (same (c .before .before .before .before .before .before .before .before .before .before .before .before .before .before .before .before .before .before .before .before .before .before) _ (c .before .before .before .before .before .before .before .before .before .before .before .before .before .before .deliver-refusal .ensures (c .before .before .before .before .before .before .before .before .before .before .before .before .before .before .before .before .before .before .before .before .before .before .args .bench) refl refl)) (c .before .before .before .before .before .before .before .before .before .before .before .before .before .if1 .left) (c .before .before .before .before .before .before .before .before .receive-at .ensures .0 .0), reception-told (c .before .before .before .before .before .before .before .before .receive-at .result) (c .before .before .before .before .before .before .before .before .receive-at .ensures .0 .1)), c .before .before .before .before .before .before .before .before .receive-at .ensures .1)
 
 same-length-3 : tie.Need-same-length-3
 same-length-3 c = c .before .before .before .before .before .before .before .before .receive-at .kept .1 .1 .1 .1 .0
@@ -54,7 +52,6 @@ repeat-ready-spec =
     tie.close
     (tie.spec
     deliver-refusal-requires
-    refused-delivery-requires
     returns
     receive-at-requires
     same-length

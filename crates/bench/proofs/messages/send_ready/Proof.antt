@@ -4,24 +4,23 @@ use mir.Syntax.{w16}
 use mir.Val.{Fits}
 use Prim.Native.Nat.{ℕ, _<_, _*_}
 use native.Mathlib.Omega.{arith}
-use mathlib.Core.Path.{_≡_, sym, _∙_, ap}
+use mathlib.Core.Path.{_≡_, refl, sym, _∙_, ap}
 use mathlib.Core.List.{List, []}
 use borrow.Author.Needs.{needs}
 use lib.ListN.{length}
 use lib.Seq.{sets}
 use Rattle.agreement.proofs.Basics.{getD-default}
 use Rattle.agreement.specs.Record.{freshRecord}
-use Rattle.agreement.specs.Call.{Said, says, carryingSays}
+use Rattle.agreement.specs.Call.{Response, says, carryingSays}
 use Rattle.agreement.specs.declared.Agreement.{Agreement}
 use Rattle.protocol.specs.Calls.{send, refuse, messageOf}
 use Rattle.bench.specs.State.{networkOf}
-use Rattle.bench.specs.Flights.{flown, sendOf}
-use Rattle.bench.specs.Changes.{Changed}
-use Rattle.bench.proofs.RangesSteps.{flightInRange, sent-stays}
+use Rattle.bench.specs.Flights.{queueOutcome, sendOf}
+use Rattle.bench.proofs.RangesSteps.{sent-stays}
 use Rattle.bench.proofs.ChangeSteps.{length-mapped}
 use Rattle.bench.proofs.EntrySettled.{turned-down, goes-on}
 use Rattle.bench.proofs.FlightRanges.{flight-told}
-use Rattle.bench.proofs.FlightCalls.{flown-refused, send-same, SendTold, send-told, sent-numbers, said-same}
+use Rattle.bench.proofs.FlightCalls.{send-same, SendTold, send-told, sent-numbers, said-same}
 use Rattle.bench.proofs.messages.send_ready.Statement.{statement}
 use Rattle.bench.proofs.messages.send_ready.Tie as tie
 
@@ -41,47 +40,44 @@ listed : (s : tie.Start) → length (s .args .t1 .records) ≡ 64
 listed s = search (needs, length-mapped)
 
 -- layer 2 carries what the message holds
-carries : (c : tie.After-carry) → let a = c .before .before .before .before .before .before .before .before .args in carryingSays (c .carry .result) ≡ says (messageOf (networkOf (a .t1) (a .messages .now)) (a .bridge) (a .link) .agreement)
+carries : (c : tie.After-carry) → let a = c .before .before .before .before .before .before .before .before .before .before .args in carryingSays (c .carry .result) ≡ says (messageOf (networkOf (a .t1) (a .messages .now)) (a .bridge) (a .link) .agreement)
 carries c =
-    let s = c .before .before .before .before .before .before .before .before in
+    let s = c .before .before .before .before .before .before .before .before .before .before in
     let end = c .before .before .before .before .end-of in
-    let accepted = told s _ (c .before .before .before .before .before .before .send-refusal .ensures) (c .before .before .before .before .before .if1 .left) in
-    let h : end .result < length (s .args .t1 .records) = omega (arith, listed s, accepted .end, end .ensures) in
-    c .carry .ensures ∙ rw (getD-default (s .args .t1 .records) (end .result) _ freshRecord h, end .ensures) (accepted .carries)
+    let its = end .ensures (s .args .t1 .bridges) (s .args .t1 .links) in
+    let accepted = told s _ (c .before .before .before .before .before .before .send-refusal .ensures (c .before .before .before .before .before .before .before .before .before .before .args .t1) refl refl refl refl refl) (c .before .before .before .before .before .if1 .left) in
+    let h : end .result < length (s .args .t1 .records) = omega (arith, listed s, accepted .end, its) in
+    c .carry .ensures ∙ rw (getD-default (s .args .t1 .records) (end .result) _ freshRecord h, its) (accepted .carries)
 
 send-refusal-requires : tie.Need-send-refusal-requires
-send-refusal-requires c κs = flight-told _ _ (c .before .pre) .0 .counted .links
-
-refused-requires : tie.Need-refused-requires
-refused-requires c κs = omega arith
+send-refusal-requires c κs = flight-told _ _ (c .before .before .before .pre) .0 .counted .links
 
 returns : tie.Need-returns
 unfolding sendOf
-returns c = let a = c .before .before .before .before .args in (
-  flown-refused (a .messages .now) (c .refused .ensures .0)
-      ∙ turned-down _ _ _ (λ k. flown k (a .t1) (a .messages .now)) _ (c .before .before .before .before .pre) _
-      (c .before .before .send-refusal .ensures ∙ send-same (a .t1) (a .messages .now) (a .bridge) (a .link)) (c .before .if1 .taken),
-  c .refused .ensures .1,
-  ap (λ (o : Changed). flightInRange (o .bench) (a .messages .now)) (c .refused .ensures .0) ∙ c .before .before .before .before .pre,
+returns c = let a = c .before .before .before .before .before .args in (
+  turned-down _ _ _ (λ k. queueOutcome k (a .t1) (a .messages .now)) _ (c .before .before .before .before .before .pre) _
+      (c .before .send-refusal .ensures (c .before .before .before .before .before .args .t1) refl refl refl refl refl ∙ send-same (a .t1) (a .messages .now) (a .bridge) (a .link)) (c .if1 .taken),
+  omega arith,
+  c .before .before .before .before .before .pre,
 )
 
 end-of-requires : tie.Need-end-of-requires
-end-of-requires c κs = told (c .before .before .before) _ (c .before .send-refusal .ensures) (c .if1 .left) .link
+end-of-requires c κs = told (c .before .before .before .before .before) _ (c .before .send-refusal .ensures (c .before .before .before .before .before .args .t1) refl refl refl refl refl) (c .if1 .left) .link
 
 mul-old : tie.Need-mul-old
-mul-old c = omega (arith, told (c .before .before .before .before) _ (c .before .before .send-refusal .ensures) (c .before .if1 .left) .end, c .end-of .ensures)
+mul-old c = omega (arith, told (c .before .before .before .before .before .before) _ (c .before .before .send-refusal .ensures (c .before .before .before .before .before .before .args .t1) refl refl refl refl refl) (c .before .if1 .left) .end, c .end-of .ensures (c .before .before .before .before .before .before .args .t1 .bridges) (c .before .before .before .before .before .before .args .t1 .links))
 
 element-copy-out-old : tie.Need-element-copy-out-old
-element-copy-out-old c = omega (arith, told (c .before .before .before .before) _ (c .before .before .send-refusal .ensures) (c .before .if1 .left) .end, c .end-of .ensures)
+element-copy-out-old c = omega (arith, told (c .before .before .before .before .before .before) _ (c .before .before .send-refusal .ensures (c .before .before .before .before .before .before .args .t1) refl refl refl refl refl) (c .before .if1 .left) .end, c .end-of .ensures (c .before .before .before .before .before .before .args .t1 .bridges) (c .before .before .before .before .before .before .args .t1 .links))
 
 element-copy-out-carry : tie.Need-element-copy-out-carry
-element-copy-out-carry c = told (c .before .before .before .before .before) _ (c .before .before .before .send-refusal .ensures) (c .before .before .if1 .left) .bridge
+element-copy-out-carry c = told (c .before .before .before .before .before .before .before) _ (c .before .before .before .send-refusal .ensures (c .before .before .before .before .before .before .before .args .t1) refl refl refl refl refl) (c .before .before .if1 .left) .bridge
 
 mul-carry : tie.Need-mul-carry
-mul-carry c = omega (arith, told (c .before .before .before .before .before .before) _ (c .before .before .before .before .send-refusal .ensures) (c .before .before .before .if1 .left) .bridge)
+mul-carry c = omega (arith, told (c .before .before .before .before .before .before .before .before) _ (c .before .before .before .before .send-refusal .ensures (c .before .before .before .before .before .before .before .before .args .t1) refl refl refl refl refl) (c .before .before .before .if1 .left) .bridge)
 
 element-copy-out-carry-2 : tie.Need-element-copy-out-carry-2
-element-copy-out-carry-2 c = told (c .before .before .before .before .before .before) _ (c .before .before .before .before .send-refusal .ensures) (c .before .before .before .if1 .left) .bridge
+element-copy-out-carry-2 c = told (c .before .before .before .before .before .before .before .before) _ (c .before .before .before .before .send-refusal .ensures (c .before .before .before .before .before .before .before .before .args .t1) refl refl refl refl refl) (c .before .before .before .if1 .left) .bridge
 
 carry-requires : tie.Need-carry-requires
 carry-requires c κs = tt
@@ -92,14 +88,11 @@ enum-known-carried c = c .match .keys1
 enum-told : tie.Need-enum-told
 enum-told c = c .match .keys2
 
-refused-requires-2 : tie.Need-refused-requires-2
-refused-requires-2 c κs = omega arith
-
 returns-2 : tie.Need-returns-2
-returns-2 c = let out : _≡_ {A = ℕ} 17 0 = ap (λ (r : Said Agreement). r .number) (rw (c .before .enum-told .given .1) at (carries (c .before .before .before))) in absurd (omega arith)
+returns-2 c = let out : _≡_ {A = ℕ} 17 0 = ap (λ (r : Response Agreement). r .number) (rw (c .enum-told .given .1) at (carries (c .before .before))) in absurd (omega arith)
 
 cast-put : tie.Need-cast-put
-cast-put c = omega (arith, told (c .before .before .before .before .before .before .before .before .before .before .before .before) _ (c .before .before .before .before .before .before .before .before .before .before .send-refusal .ensures) (c .before .before .before .before .before .before .before .before .before .if1 .left) .link)
+cast-put c = omega (arith, told (c .before .before .before .before .before .before .before .before .before .before .before .before .before .before) _ (c .before .before .before .before .before .before .before .before .before .before .send-refusal .ensures (c .before .before .before .before .before .before .before .before .before .before .before .before .before .before .args .t1) refl refl refl refl refl) (c .before .before .before .before .before .before .before .before .before .if1 .left) .link)
 
 cast-put-2 : tie.Need-cast-put-2
 cast-put-2 c = omega arith
@@ -114,30 +107,27 @@ cast-put-5 : tie.Need-cast-put-5
 cast-put-5 c = omega arith
 
 put-requires : tie.Need-put-requires
-put-requires c κs = (told (c .before .before .before .before .before .before .before .before .before .before .before .before .before .before .before) _ (c .before .before .before .before .before .before .before .before .before .before .before .before .before .send-refusal .ensures) (c .before .before .before .before .before .before .before .before .before .before .before .before .if1 .left) .room, flight-told _ _ (c .before .before .before .before .before .before .before .before .before .before .before .before .before .before .before .pre) .1 .long)
+put-requires c κs = (told (c .before .before .before .before .before .before .before .before .before .before .before .before .before .before .before .before .before) _ (c .before .before .before .before .before .before .before .before .before .before .before .before .before .send-refusal .ensures (c .before .before .before .before .before .before .before .before .before .before .before .before .before .before .before .before .before .args .t1) refl refl refl refl refl) (c .before .before .before .before .before .before .before .before .before .before .before .before .if1 .left) .room, flight-told _ _ (c .before .before .before .before .before .before .before .before .before .before .before .before .before .before .before .before .before .pre) .1 .long)
 
-add-with-count : tie.Need-add-with-count
-add-with-count c = omega (arith, told (c .before .before .before .before .before .before .before .before .before .before .before .before .before .before .before .before .before .before) _ (c .before .before .before .before .before .before .before .before .before .before .before .before .before .before .before .before .send-refusal .ensures) (c .before .before .before .before .before .before .before .before .before .before .before .before .before .before .before .if1 .left) .room)
-
-with-count-requires : tie.Need-with-count-requires
-with-count-requires c κs = tt
+add-t13 : tie.Need-add-t13
+add-t13 c = omega (arith, told (c .before .before .before .before .before .before .before .before .before .before .before .before .before .before .before .before .before .before .before .before) _ (c .before .before .before .before .before .before .before .before .before .before .before .before .before .before .before .before .send-refusal .ensures (c .before .before .before .before .before .before .before .before .before .before .before .before .before .before .before .before .before .before .before .before .args .t1) refl refl refl refl refl) (c .before .before .before .before .before .before .before .before .before .before .before .before .before .before .before .if1 .left) .room)
 
 same-length : tie.Need-same-length
-same-length c = c .before .before .before .put .kept .0
+same-length c = c .before .before .put .kept .0
 
 returns-3 : tie.Need-returns-3
 unfolding sendOf
-returns-3 c = let a = c .before .before .before .before .before .before .before .before .before .before .before .before .before .before .before .before .before .before .before .args in
-    let same = said-same _ _ (rw (c .before .before .before .before .before .before .before .before .before .carried .given .1) at (carries (c .before .before .before .before .before .before .before .before .before .before .before))) in
-    let numbers = sent-numbers (a .t1) (a .messages .now) (a .bridge) (a .link) (c .before .before .before .before .before .before .before .before .before .before .before .before .before .before .before .end-of .result) _ (c .before .before .before .before .before .before .before .before .before .before .before .before .before .before .before .end-of .ensures) same in
-    let x : Agreement = c .before .before .before .before .before .before .before .before .before .carried .given .0 .0 in
+returns-3 c = let a = c .before .before .before .before .before .before .before .before .before .before .before .before .before .before .before .before .before .before .before .before .args in
+    let same = said-same _ _ (rw (c .before .before .before .before .before .before .before .before .carried .given .1) at (carries (c .before .before .before .before .before .before .before .before .before .before))) in
+    let numbers = sent-numbers (a .t1) (a .messages .now) (a .bridge) (a .link) (c .before .before .before .before .before .before .before .before .before .before .before .before .before .before .end-of .result) _ (c .before .before .before .before .before .before .before .before .before .before .before .before .before .before .end-of .ensures (c .before .before .before .before .before .before .before .before .before .before .before .before .before .before .before .before .before .before .before .before .args .t1 .bridges) (c .before .before .before .before .before .before .before .before .before .before .before .before .before .before .before .before .before .before .before .before .args .t1 .links)) same in
+    let x : Agreement = c .before .before .before .before .before .before .before .before .carried .given .0 .0 in
     let number : Fits w16 (x .number) = search needs in
     let discarded : Fits w16 (x .discarded) = search needs in
-    let table = c .before .before .before .before .before .before .before .before .before .before .before .before .before .before .before .before .before .send-refusal .ensures ∙ send-same (a .t1) (a .messages .now) (a .bridge) (a .link) in
-    rw (c .with-count .ensures, c .before .before .before .put .ensures ∙ ap (λ (l : List ℕ). sets (a .messages .now) (5 * a .t1 .messages) l) numbers) (
-      goes-on _ _ _ (λ k. flown k (a .t1) (a .messages .now)) _ (c .before .before .before .before .before .before .before .before .before .before .before .before .before .before .before .before .before .before .before .pre) _ table (c .before .before .before .before .before .before .before .before .before .before .before .before .before .before .before .before .if1 .left),
+    let table = c .before .before .before .before .before .before .before .before .before .before .before .before .before .before .before .before .send-refusal .ensures (c .before .before .before .before .before .before .before .before .before .before .before .before .before .before .before .before .before .before .before .before .args .t1) refl refl refl refl refl ∙ send-same (a .t1) (a .messages .now) (a .bridge) (a .link) in
+    rw (c .before .before .put .ensures ∙ ap (λ (l : List ℕ). sets (a .messages .now) (5 * a .t1 .messages) l) numbers) (
+      goes-on _ _ _ (λ k. queueOutcome k (a .t1) (a .messages .now)) _ (c .before .before .before .before .before .before .before .before .before .before .before .before .before .before .before .before .before .before .before .before .pre) _ table (c .before .before .before .before .before .before .before .before .before .before .before .before .before .before .before .if1 .left),
       tt,
-      sent-stays (a .t1) (a .messages .now) (a .bridge) (a .link) (c .before .before .before .before .before .before .before .before .before .before .before .before .before .before .before .before .before .before .before .pre) (sym table ∙ c .before .before .before .before .before .before .before .before .before .before .before .before .before .before .before .before .if1 .left) (rw (← same) (number .fits)) (rw (← same) (discarded .fits)),
+      sent-stays (a .t1) (a .messages .now) (a .bridge) (a .link) (c .before .before .before .before .before .before .before .before .before .before .before .before .before .before .before .before .before .before .before .before .pre) (sym table ∙ c .before .before .before .before .before .before .before .before .before .before .before .before .before .before .before .if1 .left) (rw (← same) (number .fits)) (rw (← same) (discarded .fits)),
     )
 
 pub send-ready-spec : {M : Type 1} → statement M
@@ -145,7 +135,6 @@ send-ready-spec =
     tie.close
     (tie.spec
     send-refusal-requires
-    refused-requires
     returns
     end-of-requires
     mul-old
@@ -156,7 +145,6 @@ send-ready-spec =
     carry-requires
     enum-known-carried
     enum-told
-    refused-requires-2
     returns-2
     cast-put
     cast-put-2
@@ -164,7 +152,6 @@ send-ready-spec =
     cast-put-4
     cast-put-5
     put-requires
-    add-with-count
-    with-count-requires
+    add-t13
     same-length
     returns-3)

@@ -9,7 +9,7 @@ use Rattle.bench.proofs.refusals.deliver_refusal.Tie as tie
 
 returns : tie.Need-returns
 unfolding refuse checks noMessage
-returns c = first (here (rw (messages-length, le-ltb _ _ (c .if1 .taken))))
+returns c = λ b count cut. rw (count, cut) (first (here (rw (messages-length, le-ltb _ _ (c .if1 .taken)))))
 
 mul-link : tie.Need-mul-link
 mul-link c = omega arith
@@ -23,20 +23,18 @@ shared-slice-read-link c = omega arith
 cast-link : tie.Need-cast-link
 cast-link c = omega (arith, c .before .before .pre .1 (c .before .if1 .left))
 
-element-copy-out-if2 : tie.Need-element-copy-out-if2
-element-copy-out-if2 c = omega (arith, c .before .before .pre .1 (c .before .if1 .left))
+array-read-if2 : tie.Need-array-read-if2
+array-read-if2 c = omega (arith, c .before .before .pre .1 (c .before .if1 .left))
 
 returns-2 : tie.Need-returns-2
 unfolding refuse checks noMessage linkCut
-returns-2 c =
-    first
-    (next (rw (messages-length, lt-ltb _ _ (c .before .before .before .if1 .left))) (here (rw (message-at _ _ _ (c .before .before .before .if1 .left)) (c .if2 .taken))))
+returns-2 c = λ b count cut. rw (count, cut) (first
+    (next (rw (messages-length, lt-ltb _ _ (c .before .before .if1 .left))) (here (rw (message-at _ _ _ (c .before .before .if1 .left)) (c .if2 .taken)))))
 
 returns-3 : tie.Need-returns-3
 unfolding refuse checks noMessage linkCut
-returns-3 c =
-    first
-    (next (rw (messages-length, lt-ltb _ _ (c .before .before .before .if1 .left))) (next (rw (message-at _ _ _ (c .before .before .before .if1 .left)) (c .if2 .left)) none))
+returns-3 c = λ b count cut. rw (count, cut) (first
+    (next (rw (messages-length, lt-ltb _ _ (c .before .before .if1 .left))) (next (rw (message-at _ _ _ (c .before .before .if1 .left)) (c .if2 .left)) none)))
 
 pub deliver-refusal-spec : {M : Type 1} → statement M
 deliver-refusal-spec =
@@ -47,6 +45,6 @@ deliver-refusal-spec =
     mul-link-2
     shared-slice-read-link
     cast-link
-    element-copy-out-if2
+    array-read-if2
     returns-2
     returns-3)

@@ -8,11 +8,15 @@ use Rattle.bench.proofs.refusals.lose_refusal.Tie as tie
 
 returns : tie.Need-returns
 unfolding refuse checks noMessage
-returns c = first (here (rw (messages-length, le-ltb _ _ (c .if1 .taken))))
+returns c = λ b count. rw count (first (here (rw (messages-length, le-ltb _ _ (c .if1 .taken)))))
 
 returns-2 : tie.Need-returns-2
 unfolding refuse checks noMessage
-returns-2 c = first (next (rw (messages-length, lt-ltb _ _ (c .if1 .left))) none)
+returns-2 c = λ b count. rw count (first (next (rw (messages-length, lt-ltb _ _ (c .if1 .left))) none))
 
 pub lose-refusal-spec : {M : Type 1} → statement M
-lose-refusal-spec = tie.close (tie.spec returns returns-2)
+lose-refusal-spec =
+    tie.close
+    (tie.spec
+    returns
+    returns-2)

@@ -8,14 +8,19 @@ use Rattle.bench.proofs.refusals.port_refusal.Tie as tie
 
 returns : tie.Need-returns
 unfolding refuse checks noSuchBridge
-returns c = first (here (rw (le-ltb _ _ (c .if1 .taken))))
+returns c = λ b bridges. rw bridges (first (here (rw (le-ltb _ _ (c .if1 .taken)))))
 
 report-refusal-requires : tie.Need-report-refusal-requires
 report-refusal-requires c κs = tt
 
 returns-2 : tie.Need-returns-2
 unfolding refuse checks noSuchBridge
-returns-2 c = c .report-refusal .ensures ∙ sym (later _ _ (rw (lt-ltb _ _ (c .before .if1 .left))))
+returns-2 c = λ b bridges. c .report-refusal .ensures b bridges ∙ sym (later _ _ (rw bridges (rw (lt-ltb _ _ (c .before .if1 .left)))))
 
 pub port-refusal-spec : {M : Type 1} → statement M
-port-refusal-spec = tie.close (tie.spec returns report-refusal-requires returns-2)
+port-refusal-spec =
+    tie.close
+    (tie.spec
+    returns
+    report-refusal-requires
+    returns-2)

@@ -7,11 +7,15 @@ use Rattle.bench.proofs.refusals.report_refusal.Tie as tie
 
 returns : tie.Need-returns
 unfolding refuse checks noSuchBridge
-returns c = first (here (rw (le-ltb _ _ (c .if1 .taken))))
+returns c = λ b bridges. rw bridges (first (here (rw (le-ltb _ _ (c .if1 .taken)))))
 
 returns-2 : tie.Need-returns-2
 unfolding refuse checks noSuchBridge
-returns-2 c = first (next (rw (lt-ltb _ _ (c .if1 .left))) none)
+returns-2 c = λ b bridges. rw bridges (first (next (rw (lt-ltb _ _ (c .if1 .left))) none))
 
 pub report-refusal-spec : {M : Type 1} → statement M
-report-refusal-spec = tie.close (tie.spec returns returns-2)
+report-refusal-spec =
+    tie.close
+    (tie.spec
+    returns
+    returns-2)

@@ -9,20 +9,20 @@ use Rattle.bench.proofs.refusals.update_refusal.Tie as tie
 
 returns : tie.Need-returns
 unfolding refuse checks changeChecks noSuchBridge
-returns c = first (here (rw (le-ltb _ _ (c .if1 .taken))))
+returns c = λ b bridges views view number. rw (bridges, views, view, number) (first (here (rw (le-ltb _ _ (c .if1 .taken)))))
 
 returns-2 : tie.Need-returns-2
 unfolding refuse checks changeChecks noSuchBridge noSuchView
-returns-2 c = first (next (rw (lt-ltb _ _ (c .before .if1 .left))) (here (rw (le-ltb _ _ (c .if2 .taken)))))
+returns-2 c = λ b bridges views view number. rw (bridges, views, view, number) (first (next (rw (lt-ltb _ _ (c .before .if1 .left))) (here (rw (le-ltb _ _ (c .if2 .taken))))))
 
-mul-number : tie.Need-mul-number
-mul-number c = search needs
+mul-last : tie.Need-mul-last
+mul-last c = search needs
 
-element-copy-out-number : tie.Need-element-copy-out-number
-element-copy-out-number c = search needs
+array-read-last : tie.Need-array-read-last
+array-read-last c = search needs
 
-element-copy-out-present : tie.Need-element-copy-out-present
-element-copy-out-present c = search needs
+array-read-present : tie.Need-array-read-present
+array-read-present c = search needs
 
 cast-present : tie.Need-cast-present
 cast-present c = search needs
@@ -32,17 +32,15 @@ both-requires c κs = tt
 
 returns-3 : tie.Need-returns-3
 unfolding refuse checks changeChecks noSuchBridge noSuchView noNumberLeft
-returns-3 c =
-    first
-    (next (rw (lt-ltb _ _ (c .before .before .before .before .before .if1 .left)))
-    (next (rw (lt-ltb _ _ (c .before .before .before .before .if2 .left))) (here (sym (c .before .both .ensures) ∙ c .if3 .taken))))
+returns-3 c = λ b bridges views view number. rw (bridges, views, view, number) (first
+    (next (rw (lt-ltb _ _ (c .before .before .before .if1 .left)))
+    (next (rw (lt-ltb _ _ (c .before .before .if2 .left))) (here (sym (c .before .both .ensures) ∙ c .if3 .taken)))))
 
 returns-4 : tie.Need-returns-4
 unfolding refuse checks changeChecks noSuchBridge noSuchView noNumberLeft
-returns-4 c =
-    first
-    (next (rw (lt-ltb _ _ (c .before .before .before .before .before .if1 .left)))
-    (next (rw (lt-ltb _ _ (c .before .before .before .before .if2 .left))) (next (sym (c .before .both .ensures) ∙ c .if3 .left) none)))
+returns-4 c = λ b bridges views view number. rw (bridges, views, view, number) (first
+    (next (rw (lt-ltb _ _ (c .before .before .before .if1 .left)))
+    (next (rw (lt-ltb _ _ (c .before .before .if2 .left))) (next (sym (c .before .both .ensures) ∙ c .if3 .left) none))))
 
 pub update-refusal-spec : {M : Type 1} → statement M
 update-refusal-spec =
@@ -50,9 +48,9 @@ update-refusal-spec =
     (tie.spec
     returns
     returns-2
-    mul-number
-    element-copy-out-number
-    element-copy-out-present
+    mul-last
+    array-read-last
+    array-read-present
     cast-present
     both-requires
     returns-3

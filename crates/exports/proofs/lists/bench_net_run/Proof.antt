@@ -1,7 +1,7 @@
 -- `lists::bench_net_run` meets its contract. A list that holds no bench or is too short is refused first; else the contracts of the calls
 -- give the outcome. Assumes nothing.
 use Rattle.exports.proofs.Entry.{passed, failed, room}
-use Rattle.exports.specs.Lists.{withMade, countsOf, listedIn, netRunTold}
+use Rattle.exports.specs.Lists.{withMade, countsOf, listedIn, netRunReply}
 use Prim.Native.Nat.{ℕ, _≤_}
 use mathlib.Core.Path.{_≡_}
 use mathlib.Core.Bool.{true}
@@ -10,9 +10,9 @@ use borrow.Author.Tests.{lt-leb, le-leb}
 use lib.ListN.{length, getD}
 use lib.Seq.{sets}
 use Rattle.bench.specs.State.{state}
-use Rattle.bench.specs.Batches.{Ran, refusalIn, batchOf}
+use Rattle.bench.specs.Batches.{BatchOutcome, refusalIn, batchOf}
 use Rattle.plan.specs.Events.{Listing, bytesBy}
-use Rattle.exports.specs.Call.{told}
+use Rattle.exports.specs.Call.{callOutcome}
 use Rattle.exports.specs.Network.{holdsBench, benchIn}
 use borrow.Author.Needs.{needs}
 use Rattle.exports.proofs.lists.bench_net_run.Statement.{statement}
@@ -20,16 +20,16 @@ use Rattle.exports.proofs.lists.bench_net_run.Tie as tie
 
 -- the outcome, by what the calls leave
 told-so :
-    (xs costs sent held messages rest answers out : List ℕ) {l : Listing} {o : Ran} {used reply : ℕ} {xs' out' : List ℕ} →
+    (xs costs sent held messages rest answers out : List ℕ) {l : Listing} {o : BatchOutcome} {used reply : ℕ} {xs' out' : List ℕ} →
     holdsBench xs ≡ true →
     3 ≤ length out →
     l ≡ listedIn (benchIn xs) rest answers →
     o ≡ batchOf (state (benchIn xs) costs sent held messages) (l .events) (getD (l .ends) 0 0) answers →
     used ≡ bytesBy (l .ends) (o .made) →
     (reply ≡ refusalIn (o .disposition)) × (xs' ≡ withMade (o .made) (o .state .bench) xs) × (out' ≡ sets out 0 (countsOf (o .made) used (o .answered))) →
-    told reply (xs' ∷ out' ∷ o .state .sent ∷ o .state .held ∷ o .state .messages ∷ o .answers ∷ [])
-    ≡ netRunTold xs costs sent held messages rest answers out
-unfolding netRunTold
+    callOutcome reply (xs' ∷ out' ∷ o .state .sent ∷ o .state .held ∷ o .state .messages ∷ o .answers ∷ [])
+    ≡ netRunReply xs costs sent held messages rest answers out
+unfolding netRunReply
 told-so xs costs sent held messages rest answers out held-so long read made bytes settled =
     rw (held-so, le-leb 3 (length out) long, ← read, ← made, ← bytes, settled .0, settled .1, settled .2)
 
@@ -40,14 +40,14 @@ same-length : tie.Need-same-length
 same-length c = search needs
 
 returns : tie.Need-returns
-unfolding netRunTold
+unfolding netRunReply
 returns c = rw (failed (c .before .holds .ensures) (c .if1 .taken))
 
 same-length-2 : tie.Need-same-length-2
 same-length-2 c = search needs
 
 returns-2 : tie.Need-returns-2
-unfolding netRunTold
+unfolding netRunReply
 returns-2 c = rw (passed (c .before .before .holds .ensures) (c .before .if1 .left), lt-leb _ _ (c .if2 .taken))
 
 load-requires : tie.Need-load-requires

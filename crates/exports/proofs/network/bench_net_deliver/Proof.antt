@@ -1,6 +1,6 @@
 -- `network::bench_net_deliver` meets its contract. A list that holds no bench or is too short is refused first; else the call's
 -- own contract, over the bench that was read, gives the outcome. Assumes nothing.
-use Rattle.exports.specs.Network.{netDeliverTold}
+use Rattle.exports.specs.Network.{netDeliverReply}
 use borrow.Author.Tests.{lt-leb, le-leb}
 use borrow.Author.Needs.{needs}
 use Rattle.exports.proofs.Entry.{passed, failed, room}
@@ -14,14 +14,14 @@ same-length : tie.Need-same-length
 same-length c = search needs
 
 returns : tie.Need-returns
-unfolding netDeliverTold
+unfolding netDeliverReply
 returns c = rw (failed (c .before .holds .ensures) (c .if1 .taken))
 
 same-length-2 : tie.Need-same-length-2
 same-length-2 c = search needs
 
 returns-2 : tie.Need-returns-2
-unfolding netDeliverTold
+unfolding netDeliverReply
 returns-2 c = rw (passed (c .before .before .holds .ensures) (c .before .if1 .left), lt-leb _ _ (c .if2 .taken))
 
 load-requires : tie.Need-load-requires
@@ -49,7 +49,7 @@ same-length-7 : tie.Need-same-length-7
 same-length-7 c = search needs
 
 returns-3 : tie.Need-returns-3
-unfolding netDeliverTold
+unfolding netDeliverReply
 returns-3 c = rw (passed (c .before .before .before .before .before .before .before .before .before .before .before .before .before .before .before .before .before .before .before .before .before .holds .ensures) (c .before .before .before .before .before .before .before .before .before .before .before .before .before .before .before .before .before .before .before .before .if1 .left), le-leb _ _ (c .before .before .before .before .before .before .before .before .before .before .before .before .before .before .before .before .before .before .before .if2 .left), ← c .before .before .before .before .before .before .before .before .before .before .before .before .before .before .before .before .before .load .ensures, ← c .before .before .before .before .before .before .before .before .before .before .before .before .before .deliver .ensures, c .before .before .before .before .settle-delivery .ensures .0, c .before .before .before .before .settle-delivery .ensures .1, c .before .before .before .before .settle-delivery .ensures .2)
 
 pub bench-net-deliver-spec : {M : Type 1} → statement M

@@ -1,6 +1,6 @@
 -- `network::bench_net_fresh` meets its contract. A list that holds no bench or is too short is refused first; else the call's own
 -- contract, over the bench that was read, gives the outcome. Assumes nothing.
-use Rattle.exports.specs.Network.{netFreshTold}
+use Rattle.exports.specs.Network.{netFreshReply}
 use borrow.Author.Needs.{needs}
 use Rattle.exports.proofs.Entry.{passed, failed, room}
 use Rattle.exports.proofs.network.bench_net_fresh.Statement.{statement}
@@ -13,7 +13,7 @@ same-length : tie.Need-same-length
 same-length c = search needs
 
 returns : tie.Need-returns
-unfolding netFreshTold
+unfolding netFreshReply
 returns c = rw (failed (c .before .holds .ensures) (c .if1 .taken))
 
 load-requires : tie.Need-load-requires
@@ -35,7 +35,7 @@ same-length-4 : tie.Need-same-length-4
 same-length-4 c = search needs
 
 returns-2 : tie.Need-returns-2
-unfolding netFreshTold
+unfolding netFreshReply
 returns-2 c = rw (passed (c .before .before .before .before .before .before .before .before .before .before .before .before .before .before .holds .ensures) (c .before .before .before .before .before .before .before .before .before .before .before .before .before .if1 .left), ← c .before .before .before .before .before .before .before .before .before .before .before .load .ensures, ← c .before .before .before .before .before .before .before .before .fresh .ensures .0, c .before .before .settle .ensures .0, c .before .before .settle .ensures .1)
 
 pub bench-net-fresh-spec : {M : Type 1} → statement M

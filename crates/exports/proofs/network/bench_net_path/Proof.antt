@@ -1,6 +1,6 @@
 -- `network::bench_net_path` meets its contract. A list that holds no bench or is too short is refused first; else the call's own
 -- contract, over the bench that was read, gives the outcome. Assumes nothing.
-use Rattle.exports.specs.Network.{netPathTold}
+use Rattle.exports.specs.Network.{netPathReply}
 use Rattle.exports.specs.Call.{withValue}
 use borrow.Author.Tests.{lt-leb, le-leb}
 use borrow.Author.Needs.{needs}
@@ -12,11 +12,11 @@ holds-requires : tie.Need-holds-requires
 holds-requires c κs = search needs
 
 returns : tie.Need-returns
-unfolding netPathTold
+unfolding netPathReply
 returns c = rw (failed (c .before .holds .ensures) (c .if1 .taken))
 
 returns-2 : tie.Need-returns-2
-unfolding netPathTold
+unfolding netPathReply
 returns-2 c = rw (passed (c .before .before .holds .ensures) (c .before .if1 .left), lt-leb _ _ (c .if2 .taken))
 
 load-requires : tie.Need-load-requires
@@ -50,21 +50,21 @@ put-three-requires-2 : tie.Need-put-three-requires-2
 put-three-requires-2 c κs = search needs
 
 returns-3 : tie.Need-returns-3
-unfolding netPathTold withValue
+unfolding netPathReply withValue
 returns-3 c = rw (passed (c .before .before .before .before .before .before .before .holds .ensures) (c .before .before .before .before .before .before .if1 .left), le-leb _ _ (c .before .before .before .before .before .if2 .left), ← c .before .before .before .before .load .ensures, ← c .before .before .before .path .ensures, c .before .way .given .1)
 
 same-length : tie.Need-same-length
 same-length c = search needs
 
 returns-4 : tie.Need-returns-4
-unfolding netPathTold withValue
+unfolding netPathReply withValue
 returns-4 c = rw (passed (c .before .before .before .before .before .before .before .before .before .before .before .before .holds .ensures) (c .before .before .before .before .before .before .before .before .before .before .before .if1 .left), le-leb _ _ (c .before .before .before .before .before .before .before .before .before .before .if2 .left), ← c .before .before .before .before .before .before .before .before .before .load .ensures, ← c .before .before .before .before .before .before .before .before .path .ensures, c .before .before .before .before .before .before .way2 .given .1, c .before .before .put-three .ensures, c .before .before .before .before .low-of .ensures)
 
 same-length-2 : tie.Need-same-length-2
 same-length-2 c = search needs
 
 returns-5 : tie.Need-returns-5
-unfolding netPathTold withValue
+unfolding netPathReply withValue
 returns-5 c = rw (passed (c .before .before .before .before .before .before .before .before .before .before .before .before .before .holds .ensures) (c .before .before .before .before .before .before .before .before .before .before .before .before .if1 .left), le-leb _ _ (c .before .before .before .before .before .before .before .before .before .before .before .if2 .left), ← c .before .before .before .before .before .before .before .before .before .before .load .ensures, ← c .before .before .before .before .before .before .before .before .before .path .ensures, c .before .before .before .before .before .before .before .way3 .given .1, c .before .before .put-three2 .ensures, c .before .before .before .before .before .low-of2 .ensures, c .before .before .before .before .low-of3 .ensures)
 
 pub bench-net-path-spec : {M : Type 1} → statement M

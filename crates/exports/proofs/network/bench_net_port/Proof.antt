@@ -1,6 +1,6 @@
 -- `network::bench_net_port` meets its contract. A list that holds no bench or is too short is refused first; else the call's own
 -- contract, over the bench that was read, gives the outcome. Assumes nothing.
-use Rattle.exports.specs.Network.{netPortTold}
+use Rattle.exports.specs.Network.{netPortReply}
 use Rattle.exports.specs.Call.{withValue}
 use borrow.Author.Tests.{lt-leb, le-leb}
 use borrow.Author.Needs.{needs}
@@ -12,11 +12,11 @@ holds-requires : tie.Need-holds-requires
 holds-requires c κs = search needs
 
 returns : tie.Need-returns
-unfolding netPortTold
+unfolding netPortReply
 returns c = rw (failed (c .before .holds .ensures) (c .if1 .taken))
 
 returns-2 : tie.Need-returns-2
-unfolding netPortTold
+unfolding netPortReply
 returns-2 c = rw (passed (c .before .before .holds .ensures) (c .before .if1 .left), lt-leb _ _ (c .if2 .taken))
 
 load-requires : tie.Need-load-requires
@@ -38,14 +38,14 @@ slice-write-out : tie.Need-slice-write-out
 slice-write-out c = search needs
 
 returns-3 : tie.Need-returns-3
-unfolding netPortTold withValue
+unfolding netPortReply withValue
 returns-3 c = rw (passed (c .before .before .before .before .before .before .before .holds .ensures) (c .before .before .before .before .before .before .if1 .left), le-leb _ _ (c .before .before .before .before .before .if2 .left), ← c .before .before .before .before .load .ensures, ← c .before .before .before .port .ensures, c .before .found .given .1)
 
 same-length : tie.Need-same-length
 same-length c = search needs
 
 returns-4 : tie.Need-returns-4
-unfolding netPortTold withValue
+unfolding netPortReply withValue
 returns-4 c = rw (passed (c .before .before .before .before .before .before .before .before .holds .ensures) (c .before .before .before .before .before .before .before .if1 .left), le-leb _ _ (c .before .before .before .before .before .before .if2 .left), ← c .before .before .before .before .before .load .ensures, ← c .before .before .before .before .port .ensures, c .before .before .found2 .given .1, ← c .port-number .ensures)
 
 pub bench-net-port-spec : {M : Type 1} → statement M

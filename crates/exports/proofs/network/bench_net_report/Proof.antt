@@ -1,6 +1,6 @@
 -- `network::bench_net_report` meets its contract. A list that holds no bench or is too short is refused first; else the call's
 -- own contract, over the bench that was read, gives the outcome. Assumes nothing.
-use Rattle.exports.specs.Network.{netReportTold}
+use Rattle.exports.specs.Network.{netReportReply}
 use borrow.Author.Needs.{needs}
 use Rattle.exports.proofs.Entry.{passed, failed, room}
 use Rattle.exports.proofs.network.bench_net_report.Statement.{statement}
@@ -10,7 +10,7 @@ holds-requires : tie.Need-holds-requires
 holds-requires c κs = search needs
 
 returns : tie.Need-returns
-unfolding netReportTold
+unfolding netReportReply
 returns c = rw (failed (c .before .holds .ensures) (c .if1 .taken))
 
 load-requires : tie.Need-load-requires
@@ -26,7 +26,7 @@ same-length : tie.Need-same-length
 same-length c = search needs
 
 returns-2 : tie.Need-returns-2
-unfolding netReportTold
+unfolding netReportReply
 returns-2 c = rw (passed (c .before .before .before .before .before .before .before .holds .ensures) (c .before .before .before .before .before .before .if1 .left), ← c .before .before .before .before .before .load .ensures, ← c .before .before .before .report .ensures .0, c .number-of .ensures)
 
 pub bench-net-report-spec : {M : Type 1} → statement M

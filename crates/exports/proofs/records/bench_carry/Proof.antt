@@ -1,7 +1,7 @@
 -- `records::bench_carry` meets its contract: what it tests itself, then each case of the reply. Assumes nothing.
 use borrow.Author.Tests.{lt-leb, le-leb}
 use borrow.Author.Needs.{needs}
-use Rattle.exports.specs.Call.{withValue, carryTold}
+use Rattle.exports.specs.Call.{withValue, carryReply}
 use Rattle.exports.proofs.Entry.{passed, failed, room}
 use Rattle.exports.proofs.records.bench_carry.Statement.{statement}
 use Rattle.exports.proofs.records.bench_carry.Tie as tie
@@ -10,11 +10,11 @@ holds-record-requires : tie.Need-holds-record-requires
 holds-record-requires c κs = search needs
 
 returns : tie.Need-returns
-unfolding carryTold
+unfolding carryReply
 returns c = rw (failed (c .before .holds-record .ensures) (c .if1 .taken))
 
 returns-2 : tie.Need-returns-2
-unfolding carryTold
+unfolding carryReply
 returns-2 c = rw (passed (c .before .before .holds-record .ensures) (c .before .if1 .left), lt-leb _ _ (c .if2 .taken))
 
 record-at-requires : tie.Need-record-at-requires
@@ -33,7 +33,7 @@ put-message-requires : tie.Need-put-message-requires
 put-message-requires c κs = search needs
 
 returns-3 : tie.Need-returns-3
-unfolding carryTold withValue
+unfolding carryReply withValue
 returns-3 c =
     rw (
       passed (c .before .before .before .before .before .before .holds-record .ensures) (c .before .before .before .before .before .if1 .left),
@@ -47,7 +47,7 @@ same-length : tie.Need-same-length
 same-length c = search needs
 
 returns-4 : tie.Need-returns-4
-unfolding carryTold withValue
+unfolding carryReply withValue
 returns-4 c =
     rw (
       passed (c .before .before .before .before .before .before .before .before .before .before .before .holds-record .ensures) (c .before .before .before .before .before .before .before .before .before .before .if1 .left),

@@ -1,7 +1,7 @@
 -- `records::bench_deliver_end` meets its contract: what it tests itself, then each case of the reply. Assumes nothing.
 use borrow.Author.Tests.{lt-leb, le-leb}
 use borrow.Author.Needs.{needs}
-use Rattle.exports.specs.Call.{withValue, deliverTold}
+use Rattle.exports.specs.Call.{withValue, deliverReply}
 use Rattle.exports.proofs.Entry.{passed, failed, room}
 use Rattle.exports.proofs.records.bench_deliver_end.Statement.{statement}
 use Rattle.exports.proofs.records.bench_deliver_end.Tie as tie
@@ -13,7 +13,7 @@ same-length : tie.Need-same-length
 same-length c = search needs
 
 returns : tie.Need-returns
-unfolding deliverTold
+unfolding deliverReply
 returns c = rw (failed (c .before .holds-record .ensures) (c .if1 .taken))
 
 holds-message-requires : tie.Need-holds-message-requires
@@ -23,14 +23,14 @@ same-length-2 : tie.Need-same-length-2
 same-length-2 c = search needs
 
 returns-2 : tie.Need-returns-2
-unfolding deliverTold
+unfolding deliverReply
 returns-2 c = rw (passed (c .before .before .before .holds-record .ensures) (c .before .before .if1 .left), failed (c .before .holds-message .ensures) (c .if2 .taken))
 
 same-length-3 : tie.Need-same-length-3
 same-length-3 c = search needs
 
 returns-3 : tie.Need-returns-3
-unfolding deliverTold
+unfolding deliverReply
 returns-3 c = rw (passed (c .before .before .before .before .holds-record .ensures) (c .before .before .before .if1 .left), passed (c .before .before .holds-message .ensures) (c .before .if2 .left), lt-leb _ _ (c .if3 .taken))
 
 record-at-requires : tie.Need-record-at-requires
@@ -64,7 +64,7 @@ same-length-6 : tie.Need-same-length-6
 same-length-6 c = search needs
 
 returns-4 : tie.Need-returns-4
-unfolding deliverTold withValue
+unfolding deliverReply withValue
 returns-4 c =
     rw (
       passed (c .before .before .before .before .before .before .before .before .before .before .before .before .before .before .before .before .holds-record .ensures) (c .before .before .before .before .before .before .before .before .before .before .before .before .before .before .before .if1 .left),
@@ -89,7 +89,7 @@ same-length-10 : tie.Need-same-length-10
 same-length-10 c = search needs
 
 returns-5 : tie.Need-returns-5
-unfolding deliverTold withValue
+unfolding deliverReply withValue
 returns-5 c =
     rw (
       passed (c .before .before .before .before .before .before .before .before .before .before .before .before .before .before .before .before .before .before .before .before .before .before .before .before .before .holds-record .ensures) (c .before .before .before .before .before .before .before .before .before .before .before .before .before .before .before .before .before .before .before .before .before .before .before .before .if1 .left),

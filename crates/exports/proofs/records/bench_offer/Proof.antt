@@ -1,12 +1,12 @@
 -- `records::bench_offer` meets its contract. Assumes nothing.
 use borrow.Author.Tests.{le-leb, lt-leb}
 use borrow.Author.Needs.{needs}
-use Rattle.exports.specs.Call.{withValue, offerTold}
+use Rattle.exports.specs.Call.{withValue, offerReply}
 use Rattle.exports.proofs.records.bench_offer.Statement.{statement}
 use Rattle.exports.proofs.records.bench_offer.Tie as tie
 
 returns : tie.Need-returns
-unfolding offerTold
+unfolding offerReply
 returns c = rw (lt-leb _ _ (c .if1 .taken))
 
 offer-over-requires : tie.Need-offer-over-requires
@@ -22,7 +22,7 @@ slice-write-out : tie.Need-slice-write-out
 slice-write-out c = search needs
 
 returns-2 : tie.Need-returns-2
-unfolding offerTold withValue
+unfolding offerReply withValue
 returns-2 c =
     rw (
       le-leb _ _ (c .before .before .before .if1 .left),
@@ -34,7 +34,7 @@ same-length : tie.Need-same-length
 same-length c = search needs
 
 returns-3 : tie.Need-returns-3
-unfolding offerTold withValue
+unfolding offerReply withValue
 returns-3 c =
     rw (
       le-leb _ _ (c .before .before .before .before .if1 .left),

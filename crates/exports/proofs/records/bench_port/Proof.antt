@@ -1,24 +1,24 @@
 -- `records::bench_port` meets its contract: what it tests itself, then each case of the reply. Assumes nothing.
 use borrow.Author.Tests.{lt-leb, le-leb}
 use borrow.Author.Needs.{needs}
-use Rattle.exports.specs.Call.{withValue, portTold}
+use Rattle.exports.specs.Call.{withValue, portReply}
 use Rattle.exports.proofs.Entry.{passed, failed, room}
 use Rattle.exports.proofs.records.bench_port.Statement.{statement}
 use Rattle.exports.proofs.records.bench_port.Tie as tie
 
 returns : tie.Need-returns
-unfolding portTold
+unfolding portReply
 returns c = rw (lt-leb _ _ (c .if1 .taken))
 
 holds-records-requires : tie.Need-holds-records-requires
 holds-records-requires c κs = search needs
 
 returns-2 : tie.Need-returns-2
-unfolding portTold
+unfolding portReply
 returns-2 c = rw (le-leb _ _ (c .before .before .if1 .left), failed (c .before .holds-records .ensures) (c .if2 .taken))
 
 returns-3 : tie.Need-returns-3
-unfolding portTold
+unfolding portReply
 returns-3 c = rw (le-leb _ _ (c .before .before .before .if1 .left), passed (c .before .before .holds-records .ensures) (c .before .if2 .left), lt-leb _ _ (c .if3 .taken))
 
 flags-in-requires : tie.Need-flags-in-requires
@@ -43,7 +43,7 @@ slice-write-out : tie.Need-slice-write-out
 slice-write-out c = search needs
 
 returns-4 : tie.Need-returns-4
-unfolding portTold withValue
+unfolding portReply withValue
 returns-4 c =
     rw (
       le-leb _ _ (c .before .before .before .before .before .before .before .before .if1 .left),
@@ -59,7 +59,7 @@ same-length : tie.Need-same-length
 same-length c = search needs
 
 returns-5 : tie.Need-returns-5
-unfolding portTold withValue
+unfolding portReply withValue
 returns-5 c =
     rw (
       le-leb _ _ (c .before .before .before .before .before .before .before .before .before .before .if1 .left),

@@ -1,12 +1,12 @@
 -- `records::bench_start_end` meets its contract. Assumes nothing.
 use borrow.Author.Tests.{le-leb, lt-leb}
 use borrow.Author.Needs.{needs}
-use Rattle.exports.specs.Call.{freshTold}
+use Rattle.exports.specs.Call.{freshReply}
 use Rattle.exports.proofs.records.bench_start_end.Statement.{statement}
 use Rattle.exports.proofs.records.bench_start_end.Tie as tie
 
 returns : tie.Need-returns
-unfolding freshTold
+unfolding freshReply
 returns c = rw (lt-leb _ _ (c .if1 .taken))
 
 start-end-requires : tie.Need-start-end-requires
@@ -28,7 +28,7 @@ same-length-2 : tie.Need-same-length-2
 same-length-2 c = search needs
 
 returns-2 : tie.Need-returns-2
-unfolding freshTold
+unfolding freshReply
 returns-2 c =
     rw (
       le-leb _ _ (c .before .before .before .before .before .before .before .before .before .if1 .left),
@@ -46,7 +46,7 @@ same-length-5 : tie.Need-same-length-5
 same-length-5 c = search needs
 
 returns-3 : tie.Need-returns-3
-unfolding freshTold
+unfolding freshReply
 returns-3 c =
     rw (
       le-leb _ _ (c .before .before .before .before .before .before .before .before .before .before .before .before .before .if1 .left),

@@ -1,6 +1,6 @@
 -- `records::bench_update_end` meets its contract. Assumes nothing.
 use borrow.Author.Needs.{needs}
-use Rattle.exports.specs.Call.{updateTold}
+use Rattle.exports.specs.Call.{updateReply}
 use Rattle.exports.proofs.Entry.{passed, failed, room}
 use Rattle.exports.proofs.records.bench_update_end.Statement.{statement}
 use Rattle.exports.proofs.records.bench_update_end.Tie as tie
@@ -12,7 +12,7 @@ same-length : tie.Need-same-length
 same-length c = search needs
 
 returns : tie.Need-returns
-unfolding updateTold
+unfolding updateReply
 returns c = rw (failed (c .before .holds-record .ensures) (c .if1 .taken))
 
 record-at-requires : tie.Need-record-at-requires
@@ -40,7 +40,7 @@ same-length-4 : tie.Need-same-length-4
 same-length-4 c = search needs
 
 returns-2 : tie.Need-returns-2
-unfolding updateTold
+unfolding updateReply
 returns-2 c =
     rw (
       passed (c .before .before .before .before .before .before .before .before .before .before .before .before .holds-record .ensures) (c .before .before .before .before .before .before .before .before .before .before .before .if1 .left),
@@ -59,7 +59,7 @@ same-length-7 : tie.Need-same-length-7
 same-length-7 c = search needs
 
 returns-3 : tie.Need-returns-3
-unfolding updateTold
+unfolding updateReply
 returns-3 c =
     rw (
       passed (c .before .before .before .before .before .before .before .before .before .before .before .before .before .before .before .before .holds-record .ensures) (c .before .before .before .before .before .before .before .before .before .before .before .before .before .before .before .if1 .left),

@@ -1,8 +1,8 @@
 -- `slices::bench_slice_deliver` meets its contract. Fewer than 320 numbers of messages, and a list that holds no bench or is too
 -- short, are refused first; else the call's own contract, over the bench and the messages that were read, gives the outcome. Assumes
 -- nothing.
-use Rattle.exports.specs.Network.{netDeliverTold}
-use Rattle.exports.specs.SliceCalls.{followed, sliceDeliverTold}
+use Rattle.exports.specs.Network.{netDeliverReply}
+use Rattle.exports.specs.SliceCalls.{followed, sliceDeliverReply}
 use lib.ListN.{take-append-drop}
 use borrow.Author.Tests.{lt-leb, le-leb}
 use borrow.Author.Needs.{needs}
@@ -11,7 +11,7 @@ use Rattle.exports.proofs.slices.bench_slice_deliver.Statement.{stateme
 use Rattle.exports.proofs.slices.bench_slice_deliver.Tie as tie
 
 returns : tie.Need-returns
-unfolding sliceDeliverTold
+unfolding sliceDeliverReply
 returns c = rw (lt-leb _ _ (c .if1 .taken))
 
 holds-requires : tie.Need-holds-requires
@@ -21,14 +21,14 @@ same-length : tie.Need-same-length
 same-length c = search needs
 
 returns-2 : tie.Need-returns-2
-unfolding sliceDeliverTold netDeliverTold followed
+unfolding sliceDeliverReply netDeliverReply followed
 returns-2 c = rw (le-leb _ _ (c .before .before .before .if1 .left), failed (c .before .holds .ensures) (c .if2 .taken), take-append-drop 320 (c .before .before .before .before .before .before .before .before .before .before .args .messages .now))
 
 same-length-2 : tie.Need-same-length-2
 same-length-2 c = search needs
 
 returns-3 : tie.Need-returns-3
-unfolding sliceDeliverTold netDeliverTold followed
+unfolding sliceDeliverReply netDeliverReply followed
 returns-3 c = rw (le-leb _ _ (c .before .before .before .before .if1 .left), passed (c .before .before .holds .ensures) (c .before .if2 .left), lt-leb _ _ (c .if3 .taken), take-append-drop 320 (c .before .before .before .before .before .before .before .before .before .before .before .args .messages .now))
 
 load-requires : tie.Need-load-requires
@@ -62,7 +62,7 @@ same-length-7 : tie.Need-same-length-7
 same-length-7 c = search needs
 
 returns-4 : tie.Need-returns-4
-unfolding sliceDeliverTold netDeliverTold followed
+unfolding sliceDeliverReply netDeliverReply followed
 returns-4 c = rw (le-leb _ _ (c .before .before .before .before .before .before .before .before .before .before .before .before .before .before .before .before .before .before .before .before .before .before .before .before .before .before .before .before .if1 .left), passed (c .before .before .before .before .before .before .before .before .before .before .before .before .before .before .before .before .before .before .before .before .before .before .before .before .before .before .holds .ensures) (c .before .before .before .before .before .before .before .before .before .before .before .before .before .before .before .before .before .before .before .before .before .before .before .before .before .if2 .left), le-leb _ _ (c .before .before .before .before .before .before .before .before .before .before .before .before .before .before .before .before .before .before .before .before .before .before .before .before .if3 .left), ← c .before .before .before .before .before .before .before .before .before .before .before .before .before .before .before .before .before .before .array-of .ensures, ← c .before .before .before .before .before .before .before .before .before .before .before .before .before .before .before .before .before .before .before .before .before .before .load .ensures, ← c .before .before .before .before .before .before .before .before .before .before .before .before .before .before .before .before .before .deliver .ensures, c .before .before .before .before .before .before .before .before .before .before .put-array .ensures, c .before .before .before .before .settle-delivery .ensures .0, c .before .before .before .before .settle-delivery .ensures .1, c .before .before .before .before .settle-delivery .ensures .2)
 
 pub bench-slice-deliver-spec : {M : Type 1} → statement M

@@ -1,8 +1,8 @@
 -- `slices::bench_slice_lose` meets its contract. Fewer than 320 numbers of messages, and a list that holds no bench or is too
 -- short, are refused first; else the call's own contract, over the bench and the messages that were read, gives the outcome. Assumes
 -- nothing.
-use Rattle.exports.specs.Network.{netLoseTold}
-use Rattle.exports.specs.SliceCalls.{followed, sliceLoseTold}
+use Rattle.exports.specs.Network.{netLoseReply}
+use Rattle.exports.specs.SliceCalls.{followed, sliceLoseReply}
 use lib.ListN.{take-append-drop}
 use borrow.Author.Tests.{lt-leb, le-leb}
 use borrow.Author.Needs.{needs}
@@ -11,7 +11,7 @@ use Rattle.exports.proofs.slices.bench_slice_lose.Statement.{statement}
 use Rattle.exports.proofs.slices.bench_slice_lose.Tie as tie
 
 returns : tie.Need-returns
-unfolding sliceLoseTold
+unfolding sliceLoseReply
 returns c = rw (lt-leb _ _ (c .if1 .taken))
 
 holds-requires : tie.Need-holds-requires
@@ -21,7 +21,7 @@ same-length : tie.Need-same-length
 same-length c = search needs
 
 returns-2 : tie.Need-returns-2
-unfolding sliceLoseTold netLoseTold followed
+unfolding sliceLoseReply netLoseReply followed
 returns-2 c = rw (le-leb _ _ (c .before .before .before .if1 .left), failed (c .before .holds .ensures) (c .if2 .taken), take-append-drop 320 (c .before .before .before .before .before .before .args .messages .now))
 
 load-requires : tie.Need-load-requires
@@ -46,7 +46,7 @@ same-length-3 : tie.Need-same-length-3
 same-length-3 c = search needs
 
 returns-3 : tie.Need-returns-3
-unfolding sliceLoseTold netLoseTold followed
+unfolding sliceLoseReply netLoseReply followed
 returns-3 c = rw (le-leb _ _ (c .before .before .before .before .before .before .before .before .before .before .before .before .before .before .before .before .before .before .if1 .left), passed (c .before .before .before .before .before .before .before .before .before .before .before .before .before .before .before .before .holds .ensures) (c .before .before .before .before .before .before .before .before .before .before .before .before .before .before .before .if2 .left), ← c .before .before .before .before .before .before .before .before .before .before .before .array-of .ensures, ← c .before .before .before .before .before .before .before .before .before .before .before .before .before .load .ensures, ← c .before .before .before .before .before .before .before .before .before .before .lose .ensures .0, c .before .before .before .before .before .before .before .put-array .ensures, c .before .before .settle .ensures .0, c .before .before .settle .ensures .1)
 
 pub bench-slice-lose-spec : {M : Type 1} → statement M

@@ -41,7 +41,7 @@ use denote.Exit.{yes}
 use denote.Signature.{plain}
 use Rattle.bench.specs.declared.Bench.{Bench}
 use Rattle.bench.specs.Changes.{number, NoZero}
-use Rattle.bench.specs.Flights.{flown, loseOf}
+use Rattle.bench.specs.Flights.{queueOutcome, loseOf}
 use Rattle.bench.proofs.Bench as B
 use Rattle.bench.proofs.Bench.Laws as B′
 use Rattle.bench.proofs.Changed as R
@@ -49,7 +49,7 @@ use Rattle.bench.proofs.Changed.Laws as R′
 use Rattle.messages.specs.declared.Message.{Message}
 use Rattle.messages.specs.declared.decisions.Decision.{Decision}
 use Rattle.messages.specs.Slices.{flight}
-use Rattle.messages.specs.Steps.{took, shifted, movedUp}
+use Rattle.messages.specs.Steps.{took, shifted, shiftedUp}
 use Rattle.messages.proofs.Message as T
 use Rattle.messages.proofs.decisions.Decision as D
 use Rattle.messages.proofs.decisions.Decision.Laws as D′
@@ -83,7 +83,7 @@ stayed = (stay-none (λ _. B.the-row) yes, (gave-slice (0 ∷ []) tt (plain (λ 
 -- what `decide_lose` ensures of d
 abbrev Decides : Bench → List ℕ → ℕ → ℕ → Decision → Type 0
 Decides h ns n p d =
-    ((flown (number (d .changed .reply)) (d .changed .bench) (shifted (d .from) (d .past) (took n ns)) ≡ loseOf h (took n ns) p) × NoZero (d .changed .reply))
+    ((queueOutcome (number (d .changed .reply)) (d .changed .bench) (shifted (d .from) (d .past) (took n ns)) ≡ loseOf h (took n ns) p) × NoZero (d .changed .reply))
     × ((d .from ≤ d .past) × ((d .past ≤ n - 1) × (d .past ≤ 63)))
 
 -- a decision's answer, where the decision stands
@@ -132,12 +132,12 @@ module _ {M : Type 1} (𝓤 : URA M) (H : Heap 𝓤) (A : Atoms 𝓤) (W : Given
 
   -- what the callees say, as the contract has it
   lost :
-      (ns : List ℕ) (d : Decision) (zs : List Message) → took (length ys) ns ≡ flight ys → Decides h ns (length ys) p d → zs ≡ movedUp (d .from) (d .past) ys
-      → (flown (number (d .changed .reply)) (d .changed .bench) (flight zs) ≡ loseOf h (flight ys) p) × NoZero (d .changed .reply)
+      (ns : List ℕ) (d : Decision) (zs : List Message) → took (length ys) ns ≡ flight ys → Decides h ns (length ys) p d → zs ≡ shiftedUp (d .from) (d .past) ys
+      → (queueOutcome (number (d .changed .reply)) (d .changed .bench) (flight zs) ≡ loseOf h (flight ys) p) × NoZero (d .changed .reply)
   lost ns d zs e ((g, above), (order, (low, few))) m = (
-    ap (λ (l : List Message). flown (number (d .changed .reply)) (d .changed .bench) (flight l)) m
-        ∙ ap (λ (l : List ℕ). flown (number (d .changed .reply)) (d .changed .bench) l) (moved-flight ys (d .from) (d .past) order few)
-        ∙ ap (λ (l : List ℕ). flown (number (d .changed .reply)) (d .changed .bench) (shifted (d .from) (d .past) l)) (sym e)
+    ap (λ (l : List Message). queueOutcome (number (d .changed .reply)) (d .changed .bench) (flight l)) m
+        ∙ ap (λ (l : List ℕ). queueOutcome (number (d .changed .reply)) (d .changed .bench) l) (moved-flight ys (d .from) (d .past) order few)
+        ∙ ap (λ (l : List ℕ). queueOutcome (number (d .changed .reply)) (d .changed .bench) (shifted (d .from) (d .past) l)) (sym e)
         ∙ g
         ∙ ap (λ (l : List ℕ). loseOf h l p) e,
     above,
@@ -145,7 +145,7 @@ module _ {M : Type 1} (𝓤 : URA M) (H : Heap 𝓤) (A : Atoms 𝓤) (W : Given
 
   exits :
       (d : Decision) (zs : List Message) → Is R.the-row (d .changed) (R′.lowered (d .changed) ∷ [])
-      → (flown (number (d .changed .reply)) (d .changed .bench) (flight zs) ≡ loseOf h (flight ys) p) × NoZero (d .changed .reply) → rest 64 zs ≡ rest 64 ys → length zs ≡ length ys
+      → (queueOutcome (number (d .changed .reply)) (d .changed .bench) (flight zs) ≡ loseOf h (flight ys) p) × NoZero (d .changed .reply) → rest 64 zs ≡ rest 64 ys → length zs ≡ length ys
       → ent 𝓤 (sep 𝓤 (sem 𝓤 H A (finally T.the-row γ zs)) (A .lft κ q)) (Post (R′.lowered (d .changed)))
   exits d zs is e same l =
       qed W (‵ (finally T.the-row γ zs) ∷ ‵ (flft κ q) ∷ []) ∵

@@ -45,7 +45,7 @@ use denote.Exit.{yes}
 use denote.Signature.{plain}
 use Rattle.bench.specs.declared.Bench.{Bench}
 use Rattle.bench.specs.Changes.{number, NoZero}
-use Rattle.bench.specs.Flights.{flown, sendOf}
+use Rattle.bench.specs.Flights.{queueOutcome, sendOf}
 use Rattle.bench.proofs.Bench as B
 use Rattle.bench.proofs.Bench.Laws as B′
 use Rattle.bench.proofs.Changed as R
@@ -89,7 +89,7 @@ stayed = (stay-none (λ _. B.the-row) yes, (gave-slice (0 ∷ []) tt (plain (λ 
 -- what `decide_send` ensures of d and of the numbers, ns before and ms after
 abbrev Decides : Bench → List ℕ → ℕ → ℕ → ℕ → Decision → List ℕ → Type 0
 Decides h ns n y k d ms =
-    ((flown (number (d .changed .reply)) (d .changed .bench) (took n ms) ≡ sendOf h (took n ns) y k) × NoZero (d .changed .reply))
+    ((queueOutcome (number (d .changed .reply)) (d .changed .bench) (took n ms) ≡ sendOf h (took n ns) y k) × NoZero (d .changed .reply))
     × ((d .from ≤ d .past)
     × ((d .past ≤ min n 64) × (took n ms ≡ sets (took n ns) (5 * d .from) (take (5 * (d .past - d .from)) (rest (5 * d .from) ms)))))
 
@@ -160,9 +160,9 @@ module _ {M : Type 1} (𝓤 : URA M) (H : Heap 𝓤) (A : Atoms 𝓤) (W : Given
   -- what the callees say, as the contract has it
   sent :
       (ns : List ℕ) (d : Decision) (ms : List ℕ) (zs : List Message) → took (length ys) ns ≡ flight ys → Decides h ns (length ys) y k d ms → length ms ≡ 320 → zs ≡ putFrom ms (d .from) (d .past) ys
-      → (flown (number (d .changed .reply)) (d .changed .bench) (flight zs) ≡ sendOf h (flight ys) y k) × NoZero (d .changed .reply)
+      → (queueOutcome (number (d .changed .reply)) (d .changed .bench) (flight zs) ≡ sendOf h (flight ys) y k) × NoZero (d .changed .reply)
   sent ns d ms zs e ((g, above), (order, (low, f))) n m = (
-    ap (λ (l : List ℕ). flown (number (d .changed .reply)) (d .changed .bench) l)
+    ap (λ (l : List ℕ). queueOutcome (number (d .changed .reply)) (d .changed .bench) l)
         (ap flight m ∙ put-flight ys ms (d .from) (d .past) order low (omega (arith, low, n))
         ∙ ap (λ (l : List ℕ). sets l (5 * d .from) (take (5 * (d .past - d .from)) (rest (5 * d .from) ms))) (sym e) ∙ sym f)
         ∙ g
@@ -172,7 +172,7 @@ module _ {M : Type 1} (𝓤 : URA M) (H : Heap 𝓤) (A : Atoms 𝓤) (W : Given
 
   exits :
       (d : Decision) (zs : List Message) → Is R.the-row (d .changed) (R′.lowered (d .changed) ∷ [])
-      → (flown (number (d .changed .reply)) (d .changed .bench) (flight zs) ≡ sendOf h (flight ys) y k) × NoZero (d .changed .reply) → rest 64 zs ≡ rest 64 ys → length zs ≡ length ys
+      → (queueOutcome (number (d .changed .reply)) (d .changed .bench) (flight zs) ≡ sendOf h (flight ys) y k) × NoZero (d .changed .reply) → rest 64 zs ≡ rest 64 ys → length zs ≡ length ys
       → ent 𝓤 (sep 𝓤 (sem 𝓤 H A (finally T.the-row γ zs)) (A .lft κ q)) (Post (R′.lowered (d .changed)))
   exits d zs is e same n =
       qed W (‵ (finally T.the-row γ zs) ∷ ‵ (flft κ q) ∷ []) ∵

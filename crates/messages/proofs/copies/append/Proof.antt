@@ -43,7 +43,7 @@ use denote.Triple.Clauses.{ensured, lasts}
 use denote.Triple.Table.{entered, cited}
 use denote.Triple.Walked.{says, needs, Stays, stay-slice, stay-none-slice, stay-none, walkOf, Walks, ends-at, walked, goes-slice, goes-none-slice, goes-none, walk-meets}
 use Rattle.messages.specs.declared.Message.{Message}
-use Rattle.messages.specs.Steps.{messageAt, messageOf, putFrom}
+use Rattle.messages.specs.Steps.{messageAt, messageOfNumbers, putFrom}
 use Rattle.messages.proofs.Message as S
 use Rattle.messages.proofs.Message.Laws as S′
 use Rattle.messages.proofs.Counted.{counted}
@@ -115,8 +115,8 @@ module _ {M : Type 1} (𝓤 : URA M) (H : Heap 𝓤) (A : Atoms 𝓤) (W : Given
       nothing ! $ owned ! usize (Is usize) (uint-makes 𝓤 H A W w64) k _ (refl, fits) $ fjoin ! $ move ! (1 ∷ 0 ∷ []) $ fjoin ! $ done !
 
   -- of its `ensured`, the clause alone
-  tells : (k : ℕ) (m : Message) → ent 𝓤 (ensured 𝓤 H A reader.ended (reader.clauses 𝓤 H A mem run) (κ′, tt) (ns, (k, tt)) tt m) (fact 𝓤 (m ≡ messageOf (now ns) k))
-  tells k m = exE 𝓤 _ (λ ws. snd∗ 𝓤 (sem 𝓤 H A (lasts reader.ended (κ′, tt) (ns, (k, tt)) ws)) (fact 𝓤 (m ≡ messageOf (now ns) k)))
+  tells : (k : ℕ) (m : Message) → ent 𝓤 (ensured 𝓤 H A reader.ended (reader.clauses 𝓤 H A mem run) (κ′, tt) (ns, (k, tt)) tt m) (fact 𝓤 (m ≡ messageOfNumbers (now ns) k))
+  tells k m = exE 𝓤 _ (λ ws. snd∗ 𝓤 (sem 𝓤 H A (lasts reader.ended (κ′, tt) (ns, (k, tt)) ws)) (fact 𝓤 (m ≡ messageOfNumbers (now ns) k)))
 
   module _ (𝓣 : Tables 𝓤 H) (known : Triple 𝓤 (𝓣 .C #read-message) (Reading 𝓤 H A mem run)) (within : past ≤ length ys) (ns-within : 5 * past ≤ length (now ns)) (l₀ l₁ l₂ l₃ l₄ l₅ l₆ l₇ l₈ l₉ : ℕ) where
     abbrev E : Env 𝓤 H
@@ -150,22 +150,22 @@ module _ {M : Type 1} (𝓤 : URA M) (H : Heap 𝓤) (A : Atoms 𝓤) (W : Given
         use2 W (raw (Reading 𝓤 H A mem run .pre (to-read k))) (asks k fits (omega arith)) $
         calls-at ! (fmOf 𝓤 H (W .laws) 𝓣) (Reading 𝓤 H A mem run) known (to-read k) (and-then ! (load ! (from ! (stop !)) (look ! 20 refl)) (and-then ! (load ! (from ! (stop !)) (look ! 14 refl)) (no-more !))) (λ v.
         use1 W (later (some (λ (r : Message). ((‵ (flft κ′ q′) ⊛ ‵ ftrue) ⊛ ‵ (S.the-row .own r (v ∷ []))) ⊛ raw (ensured 𝓤 H A reader.ended (reader.clauses 𝓤 H A mem run) (κ′, tt) (ns, (k, tt)) tt r)))) (id⊢ 𝓤 _) $ await ! tt $ pick ! (λ r.
-        split ! $ move ! (1 ∷ []) $ use1 W (raw (fact 𝓤 (r ≡ messageOf (now ns) k))) (tells k r) $ heard ! (r ≡ messageOf (now ns) k) (λ e. split ! $ move ! (1 ∷ []) $
+        split ! $ move ! (1 ∷ []) $ use1 W (raw (fact 𝓤 (r ≡ messageOfNumbers (now ns) k))) (tells k r) $ heard ! (r ≡ messageOfNumbers (now ns) k) (λ e. split ! $ move ! (1 ∷ []) $
         -- [what the message owns; the token and `true`; the numbers' borrow; the row; the open borrow; obs; auth; the locals]
-        told ! r (messageOf (now ns) k) v e (λ same is.
-        land ! (from ! (stop !)) (init ! 10 refl (typed-as W (messageOf (now ns) k) v same is)) $ rewrite ! 10 (λ (u : Val). ‵ (fat fullShare S′.mir l₇ 0 u)) same refl $
+        told ! r (messageOfNumbers (now ns) k) v e (λ same is.
+        land ! (from ! (stop !)) (init ! 10 refl (typed-as W (messageOfNumbers (now ns) k) v same is)) $ rewrite ! 10 (λ (u : Val). ‵ (fat fullShare S′.mir l₇ 0 u)) same refl $
         split ! $ move ! (1 ∷ []) $ drop ! $ move ! (2 ∷ 3 ∷ 4 ∷ 5 ∷ 0 ∷ 1 ∷ []) $
         -- the message is stored at place k
         assigns ! (bin ! (load ! (from ! (stop !)) (look ! 14 refl)) (lit ! tt) (record { fits = scaled (length ys) k room (omega arith) })) (from ! (stop !)) (init ! 8 refl (tt, record { fits = scaled (length ys) k room (omega arith) })) $
         assigns ! (bin ! (load ! (from ! (fld ! refl (stop !))) (look-in ! 22 (sub ! 0 refl (whole !)))) (load ! (from ! (stop !)) (look ! 8 refl)) tt) (from ! (stop !)) (init ! 6 refl (tt, tt)) $
         rewrite ! 6 (λ (p : ℕ). ‵ (fat fullShare tyPtr l₉ 0 (vptr b p))) (placed o k) refl $
         message-out ! fullShare zs k b o in-here (λ _.
-        assigns ! (of-opd ! (load ! (from ! (stop !)) (look ! 12 refl))) (from ! (hop ! (look ! 8 refl) (stop !))) (store-raw ! 0 refl (typed W (messageOf (now ns) k) is)) $
-        message-put ! fullShare zs k (messageAt zs k) (messageOf (now ns) k) b o in-here is $
+        assigns ! (of-opd ! (load ! (from ! (stop !)) (look ! 12 refl))) (from ! (hop ! (look ! 8 refl) (stop !))) (store-raw ! 0 refl (typed W (messageOfNumbers (now ns) k) is)) $
+        message-put ! fullShare zs k (messageAt zs k) (messageOfNumbers (now ns) k) b o in-here is $
         assigns-last ! (bin ! (load ! (from ! (stop !)) (look ! 14 refl)) (lit ! tt) (record { fits = next-fits })) (from ! (stop !)) (store ! 14 refl (tt, record { fits = next-fits })) $
         rewrite ! 14 (λ (j : ℕ). ‵ (fat fullShare word l₅ 0 (vint w64 j))) one-more refl $
         forget ! 6 refl $ forget ! 8 refl $ forget ! 10 refl $ forget ! 12 refl $
-        by ! (go (set zs k (messageOf (now ns) k)) (length-set zs k (messageOf (now ns) k) ∙ known-of .0, put-one (now ns) k past zs small ∙ known-of .1)))))))
+        by ! (go (set zs k (messageOfNumbers (now ns) k)) (length-set zs k (messageOfNumbers (now ns) k) ∙ known-of .0, put-one (now ns) k past zs small ∙ known-of .1)))))))
       where
         one-more : k + 1 ≡ suc k
         one-more = omega arith

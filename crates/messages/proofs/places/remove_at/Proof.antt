@@ -41,7 +41,7 @@ use denote.Triple.Spec.{Meets, tripleOf}
 use denote.Triple.Table.{entered}
 use denote.Triple.Walked.{says, needs, Stays, stay-slice, stay-none, walkOf, Walks, ends-at, walked, goes-slice, goes-none, walk-meets}
 use Rattle.messages.specs.declared.Message.{Message}
-use Rattle.messages.specs.Steps.{messageAt, movedUp}
+use Rattle.messages.specs.Steps.{messageAt, shiftedUp}
 use Rattle.messages.proofs.Message as S
 use Rattle.messages.proofs.Message.Laws as S′
 use Rattle.messages.proofs.Counted.{counted}
@@ -76,7 +76,7 @@ module _ {M : Type 1} (𝓤 : URA M) (H : Heap 𝓤) (A : Atoms 𝓤) (W : Given
   abbrev Post : Val → SProp 𝓤
   Post = walkOf 𝓤 H A f.ended stayed (f.clauses 𝓤 H A mem run) .post (((κ, tt), (q, tt), tt, x, vals), tt)
 
-  exits : (zs : List Message) → length zs ≡ length ys → zs ≡ movedUp at past ys
+  exits : (zs : List Message) → length zs ≡ length ys → zs ≡ shiftedUp at past ys
       → ent 𝓤 (⋆ 𝓤 H A (‵ (fobs γ (codedHoleys S.the-row .code (heres S.the-row zs))) ∷ ‵ (fbor κ (Held S.the-row (length zs) b o γ)) ∷ ‵ (flft κ q) ∷ [])) (Post vunit)
   exits zs e is =
       qed W (‵ (fobs γ (codedHoleys S.the-row .code (heres S.the-row zs))) ∷ ‵ (fbor κ (Held S.the-row (length zs) b o γ)) ∷ ‵ (flft κ q) ∷ []) ∵
@@ -98,7 +98,7 @@ module _ {M : Type 1} (𝓤 : URA M) (H : Heap 𝓤) (A : Atoms 𝓤) (W : Given
         ∷ ‵ (fat fullShare slice l₁ 0 (sliceVal (b, o) (length ys))) ∷ ‵ (fdies slice l₁) ∷ ‵ (froom tyUnit l₀ 0) ∷ ‵ (fdies tyUnit l₀) ∷ []
 
     abbrev Facts : ℕ → List Message → Type 0
-    Facts k zs = (length zs ≡ length ys) × (movedUp k past zs ≡ movedUp at past ys)
+    Facts k zs = (length zs ≡ length ys) × (shiftedUp k past zs ≡ shiftedUp at past ys)
 
     -- when the loop is left, the rest of the body runs
     abbrev Left : Out → SProp 𝓤

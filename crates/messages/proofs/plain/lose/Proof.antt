@@ -43,7 +43,7 @@ use denote.Exit.{yes}
 use Rattle.bench.specs.declared.Bench.{Bench}
 use Rattle.bench.specs.declared.Changed.{Changed}
 use Rattle.bench.specs.Changes.{number, NoZero}
-use Rattle.bench.specs.Flights.{flown, loseOf}
+use Rattle.bench.specs.Flights.{queueOutcome, loseOf}
 use Rattle.bench.proofs.Bench as B
 use Rattle.bench.proofs.Bench.Laws as B′
 use Rattle.bench.proofs.Changed as R
@@ -79,7 +79,7 @@ stayed = (stay-none (λ _. B.the-row) yes, (stay-none (λ _. Numbers) yes, (stay
 
 -- what is said of the answer r and of the numbers, ns before and ms after
 abbrev Loses : Bench → List ℕ → ℕ → Changed → List ℕ → Type 0
-Loses h ns p r ms = (flown (number (r .reply)) (r .bench) ms ≡ loseOf h ns p) × NoZero (r .reply)
+Loses h ns p r ms = (queueOutcome (number (r .reply)) (r .bench) ms ≡ loseOf h ns p) × NoZero (r .reply)
 
 -- what is known once `calls::lose` has returned w
 abbrev Lost : Bench → List Message → ℕ → Val → Changed → List Message → Type 0
@@ -136,7 +136,7 @@ module _ {M : Type 1} (𝓤 : URA M) (H : Heap 𝓤) (A : Atoms 𝓤) (W : Given
 
   -- what the callees say, as the contract has it
   lost : (ys zs : List Message) (r : Changed) (ms : List ℕ) → flight ys ≡ ns → flight zs ≡ ms → Loses h (flight ys) p r (flight zs) → Loses h ns p r ms
-  lost ys zs r ms before after (e, above) = (ap (λ (l : List ℕ). flown (number (r .reply)) (r .bench) l) (sym after) ∙ e ∙ ap (λ (l : List ℕ). loseOf h l p) before, above)
+  lost ys zs r ms before after (e, above) = (ap (λ (l : List ℕ). queueOutcome (number (r .reply)) (r .bench) l) (sym after) ∙ e ∙ ap (λ (l : List ℕ). loseOf h l p) before, above)
 
   exits : (r : Changed) (ms : List ℕ) (v : Val) → Is P.the-row (record { changed = r; numbers = ms }) (v ∷ []) → Loses h ns p r ms → ent 𝓤 (emp 𝓤) (Post v)
   exits r ms v is e =

@@ -6,14 +6,14 @@ use borrow.Author.Needs.{needs}
 use lib.ListN.{length}
 use Rattle.messages.specs.Slices.{numbersIn}
 use Rattle.runner.specs.declared.Stepped.{Stepped}
-use Rattle.runner.specs.Turns.{Turn, turn}
+use Rattle.runner.specs.Turns.{StepOutcome, stepOutcome}
 use Rattle.runner.specs.Buffers.{Buffers, buffers}
 use Rattle.runner.proofs.FillTurns.{left, Underway, begun, tested, onward, shrinks, filled}
 use Rattle.runner.proofs.fills.fill.Statement.{statement}
 use Rattle.runner.proofs.fills.fill.Tie as tie
 
-abbrev turnOf : Stepped → Buffers → Turn
-turnOf s k = turn (s .reply) (s .going) (s .used) (s .written) (s .runner) k
+abbrev turnOf : Stepped → Buffers → StepOutcome
+turnOf s k = stepOutcome (s .reply) (s .going) (s .used) (s .written) (s .runner) k
 
 abbrev Inv-loop : tie.InvT-loop
 Inv-loop rest costs₀ sent₀ held₀ out₀ done₀ costs sent held out done =

@@ -4,16 +4,16 @@ use mathlib.Core.Path.{ap}
 use borrow.Author.Needs.{needs}
 use Rattle.messages.specs.Slices.{numbersIn}
 use Rattle.runner.specs.Buffers.{buffers}
-use Rattle.runner.specs.Turns.{Turn, turn}
+use Rattle.runner.specs.Turns.{StepOutcome, stepOutcome}
 use Rattle.runner.proofs.FillTurns.{step-on-is, step-on-used, step-on-written}
 use Rattle.runner.proofs.fills.step_on.Statement.{statement}
 use Rattle.runner.proofs.fills.step_on.Tie as tie
 
 -- the turn that is handed over
-abbrev TurnOf : tie.Start → Turn
+abbrev TurnOf : tie.Start → StepOutcome
 TurnOf s =
     let a = s .args in
-    turn (a .done .reply) (a .done .going) (a .done .used) (a .done .written) (a .done .runner)
+    stepOutcome (a .done .reply) (a .done .going) (a .done .used) (a .done .written) (a .done .runner)
     (buffers (a .costs .now) (a .sent .now) (a .held .now) (numbersIn (a .done .messages)) (a .out .now))
 
 sub-step : tie.Need-sub-step
@@ -40,13 +40,13 @@ step-requires c κs = search needs
 add-next : tie.Need-add-next
 add-next c =
     let s = (c .before .before .before .before .before .before .before .before .before .before .before .before .before .before .before .before .before .before .before .before .before .before) in
-    let sum = ap (λ (u : Turn). u .used) (step-on-is (s .args .rest .now) (TurnOf s) (c .before .before .before .before .before .before .before .before .before .step .ensures)) in
+    let sum = ap (λ (u : StepOutcome). u .used) (step-on-is (s .args .rest .now) (TurnOf s) (c .before .before .before .before .before .before .before .before .before .step .ensures)) in
     record { fits = omega (arith, sum, step-on-used (s .args .rest .now) (TurnOf s) (s .pre .0), s .good) }
 
 add-next-2 : tie.Need-add-next-2
 add-next-2 c =
     let s = (c .before .before .before .before .before .before .before .before .before .before .before .before .before .before .before .before .before .before .before .before .before .before .before) in
-    let sum = ap (λ (u : Turn). u .written) (step-on-is (s .args .rest .now) (TurnOf s) (c .before .before .before .before .before .before .before .before .before .before .step .ensures)) in
+    let sum = ap (λ (u : StepOutcome). u .written) (step-on-is (s .args .rest .now) (TurnOf s) (c .before .before .before .before .before .before .before .before .before .before .step .ensures)) in
     record { fits = omega (arith, sum, step-on-written (s .args .rest .now) (TurnOf s) (s .pre .1), s .good) }
 
 same-length : tie.Need-same-length

@@ -5,7 +5,7 @@ use Rattle.runner.proofs.ListTexts.{whole-length}
 use Rattle.runner.proofs.FillTurns.{one-made, one-made-kept, has-room}
 use Rattle.messages.specs.Slices.{numbersIn}
 use Rattle.runner.specs.Buffers.{Buffers, buffers}
-use Rattle.runner.specs.Turns.{Turn, turn}
+use Rattle.runner.specs.Turns.{StepOutcome, stepOutcome}
 use lib.Seq.{length-take-le}
 use lib.ListN.{length, replicate, length-replicate}
 use mathlib.Core.Path.{sym, ap, _∙_}
@@ -15,10 +15,10 @@ use borrow.Author.Needs.{needs}
 use Rattle.runner.proofs.fills.steps_listed.Statement.{statement}
 use Rattle.runner.proofs.fills.steps_listed.Tie as tie
 
-abbrev TurnOf : tie.Start → Turn
+abbrev TurnOf : tie.Start → StepOutcome
 TurnOf s =
     let a = s .args in
-    turn (a .done .reply) (a .done .going) (a .done .used) (a .done .written) (a .done .runner)
+    stepOutcome (a .done .reply) (a .done .going) (a .done .used) (a .done .written) (a .done .runner)
     (buffers (a .costs .now) (a .sent .now) (a .held .now) (numbersIn (a .done .messages)) (a .out .now))
 
 sub-answer-room : tie.Need-sub-answer-room

@@ -9,17 +9,17 @@ use lib.ListN.{length}
 use Rattle.bench.proofs.ChangeSteps.{length-mapped}
 use Rattle.messages.proofs.Flight.{numbers-length}
 use Rattle.distances.proofs.Booleans.{both-true}
-use Rattle.runner.specs.Turns.{Turn, turn}
+use Rattle.runner.specs.Turns.{StepOutcome, stepOutcome}
 use Rattle.runner.specs.Buffers.{buffers}
 use Rattle.runner.proofs.FillTurns.{one-made}
 use Rattle.runner.proofs.fills.steps_more.Statement.{statement}
 use Rattle.runner.proofs.fills.steps_more.Tie as tie
 
 -- the turn that is handed over
-abbrev TurnOf : tie.Start → Turn
+abbrev TurnOf : tie.Start → StepOutcome
 TurnOf s =
     let a = s .args in
-    turn (a .done .reply) (a .done .going) (a .done .used) (a .done .written) (a .done .runner)
+    stepOutcome (a .done .reply) (a .done .going) (a .done .used) (a .done .written) (a .done .runner)
     (buffers (a .costs .now) (a .sent .now) (a .held .now) (numbersIn (a .done .messages)) (a .out .now))
 
 -- five numbers for each of 64 messages

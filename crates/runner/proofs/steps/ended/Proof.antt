@@ -3,7 +3,7 @@ use mathlib.Core.List.{[]}
 use mathlib.Core.Bool.{false}
 use mathlib.Core.Path.{ap, refl}
 use borrow.Author.Needs.{needs}
-use Rattle.runner.specs.Turns.{turn, lastTurn}
+use Rattle.runner.specs.Turns.{stepOutcome, lastStep}
 use Rattle.runner.specs.Events.{Line}
 use Rattle.runner.specs.Buffers.{buffers}
 use Rattle.runner.proofs.steps.ended.Statement.{statement}
@@ -16,8 +16,8 @@ same-length : tie.Need-same-length
 same-length c = search needs
 
 returns : tie.Need-returns
-unfolding lastTurn
-returns c = (ap (λ (l : Line). turn (c .before .before .before .before .before .args .number) false 0 (l .count) (c .before .before .before .before .before .args .r) (buffers [] [] [] [] (l .out))) (c .before .before .last-line .ensures), refl)
+unfolding lastStep
+returns c = (ap (λ (l : Line). stepOutcome (c .before .before .before .before .before .args .number) false 0 (l .count) (c .before .before .before .before .before .args .r) (buffers [] [] [] [] (l .out))) (c .before .before .last-line .ensures), refl)
 
 pub ended-spec : {M : Type 1} → statement M
 ended-spec =

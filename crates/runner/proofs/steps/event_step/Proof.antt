@@ -10,7 +10,7 @@ use Prim.Native.Nat.{ℕ, _≤_}
 use native.Mathlib.Omega.{arith}
 use mathlib.Core.Path.{_∙_}
 use borrow.Author.Needs.{needs}
-use Rattle.runner.specs.Turns.{fieldTurn}
+use Rattle.runner.specs.Turns.{fieldStep}
 use Rattle.runner.specs.Buffers.{Buffers, buffers}
 use Rattle.runner.proofs.StepTurns.{ended-on, accepted-turn, refused-turn}
 use Rattle.runner.proofs.steps.event_step.Statement.{statement}
@@ -31,7 +31,7 @@ room : 32 ≤ length (replicate {A = ℕ} 32 0)
 room = omega (arith, length-replicate {A = ℕ} 32 0)
 
 returns : tie.Need-returns
-unfolding fieldTurn
+unfolding fieldStep
 returns c = let s = (c .before .before .before .before .before .before .before .before .before .before .before .before .before .before .before .before .before .before .before .before .before .before) in
     let a = s .args in
     let told = one-refused (StateOf s) (a .event) (replicate 32 0) room (c .before .before .before .before .before .before .before .before .before .before .before .before .before .run-by-value .ensures) (λ z. c .before .before .before .before .if1 .taken (c .before .before .before .before .before .refusal-in .ensures ∙ z)) in
@@ -43,7 +43,7 @@ ended-requires : tie.Need-ended-requires
 ended-requires c κs = omega (arith, c .before .before .before .before .before .before .before .before .before .before .before .before .before .before .before .before .before .before .before .pre .3)
 
 returns-2 : tie.Need-returns-2
-unfolding fieldTurn
+unfolding fieldStep
 returns-2 c = let s = (c .before .before .before .before .before .before .before .before .before .before .before .before .before .before .before .before .before .before .before .before .before .before .before .before .before .before) in
     let a = s .args in
     let m = one-made (StateOf s) (a .event) (replicate 32 0) room (c .before .before .before .before .before .before .before .before .before .before .before .before .before .before .before .before .before .run-by-value .ensures) (sym (c .before .before .before .before .before .before .before .before .before .refusal-in .ensures) ∙ c .before .before .before .before .before .before .before .before .if1 .left) in

@@ -1,10 +1,7 @@
 -- `steps::field_step` meets its contract: each setup on all of the buffers, or an event. Assumes nothing.
-use mathlib.Core.Path.{_∙_}
 use borrow.Author.Needs.{needs}
-use Rattle.messages.specs.Slices.{numbersIn}
-use Rattle.runner.specs.Buffers.{buffers}
-use Rattle.runner.specs.Turns.{fieldTurn}
-use Rattle.runner.proofs.StepTurns.{setup-on, view-turn}
+use Rattle.runner.specs.Turns.{fieldStep}
+use Rattle.runner.proofs.StepTurns.{setup-on}
 use Rattle.runner.proofs.steps.field_step.Statement.{statement}
 use Rattle.runner.proofs.steps.field_step.Tie as tie
 
@@ -29,14 +26,10 @@ set-up-requires-2 c κs = search needs
 enum-told : tie.Need-enum-told
 enum-told c = search needs
 
-store-row-requires : tie.Need-store-row-requires
-store-row-requires c κs = (rw (c .before .enum-told .given .1) at (c .before .before .before .before .before .before .before .before .before .pre .1), c .before .before .before .before .before .before .before .before .before .pre .0 .3)
-
-with-view-requires : tie.Need-with-view-requires
-with-view-requires c κs = rw (c .before .before .before .before .enum-told .given .1) at (c .before .before .before .before .before .before .before .before .before .before .before .before .pre .1)
-
-set-up-requires-3 : tie.Need-set-up-requires-3
-set-up-requires-3 c κs = (c .before .before .before .before .before .before .before .before .before .before .before .before .before .before .before .before .before .before .before .before .before .pre .0 .0, c .before .before .before .before .before .before .before .before .before .before .before .before .before .before .before .before .before .before .before .before .before .pre .0 .2)
+view-step-requires : tie.Need-view-step-requires
+view-step-requires c κs =
+    let p = c .before .before .before .before .before .before .before .before .before .before .before .before .pre in
+    ((p .0 .0, p .0 .2, p .0 .3, p .0 .4, p .0 .5, p .0 .6), rw (c .before .before .before .before .enum-told .given .1) at (p .1))
 
 enum-known-field-3 : tie.Need-enum-known-field-3
 enum-known-field-3 c = search needs
@@ -45,26 +38,15 @@ event-step-requires : tie.Need-event-step-requires
 event-step-requires c κs = search needs
 
 returns : tie.Need-returns
-unfolding fieldTurn
+unfolding fieldStep
 returns c = rw (c .before .before .before .field .given .1, ← c .before .with-bridges .ensures, c .set-up .ensures .1) (setup-on _ _ _ _ _ (c .set-up .ensures .0))
 
 returns-2 : tie.Need-returns-2
-unfolding fieldTurn
+unfolding fieldStep
 returns-2 c = rw (c .before .before .before .field2 .given .1, ← c .before .with-link .ensures, c .set-up2 .ensures .1) (setup-on _ _ _ _ _ (c .set-up2 .ensures .0))
 
 same-length : tie.Need-same-length
 same-length c = search needs
-
-returns-3 : tie.Need-returns-3
-unfolding fieldTurn
-returns-3 c =
-    let a = c .before .before .before .before .before .before .before .before .before .before .before .before .before .before .before .before .before .before .before .before .before .before .args in
-    rw (c .before .before .before .before .before .before .before .before .before .before .before .before .before .before .enum-told .given .1, ← c .before .before .before .before .before .before .before .before .before .with-view .ensures, ← c .before .before .before .before .before .before .before .before .before .before .before .before .store-row .ensures, c .set-up3 .ensures .1)
-    (setup-on _ _ _ _ _ (c .set-up3 .ensures .0)
-    ∙ view-turn (a .used) (a .r) (buffers (a .costs .now) (a .sent .now) (a .held .now) (numbersIn (a .messages)) (a .out .now)) _ _ (c .before .before .before .before .before .«open» .ensures))
-
-open-requires : tie.Need-open-requires
-open-requires c κs = search needs
 
 same-length-2 : tie.Need-same-length-2
 same-length-2 c = search needs
@@ -75,6 +57,9 @@ same-length-3 c = search needs
 same-length-4 : tie.Need-same-length-4
 same-length-4 c = search needs
 
+returns-3 : tie.Need-returns-3
+returns-3 c = rw (c .before .before .before .before .before .before .before .before .before .before .before .before .before .enum-told .given .1) (c .before .before .before .before .before .before .before .before .view-step .ensures)
+
 same-length-5 : tie.Need-same-length-5
 same-length-5 c = search needs
 
@@ -84,8 +69,11 @@ same-length-6 c = search needs
 same-length-7 : tie.Need-same-length-7
 same-length-7 c = search needs
 
+same-length-8 : tie.Need-same-length-8
+same-length-8 c = search needs
+
 returns-4 : tie.Need-returns-4
-unfolding fieldTurn
+unfolding fieldStep
 returns-4 c = rw (c .before .before .before .before .before .before .before .before .before .before .before .before .field3 .given .1) (c .before .before .before .before .before .before .event-step .ensures)
 
 pub field-step-spec : {M : Type 1} → statement M
@@ -99,10 +87,7 @@ field-step-spec =
     with-link-requires
     set-up-requires-2
     enum-told
-    store-row-requires
-    with-view-requires
-    open-requires
-    set-up-requires-3
+    view-step-requires
     enum-known-field-3
     event-step-requires
     returns
@@ -110,9 +95,10 @@ field-step-spec =
     same-length
     same-length-2
     same-length-3
-    returns-3
     same-length-4
+    returns-3
     same-length-5
     same-length-6
     same-length-7
+    same-length-8
     returns-4)

@@ -1,12 +1,12 @@
 -- `steps::set_up` meets its contract. Assumes nothing.
 use mathlib.Core.Path.{refl}
 use borrow.Author.Needs.{needs}
-use Rattle.runner.specs.Turns.{setupTurn}
+use Rattle.runner.specs.Turns.{setupStep}
 use Rattle.runner.proofs.steps.set_up.Statement.{statement}
 use Rattle.runner.proofs.steps.set_up.Tie as tie
 
 returns : tie.Need-returns
-unfolding setupTurn
+unfolding setupStep
 returns c = (search needs, refl)
 
 cast-t7 : tie.Need-cast-t7

@@ -86,7 +86,7 @@ field-step-requires c κs =
     let same = sym (c .before .before .before .before .before .before .before .read-field .ensures) ∙ c .before .before .before .before .before .read .given .1 in
     let first : byte (s .args .rest .now) 1 < 256 = omega (arith, c .before .before .before .before .before .before .before .before .before .before .before .before .before .before .before .before .before .shared-slice-known .given 1) in
     let second : byte (s .args .rest .now) 2 < 256 = omega (arith, c .before .before .before .before .before .before .before .before .before .before .before .before .before .before .before .before .before .shared-slice-known .given 2) in
-    ((t .offset, t .events, field-used _ (s .args .r) same first second, t .costs, t .out), field-fits _ (s .args .r) same)
+    ((t .offset, t .events, field-used _ (s .args .r) same first second, t .costs, t .sent, t .held, t .out), field-fits _ (s .args .r) same)
 
 same-length-2 : tie.Need-same-length-2
 same-length-2 c = search needs

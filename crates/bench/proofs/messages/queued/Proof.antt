@@ -1,0 +1,35 @@
+-- `messages::queued` meets its contract. Assumes nothing.
+use borrow.Author.Needs.{needs}
+use mathlib.Core.Path.{refl, subst}
+use Rattle.bench.specs.Effects.{QueueTold}
+use Rattle.bench.proofs.messages.queued.Statement.{statement}
+use Rattle.bench.proofs.messages.queued.Tie as tie
+
+enum-known-queue : tie.Need-enum-known-queue
+enum-known-queue c = c .match .keys1
+
+refused-requires : tie.Need-refused-requires
+refused-requires c κs = subst QueueTold (c .before .queue .given .1) (c .before .before .before .pre)
+
+enum-known-queue-2 : tie.Need-enum-known-queue-2
+enum-known-queue-2 c = c .match .keys2
+
+with-count-requires : tie.Need-with-count-requires
+with-count-requires c κs = tt
+
+returns : tie.Need-returns
+returns c = rw (c .before .before .queue .given .1) (c .refused .ensures)
+
+returns-2 : tie.Need-returns-2
+returns-2 c = rw (c .before .before .queue2 .given .1, c .with-count .ensures) (refl, tt)
+
+pub queued-spec : {M : Type 1} → statement M
+queued-spec =
+    tie.close
+    (tie.spec
+    enum-known-queue
+    refused-requires
+    enum-known-queue-2
+    with-count-requires
+    returns
+    returns-2)

@@ -1,0 +1,138 @@
+-- What the private calls leave of a bench, said without it. No public contract cites this file. Assumes nothing.
+use Prim.Native.Nat.{ℕ, _*_, _<_}
+use mathlib.Core.Path.{_≡_}
+use mathlib.Core.Bool.{Bool, true, false, cond, _&&_}
+use mathlib.Core.List.{List}
+use lib.ListN.{getD, set}
+use lib.Dec.{eqb}
+use Rattle.agreement.specs.Call.{Response, says, lentEndInRange}
+use Rattle.agreement.specs.Ranges.{deliveryInRange}
+use Rattle.agreement.specs.Record.{freshRecord}
+use Rattle.agreement.specs.declared.Agreement.{Agreement}
+use Rattle.agreement.specs.declared.Answer.{Answer}
+use Rattle.bench.specs.State.{State, state, lentView}
+use Rattle.bench.specs.Changes.{ChangeOutcome, changeOutcome, ends, movedEnds, movedBench, benchWithCut}
+use Rattle.bench.specs.Flights.{withCount}
+use Rattle.bench.specs.Deliveries.{refusedBy, benchWithRecords}
+use Rattle.bench.specs.declared.Bench.{Bench}
+use Rattle.bench.specs.declared.Disposition.the-variants.{Complete, Refused}
+use Rattle.bench.specs.declared.effects.Effect.{Effect}
+use Rattle.bench.specs.declared.effects.Queue.{Queue}
+use Rattle.bench.specs.declared.effects.Reception.{Reception}
+use Rattle.bench.specs.declared.effects.Updating.{Updating}
+use Rattle.bench.specs.declared.effects.EventResult.{EventResult}
+
+-- a send or a loss: its number, the bench, what becomes of it
+abbrev pub queueNumber : Queue → ℕ
+queueNumber (Queue.Refused k) = k
+queueNumber (Queue.Length n) = 0
+
+abbrev pub queueBench : Queue → Bench → Bench
+queueBench (Queue.Refused k) b = b
+queueBench (Queue.Length n) b = withCount b n
+
+abbrev pub queueEffect : Queue → Effect
+queueEffect (Queue.Refused k) = Effect.Same
+queueEffect (Queue.Length n) = Effect.Flight n
+
+-- no refusal has the number 0
+abbrev pub QueueTold : Queue → Type 0
+QueueTold (Queue.Refused k) = 0 < k
+QueueTold (Queue.Length n) = Unit {0}
+
+-- a delivery or a repeat: what it says, the bench with so many messages in flight
+abbrev pub receptionSays : Reception → Response Answer
+receptionSays (Reception.Refused k) = refusedBy k
+receptionSays (Reception.Accepted a e r) = says a
+
+abbrev pub receptionBench : Reception → Bench → ℕ → Bench
+receptionBench (Reception.Refused k) b n = b
+receptionBench (Reception.Accepted a e r) b n = withCount (benchWithRecords b (set (b .records) e r)) n
+
+abbrev pub receptionEffect : Reception → ℕ → Effect
+receptionEffect (Reception.Refused k) n = Effect.Same
+receptionEffect (Reception.Accepted a e r) n = Effect.Received e r n
+
+-- it is accepted, at an end that there is
+abbrev pub Accepts : Reception → Type 0
+Accepts (Reception.Refused k) = ⊥
+Accepts (Reception.Accepted a e r) = e < 64
+
+abbrev pub ReceptionTold : Reception → Type 0
+ReceptionTold (Reception.Refused k) = 0 < k
+ReceptionTold (Reception.Accepted a e r) = e < 64
+
+-- layer 2 takes what a message carries, at end e
+abbrev pub Takes : State → ℕ → Agreement → Type 0
+Takes s e m =
+    let y : ℕ = getD (s .bench .ends) e 0 in
+    let t : ℕ = getD (s .bench .view) y 0 in
+    (lentEndInRange (lentView (s .bench) (s .costs) t) (s .sent) (s .held) e
+    && deliveryInRange (s .bench .views) t (getD (s .bench .records) e freshRecord) (m .view))
+    ≡ true
+
+-- bridge y on view t, and its ends
+abbrev pub movedTo : State → ℕ → ℕ → ChangeOutcome
+movedTo s y t =
+    movedBench (s .bench) y t
+    (movedEnds (lentView (s .bench) (s .costs) t) (s .bench .views) y t (2 * s .bench .links) (ends (s .bench .records) (s .sent) (s .held)))
+
+-- an update: what it comes to
+abbrev pub updatingTo : Updating → State → ℕ → ℕ → ChangeOutcome
+updatingTo (Updating.Refused k) s y t = changeOutcome k (s .bench) (s .sent) (s .held)
+updatingTo Updating.Stays s y t = changeOutcome 0 (s .bench) (s .sent) (s .held)
+updatingTo Updating.Moves s y t = movedTo s y t
+
+abbrev pub updatingNumber : Updating → ℕ
+updatingNumber (Updating.Refused k) = k
+updatingNumber Updating.Stays = 0
+updatingNumber Updating.Moves = 0
+
+abbrev pub updatingEffect : Updating → ℕ → ℕ → Effect
+updatingEffect (Updating.Refused k) y t = Effect.Same
+updatingEffect Updating.Stays y t = Effect.Same
+updatingEffect Updating.Moves y t = Effect.Moves y t
+
+-- what a bridge needs to go to a view: its distances are there
+pub record CanMove (b : Bench) (known : List Bool) (y t : ℕ) : Type 0 where
+  pub bridge : y < b .bridges
+  pub view : t < b .views
+  pub number : getD (b .number) y 0 < 65535
+  pub filled : getD known t false ≡ true
+
+abbrev pub UpdatingTold : Updating → Bench → List Bool → ℕ → ℕ → Type 0
+UpdatingTold (Updating.Refused k) b known y t = 0 < k
+UpdatingTold Updating.Stays b known y t = Unit {0}
+UpdatingTold Updating.Moves b known y t = CanMove b known y t
+
+-- what becomes of a state
+abbrev pub stateOf : State → ChangeOutcome → State
+stateOf s o = state (o .bench) (s .costs) (o .sent) (o .held) (s .messages)
+
+abbrev pub stateWith : State → Bench → State
+stateWith s b = state b (s .costs) (s .sent) (s .held) (s .messages)
+
+abbrev pub appliedTo : Effect → State → State
+appliedTo Effect.Same s = s
+appliedTo (Effect.Flight n) s = stateWith s (withCount (s .bench) n)
+appliedTo (Effect.Cut l so) s = stateWith s (benchWithCut (s .bench) l so)
+appliedTo (Effect.Received e r n) s = stateWith s (withCount (benchWithRecords (s .bench) (set (s .bench .records) e r)) n)
+appliedTo (Effect.Moves y t) s = stateOf s (movedTo s y t)
+
+-- it can be carried out
+abbrev pub EffectTold : Effect → Bench → List Bool → Type 0
+EffectTold Effect.Same b known = Unit {0}
+EffectTold (Effect.Flight n) b known = Unit {0}
+EffectTold (Effect.Cut l so) b known = l < 32
+EffectTold (Effect.Received e r n) b known = e < 64
+EffectTold (Effect.Moves y t) b known = CanMove b known y t
+
+-- one event of a list, by the number k that its call replied
+abbrev pub eventResult : ℕ → ℕ → Effect → EventResult
+eventResult k answered effect =
+    record {
+      disposition = cond (eqb k 0) Complete (Refused k);
+      effect = cond (eqb k 0) effect Effect.Same;
+      made = cond (eqb k 0) 1 0;
+      answered = cond (eqb k 0) answered 0;
+    }

@@ -1,0 +1,17 @@
+// Sizes by which a plan is carried out.
+
+// The longest plan, in bytes; neither its events nor its bytes are more.
+pub const LONGEST_PLAN: usize = 61440;
+
+pub(crate) const MOST_COUNTED: u32 = 61440;
+
+// So many events may be counted where a list of 2,048 comes.
+pub(crate) const MOST_BEFORE_A_LIST: u32 = 59392;
+
+// The answers of one list, and the most bytes that are printed for one of their numbers.
+pub(crate) const ANSWERS: usize = 6144;
+
+pub(crate) const BYTES_FOR_A_NUMBER: usize = 22;
+
+// Where each event of a list ends, behind how many there are.
+pub(crate) const EVENT_ENDS: usize = 2049;

@@ -212,6 +212,40 @@ module _ (s : State) where
   pub path-length : (y d : ℕ) → pathOf s y d .number ≡ 0 → length (wayNumbers (pathOf s y d .value)) ≡ 3
   path-length y d none = let h = path-value y d .0 none in rw (h .1) (way-length (h .0))
 
+-- an event whose call is a delivery or a repeat with outcome o
+pub record Receives (s : State) (e : Event) (o : DeliveryOutcome) : Type 0 where
+  pub answers : answersOf s e ≡ answeredNumbers (o .reply .value)
+  pub number : replyOf s e ≡ o .reply .number
+  pub step : stepBy s (callOf e) ≡ state (o .bench) (s .costs) (o .sent) (o .held) (o .messages)
+  pub kept : (o .reply .number ≡ 0 → ⊥) → stepBy s (callOf e) ≡ s
+  pub says : o .reply .number ≡ 0 → (a : Answer) × (o .reply ≡ says a)
+  pub silent : (o .reply .number ≡ 0 → ⊥) → o .reply .value ≡ []
+
+module _ (s : State) (ready : deliveryReady s ≡ true) (p : ℕ) where
+  pub deliver-receives : Receives s (Deliver p) (deliverOf s p)
+  unfolding answersOf
+  deliver-receives =
+      record {
+        answers = refl;
+        number = deliver-reply s ready p;
+        step = deliver-step s p;
+        kept = deliver-kept s p;
+        says = deliver-says s p;
+        silent = deliver-silent s p;
+      }
+
+  pub repeat-receives : Receives s (Repeat p) (repeatOf s p)
+  unfolding answersOf
+  repeat-receives =
+      record {
+        answers = refl;
+        number = repeat-reply s ready p;
+        step = repeat-step s p;
+        kept = repeat-kept s p;
+        says = repeat-says s p;
+        silent = repeat-silent s p;
+      }
+
 module _ (b : Bench) (costs sent held m answers : List ℕ) where
   -- all that is lent, and what a call is lent that reads no messages
   abbrev Whole : State
@@ -397,7 +431,26 @@ module _ (b : Bench) (costs sent held m answers : List ℕ) where
   unfolding wayNumbers
   none-way ws none = rw none
 
-  -- what a reception leaves, by the bench that it comes to
+  -- what a delivery or a repeat leaves, by its outcome
+  received-by :
+      (e : Event) (o : DeliveryOutcome) →
+      Receives Whole e o →
+      (x : DeliveryOutcome) (out : List ℕ) →
+      x ≡ o →
+      3 ≤ length answers →
+      out ≡ sets answers 0 (answeredNumbers (x .reply .value)) →
+      deliveryReady (stepBy Whole (callOf e)) ≡ true →
+      let k = x .reply .number in
+      Leaves (eventBatch Whole e) answers (cond (eqb k 0) 1 0) (cond (eqb k 0) Complete (Refused k))
+      (state (x .bench) costs (x .sent) (x .held) (x .messages)) (cond (eqb k 0) 3 0) out
+  received-by e o is x out same room set ok =
+      rw (set, same)
+      (settled Whole e (o .reply .number) _ 3 answers _ (is .number) (is .step) (is .kept)
+      (rw (is .answers) (answer-head (o .reply) (is .says) room))
+      (λ some. none-set _ (is .silent some))
+      ok)
+
+  -- and by the bench that it comes to
   received :
       (e : Event) (r : Reception) (count : ℕ) (sent' held' m' out : List ℕ) →
       let k = receptionSays r .number in
@@ -413,65 +466,18 @@ module _ (b : Bench) (costs sent held m answers : List ℕ) where
   reception-effect-told known (Reception.Refused k) count told = same-told (eqb k 0) b known
   reception-effect-told known (Reception.Accepted a end after) count told = told
 
-  delivered-by :
-      (p : ℕ) {o : DeliveryOutcome} {out : List ℕ} →
-      deliveryReady Whole ≡ true →
-      o ≡ deliverOf Whole p →
-      3 ≤ length answers →
-      out ≡ sets answers 0 (answeredNumbers (o .reply .value)) →
-      deliveryReady (stepBy Whole (callOf (Deliver p))) ≡ true →
-      let k = o .reply .number in
-      Leaves (eventBatch Whole (Deliver p)) answers (cond (eqb k 0) 1 0) (cond (eqb k 0) Complete (Refused k))
-      (state (o .bench) costs (o .sent) (o .held) (o .messages)) (cond (eqb k 0) 3 0) out
-  unfolding answersOf
-  delivered-by p ready is room set ok =
-      rw (set, is)
-      (settled Whole (Deliver p) (deliverOf Whole p .reply .number) _ 3 answers _ (deliver-reply Whole ready p) (deliver-step Whole p) (deliver-kept Whole p)
-      (answer-head (deliverOf Whole p .reply) (deliver-says Whole p) room)
-      (λ some. none-set _ (deliver-silent Whole p some))
-      ok)
-
-  pub deliver-leaves :
-      (p : ℕ) (r : Reception) (count : ℕ) {sent' held' m' out : List ℕ} →
-      deliveryReady Whole ≡ true →
-      deliveryOutcome (receptionSays r) (receptionBench r b count) sent' held' m' ≡ deliverOf Whole p →
+  pub received-leaves :
+      (e : Event) (o : DeliveryOutcome) (r : Reception) (count : ℕ) {sent' held' m' out : List ℕ} →
+      Receives Whole e o →
+      deliveryOutcome (receptionSays r) (receptionBench r b count) sent' held' m' ≡ o →
       3 ≤ length answers →
       out ≡ sets answers 0 (answeredNumbers (receptionSays r .value)) →
-      deliveryReady (stepBy Whole (callOf (Deliver p))) ≡ true →
+      deliveryReady (stepBy Whole (callOf e)) ≡ true →
       let k = receptionSays r .number in
-      Leaves (eventBatch Whole (Deliver p)) answers (cond (eqb k 0) 1 0) (cond (eqb k 0) Complete (Refused k))
+      Leaves (eventBatch Whole e) answers (cond (eqb k 0) 1 0) (cond (eqb k 0) Complete (Refused k))
       (appliedTo (cond (eqb k 0) (receptionEffect r count) Same) (state b costs sent' held' m')) (cond (eqb k 0) 3 0) out
-  deliver-leaves p r count {sent'} {held'} {m'} {out} ready is room set ok = received (Deliver p) r count sent' held' m' out (delivered-by p ready is room set ok)
-
-  repeated-by :
-      (p : ℕ) {o : DeliveryOutcome} {out : List ℕ} →
-      deliveryReady Whole ≡ true →
-      o ≡ repeatOf Whole p →
-      3 ≤ length answers →
-      out ≡ sets answers 0 (answeredNumbers (o .reply .value)) →
-      deliveryReady (stepBy Whole (callOf (Repeat p))) ≡ true →
-      let k = o .reply .number in
-      Leaves (eventBatch Whole (Repeat p)) answers (cond (eqb k 0) 1 0) (cond (eqb k 0) Complete (Refused k))
-      (state (o .bench) costs (o .sent) (o .held) (o .messages)) (cond (eqb k 0) 3 0) out
-  unfolding answersOf
-  repeated-by p ready is room set ok =
-      rw (set, is)
-      (settled Whole (Repeat p) (repeatOf Whole p .reply .number) _ 3 answers _ (repeat-reply Whole ready p) (repeat-step Whole p) (repeat-kept Whole p)
-      (answer-head (repeatOf Whole p .reply) (repeat-says Whole p) room)
-      (λ some. none-set _ (repeat-silent Whole p some))
-      ok)
-
-  pub repeat-leaves :
-      (p : ℕ) (r : Reception) (count : ℕ) {sent' held' m' out : List ℕ} →
-      deliveryReady Whole ≡ true →
-      deliveryOutcome (receptionSays r) (receptionBench r b count) sent' held' m' ≡ repeatOf Whole p →
-      3 ≤ length answers →
-      out ≡ sets answers 0 (answeredNumbers (receptionSays r .value)) →
-      deliveryReady (stepBy Whole (callOf (Repeat p))) ≡ true →
-      let k = receptionSays r .number in
-      Leaves (eventBatch Whole (Repeat p)) answers (cond (eqb k 0) 1 0) (cond (eqb k 0) Complete (Refused k))
-      (appliedTo (cond (eqb k 0) (receptionEffect r count) Same) (state b costs sent' held' m')) (cond (eqb k 0) 3 0) out
-  repeat-leaves p r count {sent'} {held'} {m'} {out} ready is room set ok = received (Repeat p) r count sent' held' m' out (repeated-by p ready is room set ok)
+  received-leaves e o r count {sent'} {held'} {m'} {out} is same room set ok =
+      received e r count sent' held' m' out (received-by e o is _ out same room set ok)
 
   pub path-leaves :
       (y d : ℕ) {o : Response paths.Way} {out : List ℕ} →

@@ -1,29 +1,28 @@
 -- `tables::fill_view` meets its contract. The block that was lent from inside the tables comes back in its place. Assumes nothing.
-use Prim.Native.Nat.{_*_}
+use native.Mathlib.Omega.{arith}
 use native.Mathlib.Nat.{add-sub-cancel-left, le-add-right}
 use mathlib.Core.Path.{ap}
 use borrow.Author.Needs.{needs}
 use Rattle.distances.specs.Call.{Outcome}
 use Rattle.bench.specs.Steps.{filledView}
-use Rattle.bench.proofs.ChoiceReads.{costs-fit, block-fits}
-use Rattle.bench.proofs.ViewReads.{row-past, row-scaled, row-there, block-past, block-scaled, block-there}
+use Rattle.bench.proofs.ViewReads.{block-scaled, block-there}
 use Rattle.bench.proofs.tables.fill_view.Statement.{statement}
 use Rattle.bench.proofs.tables.fill_view.Tie as tie
 
 mul-row : tie.Need-mul-row
-mul-row c = costs-fit (c .before .before .before .pre .0)
+mul-row c = omega (arith, c .before .before .before .pre .0)
 
 add-row-past : tie.Need-add-row-past
-add-row-past c = row-past (c .before .before .before .pre .0)
+add-row-past c = omega (arith, c .before .before .before .pre .0)
 
 mul-block : tie.Need-mul-block
-mul-block c = block-fits (c .before .before .before .pre .0)
+mul-block c = omega (arith, c .before .before .before .pre .0)
 
 add-block-past : tie.Need-add-block-past
-add-block-past c = block-past (c .before .before .before .pre .0)
+add-block-past c = omega (arith, c .before .before .before .pre .0)
 
 mul-distances : tie.Need-mul-distances
-mul-distances c = row-scaled (c .before .before .before .pre .0)
+mul-distances c = omega (arith, c .before .before .before .pre .0)
 
 sub-distances : tie.Need-sub-distances
 sub-distances c = le-add-right _ 32
@@ -32,7 +31,7 @@ part-distances-start : tie.Need-part-distances-start
 part-distances-start c = le-add-right _ 32
 
 part-distances-end : tie.Need-part-distances-end
-part-distances-end c = row-there (c .before .before .before .pre .0) (c .before .before .before .pre .1)
+part-distances-end c = omega (arith, c .before .before .before .pre .0, c .before .before .before .pre .1)
 
 mul-distances-2 : tie.Need-mul-distances-2
 mul-distances-2 c = block-scaled (c .before .before .before .before .pre .0)
@@ -54,9 +53,7 @@ same-length c = search needs
 
 returns : tie.Need-returns
 unfolding filledView
-returns c =
-    let a = c .before .before .before .before .before .before .before .before .args in
-    rw (ap (λ (o : Outcome). o .table) (c .before .before .distances .ensures), add-sub-cancel-left (32 * a .view) 32, add-sub-cancel-left (256 * a .view) 256)
+returns c = rw (ap (λ (o : Outcome). o .table) (c .before .before .distances .ensures), add-sub-cancel-left, add-sub-cancel-left)
 
 pub fill-view-spec : {M : Type 1} → statement M
 fill-view-spec =

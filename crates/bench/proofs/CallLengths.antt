@@ -3,7 +3,7 @@ use Prim.Native.Nat.{ℕ, zero, suc, _*_}
 use mathlib.Core.Path.{_≡_, refl, _∙_}
 use mathlib.Core.Bool.{Bool, true, false, cond, _&&_}
 use mathlib.Core.List.{List, []}
-use lib.ListN.{length, getD}
+use lib.ListN.{length, getD, length-set}
 use lib.Seq.{length-sets}
 use lib.Dec.{eqb}
 use Rattle.agreement.specs.Record.{freshRecord}
@@ -75,6 +75,13 @@ ends-long v views y t (suc e) x =
     let now = moved-long v e views t (getD (z .records) e freshRecord) (z .sent) (z .held) y in
     let before = ends-long v views y t e x in
     (now .0 ∙ before .0, now .1 ∙ before .1)
+
+pub records-long : (v : ViewData) (views y t k : ℕ) (x : Ends) → length (movedEnds v views y t k x .records) ≡ length (x .records)
+unfolding movedEnds
+records-long v views y t zero x = refl
+records-long v views y t (suc e) x =
+    let z : Ends = movedEnds v views y t e x in
+    length-set (z .records) e (movedEnd v views t y e (getD (z .records) e freshRecord) (z .sent) (z .held) .end) ∙ records-long v views y t e x
 
 module _ (s : State) where
   same : Kept s s

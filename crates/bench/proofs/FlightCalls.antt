@@ -74,8 +74,8 @@ ownEnd b y l = endOf (graphOf (b .bridges) (b .links) (b .ends)) y l
 -- an accepted send: all is listed, and layer 2 does not refuse to carry
 pub record SendTold (b : Bench) (m : List ℕ) (y l : ℕ) : Type 0 where
   pub bridge : y < 16
+  pub there : l < b .links
   pub link : l < 32
-  pub end : ownEnd b y l < 64
   pub room : b .messages < 64
   pub carries :
       carryOutcome (b .views) (getD (b .view) y 0) (getD (b .number) y 0) (getD (b .records) (ownEnd b y l) freshRecord)
@@ -88,8 +88,8 @@ send-told b m y l told none =
     let low : ownEnd b y l < 2 * b .links = endOf-below _ y l (b .links) (h .link) in
     record {
       bridge = omega (arith, told .counted .bridges, h .bridge);
+      there = h .link;
       link = omega (arith, told .counted .links, h .link);
-      end = omega (arith, told .counted .links);
       room = rw messages-length at (h .room);
       carries = carry-accepted _ _ _ _ (true-both (view-told b told y (h .bridge)) (told .records (ownEnd b y l) low));
     }

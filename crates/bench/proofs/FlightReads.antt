@@ -1,8 +1,8 @@
--- Where a message's five numbers are read and written, and the numbers of one in range: no place passes 64 bits, each stands in the buffer,
--- and each number fits its type. Assumes nothing.
+-- Where a message's five numbers are read and written: no place passes 64 bits, each stands in the buffer; and the end that sent one in
+-- range is there. Assumes nothing.
 use Prim.Native.Nat.{ℕ, _+_, _*_, _≤_, _<_}
 use native.Mathlib.Omega.{arith}
-use mir.Syntax.{w8, w64}
+use mir.Syntax.{w64}
 use mir.Val.{Fits}
 
 -- ---- the places
@@ -25,22 +25,7 @@ place-scaled h low = omega arith
 pub place-there : {p k n : ℕ} → p < 64 → k < 5 → 320 ≤ n → 5 * p + k < n
 place-there h low long = omega arith
 
--- ---- the numbers
-
-pub under-fits : {x n : ℕ} → x < n → n ≤ 32 → Fits w64 x
-under-fits h few = omega arith
-
-pub byte-fits : {x n : ℕ} → x < n → n ≤ 32 → Fits w8 x
-byte-fits h few = omega arith
-
-pub side-fits : {d : ℕ} → d < 2 → Fits w64 d
-side-fits h = omega arith
-
-pub ends-fit : {l links : ℕ} → l < links → links ≤ 32 → Fits w64 (2 * l)
-ends-fit h few = omega arith
-
-pub end-fits : {l d links : ℕ} → l < links → d < 2 → links ≤ 32 → Fits w64 (2 * l + d)
-end-fits h side few = omega arith
+-- ---- the end that sent it
 
 pub from-low : {l d links : ℕ} → l < links → d < 2 → 2 * l + d < 2 * links
 from-low h side = omega arith

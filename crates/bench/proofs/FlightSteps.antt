@@ -6,21 +6,19 @@ use mathlib.Core.Path.{_≡_, refl, _∙_, ap}
 use mathlib.Core.Bool.{Bool, true, false, _&&_}
 use mathlib.Core.List.{List, [], _∷_}
 use borrow.Author.Tests.{leb-true, le-leb, lt-ltb, le-ltb}
-use lib.ListN.{length, getD, set, take, drop}
+use lib.ListN.{length, getD, set}
 use lib.Seq.{sets}
 use lib.Dec.{leb, ltb}
 use Rattle.distances.specs.Table.{rewritten}
 use Rattle.distances.proofs.Booleans.{not-both}
 use Rattle.distances.proofs.Tables.{rewritten-at, rewritten-none, rewritten-set}
 use Rattle.distances.proofs.Steps.{ltb-more}
-use Rattle.agreement.specs.Record.{freshRecord}
-use Rattle.agreement.specs.Call.{Response, Outcome, viewData, outcome, deliverOutcome}
+use Rattle.agreement.specs.Call.{Response}
 use Rattle.agreement.specs.declared.Agreement.{Agreement}
 use Rattle.agreement.specs.declared.Answer.{Answer}
-use Rattle.agreement.specs.declared.EndRecord.{EndRecord}
 use Rattle.bench.specs.State.{state}
-use Rattle.bench.specs.Deliveries.{DeliveryOutcome, deliveryOutcome, benchWithRecords, deliveryAt}
-use Rattle.bench.specs.Steps.{Ready, IsFilled}
+use Rattle.bench.specs.Deliveries.{DeliveryOutcome, deliveryOutcome, deliveryAt}
+use Rattle.bench.specs.Steps.{Ready}
 use Rattle.bench.specs.declared.Bench.{Bench}
 
 -- ---- a message's five numbers

@@ -27,6 +27,7 @@ pub mod BatchSteps
 pub mod BatchRuns
 pub mod BatchTurns
 pub mod AnswerRanges
+mod ArrivalSteps
 pub mod EntryChecks
 pub mod EntrySettled
 pub mod FlightReads

@@ -64,9 +64,12 @@ deliveryAt s e m =
     (getD (b .records) e freshRecord) m (s .sent) (s .held) in
     deliveryOutcome (o .reply) (benchWithRecords b (set (b .records) e (o .end))) (o .sent) (o .held) (s .messages)
 
--- the message at place p, at the end opposite to its sender
+-- the message at place p arrives at the end opposite to its sender
+abbrev pub arrivalEnd : List ℕ → ℕ → ℕ
+arrivalEnd m p = opposite (sender (messageFrom m p))
+
 abbrev pub received : State → ℕ → DeliveryOutcome
-received s p = deliveryAt s (opposite (sender (messageFrom (s .messages) p))) (messageFrom (s .messages) p .agreement)
+received s p = deliveryAt s (arrivalEnd (s .messages) p) (messageFrom (s .messages) p .agreement)
 
 -- what a delivery is handed, in range
 abbrev pub deliveryReady : State → Bool

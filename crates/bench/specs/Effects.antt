@@ -1,4 +1,5 @@
--- What the private calls leave of a bench, said without it. No public contract cites this file. Assumes nothing.
+-- What the private calls are handed of a bench, and what they leave of it, said without the bench. No public contract cites this file. Assumes
+-- nothing.
 use Prim.Native.Nat.{ℕ, _*_, _<_}
 use mathlib.Core.Path.{_≡_}
 use mathlib.Core.Bool.{Bool, true, false, cond, _&&_}
@@ -10,10 +11,13 @@ use Rattle.agreement.specs.Ranges.{deliveryInRange}
 use Rattle.agreement.specs.Record.{freshRecord}
 use Rattle.agreement.specs.declared.Agreement.{Agreement}
 use Rattle.agreement.specs.declared.Answer.{Answer}
-use Rattle.bench.specs.State.{State, state, lentView}
+use Rattle.agreement.specs.declared.EndRecord.{EndRecord}
+use Rattle.distances.specs.View.{graphOf}
+use Rattle.protocol.specs.Calls.{endOf}
+use Rattle.bench.specs.State.{State, state, lentView, messageFrom}
 use Rattle.bench.specs.Changes.{ChangeOutcome, changeOutcome, ends, movedEnds, movedBench, benchWithCut}
 use Rattle.bench.specs.Flights.{withCount}
-use Rattle.bench.specs.Deliveries.{refusedBy, benchWithRecords}
+use Rattle.bench.specs.Deliveries.{arrivalEnd, refusedBy, benchWithRecords}
 use Rattle.bench.specs.declared.Bench.{Bench}
 use Rattle.bench.specs.declared.Disposition.the-variants.{Complete, Refused}
 use Rattle.bench.specs.declared.effects.Effect.{Effect}
@@ -21,6 +25,9 @@ use Rattle.bench.specs.declared.effects.Queue.{Queue}
 use Rattle.bench.specs.declared.effects.Reception.{Reception}
 use Rattle.bench.specs.declared.effects.Updating.{Updating}
 use Rattle.bench.specs.declared.effects.EventResult.{EventResult}
+use Rattle.bench.specs.declared.effects.EndState.{EndState}
+use Rattle.bench.specs.declared.Event.{Event}
+use Rattle.bench.specs.declared.Event.the-variants.{Update, Send, Deliver, Repeat, Lose, Cut, Restore, Report, Path}
 
 -- a send or a loss: its number, the bench, what becomes of it
 abbrev pub queueNumber : Queue → ℕ
@@ -70,6 +77,41 @@ Takes s e m =
     (lentEndInRange (lentView (s .bench) (s .costs) t) (s .sent) (s .held) e
     && deliveryInRange (s .bench .views) t (getD (s .bench .records) e freshRecord) (m .view))
     ≡ true
+
+-- the message at place p goes over one of 32 links, one way or the other
+abbrev pub LinkFits : List ℕ → ℕ → Type 0
+LinkFits m p = (messageFrom m p .link < 32) × (messageFrom m p .direction < 2)
+
+-- what it carries fits its types
+abbrev pub MessageFits : List ℕ → ℕ → Type 0
+MessageFits m p =
+    (messageFrom m p .agreement .view < 256)
+    × (messageFrom m p .agreement .number < 65536)
+    × (messageFrom m p .agreement .discarded < 65536)
+
+-- end e with this record, as it stands by the views and the numbers of the bridges
+abbrev pub endStateIn : List ℕ → List ℕ → List ℕ → EndRecord → ℕ → EndState
+endStateIn places view number old e =
+    record { end = e; view = getD view (getD places e 0) 0; number = getD number (getD places e 0) 0; old = old }
+
+-- a bench with these bridges, views and ends in which an end stands so
+pub record StandsIn (b : Bench) (bridges views : ℕ) (places : List ℕ) (here : EndState) : Type 0 where
+  pub sameBridges : b .bridges ≡ bridges
+  pub sameViews : b .views ≡ views
+  pub samePlaces : b .ends ≡ places
+  pub stands : here ≡ endStateIn (b .ends) (b .view) (b .number) (getD (b .records) (here .end) freshRecord) (here .end)
+
+-- the record that an event looks at, where it is accepted: of the end that sends, or where its message arrives; the others look at none
+abbrev pub HasRecord : Event → Bench → List ℕ → EndRecord → Type 0
+HasRecord (Send y l) b m old = l < b .links → old ≡ getD (b .records) (endOf (graphOf (b .bridges) (b .links) (b .ends)) y l) freshRecord
+HasRecord (Deliver p) b m old = p < b .messages → old ≡ getD (b .records) (arrivalEnd m p) freshRecord
+HasRecord (Repeat p) b m old = p < b .messages → old ≡ getD (b .records) (arrivalEnd m p) freshRecord
+HasRecord (Update y t) b m old = Unit {0}
+HasRecord (Lose p) b m old = Unit {0}
+HasRecord (Cut l) b m old = Unit {0}
+HasRecord (Restore l) b m old = Unit {0}
+HasRecord (Report d) b m old = Unit {0}
+HasRecord (Path y d) b m old = Unit {0}
 
 -- bridge y on view t, and its ends
 abbrev pub movedTo : State → ℕ → ℕ → ChangeOutcome

@@ -11,9 +11,13 @@ use crate::effects::EventResult;
 use crate::effects::Queue;
 use crate::effects::Reception;
 use crate::effects::Updating;
-use crate::messages;
+use crate::messages::deliver_ready;
+use crate::messages::lose_ready;
+use crate::messages::repeat_ready;
+use crate::messages::send_ready;
 use crate::messages::taken_count;
 use crate::ports;
+use crate::queue;
 use crate::ready;
 use crate::refusals;
 use crate::sizes::MOST_EVENTS;
@@ -21,12 +25,13 @@ use crate::sizes::TABLES;
 use crate::tables::end_chains;
 use crate::updates::moved;
 use agreement::Answer;
+use agreement::EndRecord;
 use distances::ready::both;
 ghost use mathlib.Core.Path.{_≡_};
 ghost use mathlib.Core.Bool.{true, false};
 ghost use mathlib.Core.List.{[], _∷_};
-ghost use Prim.Native.Nat.{_*_, _≤_};
-ghost use lib.ListN.{length, take};
+ghost use Prim.Native.Nat.{ℕ, _*_, _≤_, _<_};
+ghost use lib.ListN.{length, take, getD};
 ghost use lib.Seq.{sets};
 ghost use Rattle.bench.specs.Ranges.{networkInRange};
 ghost use Rattle.protocol.specs.Calls.{change, cut, restore, refuse};
@@ -35,7 +40,10 @@ ghost use Rattle.bench.specs.Answers.{WayFits, waySays};
 ghost use Rattle.bench.specs.State.{state, networkOf};
 ghost use Rattle.bench.specs.Batches.{refusalIn, answerNumbers, wayNumbers, answeredNumbers, answerSize, eventBatchIn, batchFrom, batchOutcome, batchOutcomeOf, batchOf};
 ghost use Rattle.bench.specs.Chains.{Chained};
-ghost use Rattle.bench.specs.Effects.{queueNumber, queueEffect, receptionSays, receptionEffect, updatingNumber, updatingEffect, eventResult, appliedTo, EffectTold};
+ghost use Rattle.bench.specs.Effects.{queueNumber, queueEffect, receptionSays, receptionEffect, updatingNumber, updatingEffect, eventResult, appliedTo, EffectTold, LinkFits, HasRecord};
+ghost use Rattle.agreement.specs.Record.{freshRecord};
+ghost use Rattle.agreement.specs.declared.EndRecord.{EndRecord};
+ghost use Rattle.bench.specs.declared.Bench.{Bench};
 ghost use Rattle.bench.specs.Steps.{Tables, ReportsTo, Leaves};
 ghost use Rattle.bench.specs.declared.effects.Effect.the-variants.{Same};
 ghost use Rattle.bench.specs.declared.effects.Effect.the-variants.{Cut as CutFlag};
@@ -206,9 +214,30 @@ fn restore_result(bench: Bench, link: usize) -> EventResult
     )
 }
 
-// One event, if its answer has room. An update only tells that its bridge moves.
+// The end whose record an event looks at: the sender's, or the one where its message arrives. The others look at none, and get 0.
+fn event_end(links: usize, count: usize, ends: &[u8], flight: &[u32], event: Event) -> usize
+    requires { ⌜ (links ≤ 32) × (2 * links ≤ length (now ends)) × (count ≤ 64) × (320 ≤ length (now flight)) × ((p : ℕ) → p < count → LinkFits (now flight) p) ⌝ }
+    ensures { λ e. ⌜ (e < 64) × ((b : Bench) → b .links ≡ links → b .messages ≡ count → b .ends ≡ now (ends .entry) → (old : EndRecord) → old ≡ getD (b .records) e freshRecord → HasRecord event b (now (flight .entry)) old) ⌝ }
+{
+    match event {
+        Event::Send(bridge, link) => {
+            queue::sending_end(links, ends, bridge as usize, link as usize)
+        }
+        Event::Deliver(place) => queue::receiving_end(count, flight, place as usize),
+        Event::Repeat(place) => queue::receiving_end(count, flight, place as usize),
+        Event::Update(_, _) => 0,
+        Event::Lose(_) => 0,
+        Event::Cut(_) => 0,
+        Event::Restore(_) => 0,
+        Event::Report(_) => 0,
+        Event::Path(_, _) => 0,
+    }
+}
+
+// One event, if its answer has room; `old` is the record that it looks at, if any. An update only tells that its bridge moves.
 fn carry_out(
     bench: Bench,
+    old: EndRecord,
     costs: &[u32],
     tables: &mut [u32],
     known: &mut [bool],
@@ -220,7 +249,7 @@ fn carry_out(
     answers: &mut [u32],
 ) -> EventResult
     requires { ⌜ deliveryReady (state bench (now costs) (now sent) (now held) (now flight)) ≡ true ⌝ }
-    requires { ⌜ (bench .bridges ≤ 16) × Tables bench (now costs) (now tables) (now known) × Chained (bench .links) (bench .ends) (now chain) ⌝ }
+    requires { ⌜ (bench .bridges ≤ 16) × Tables bench (now costs) (now tables) (now known) × Chained (bench .links) (bench .ends) (now chain) × HasRecord event bench (now flight) old ⌝ }
     ensures { λ r. ⌜ Leaves (eventBatchIn (length (now (answers .entry))) (state bench (now (costs .entry)) (now (sent .entry)) (now (held .entry)) (now (flight .entry))) event) (now (answers .entry)) (r .made) (r .disposition) (appliedTo (r .effect) (state bench (now (costs .entry)) (now (sent .exit)) (now (held .exit)) (now (flight .exit)))) (r .answered) (now (answers .exit)) ⌝ }
     ensures { λ r. ⌜ EffectTold (r .effect) bench (now (known .exit)) × Tables bench (now (costs .entry)) (now (tables .exit)) (now (known .exit)) ⌝ }
 {
@@ -244,19 +273,21 @@ fn carry_out(
             )
         }
         Event::Send(bridge, link) => {
-            queue_result(messages::send_ready(bench, flight, bridge as usize, link as usize))
+            let y = bridge as usize;
+            let l = link as usize;
+            queue_result(send_ready(bench, old, flight, y, l))
         }
         Event::Deliver(place) => {
             let p = place as usize;
-            let done = messages::deliver_ready(bench, costs, tables, known, sent, held, flight, p);
+            let done = deliver_ready(bench, old, costs, tables, known, sent, held, flight, p);
             answer_delivery(done, taken_count(bench.messages), answers)
         }
         Event::Repeat(place) => {
             let p = place as usize;
-            let done = messages::repeat_ready(bench, costs, tables, known, sent, held, flight, p);
+            let done = repeat_ready(bench, old, costs, tables, known, sent, held, flight, p);
             answer_delivery(done, bench.messages, answers)
         }
-        Event::Lose(place) => queue_result(messages::lose_ready(bench, flight, place as usize)),
+        Event::Lose(place) => queue_result(lose_ready(bench, flight, place as usize)),
         Event::Cut(link) => cut_result(bench, link as usize),
         Event::Restore(link) => restore_result(bench, link as usize),
         Event::Report(dest) => {
@@ -297,8 +328,11 @@ fn run_in_range(
     let mut going = true;
     while both(going, made < count) {
         let event = events[made];
+        let end = event_end(current.links, current.messages, &ends, flight, event);
+        let old = current.records[end];
         let done = carry_out(
             current,
+            old,
             costs,
             &mut tables,
             &mut known,

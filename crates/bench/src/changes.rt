@@ -118,7 +118,7 @@ pub(crate) fn update_ready(
     if refusal != 0 {
         return Updating::Refused(refusal);
     }
-    let present = bench.view[bridge] as usize;
+    let present = at[bridge] as usize;
     if present == view {
         return Updating::Stays;
     }

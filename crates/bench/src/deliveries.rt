@@ -1,8 +1,10 @@
 // A message at the end opposite to its sender, as layer 2 takes it there.
-use crate::Bench;
+use crate::effects::EndState;
 use crate::effects::Reception;
+use crate::queue::arrival_end;
 use crate::tables::need_view;
 use agreement::Agreement;
+use agreement::EndRecord;
 use agreement::Reaction;
 use agreement::between::deliver_between;
 use agreement::ready::opposite_end;
@@ -12,42 +14,69 @@ ghost use mathlib.Core.List.{[]};
 ghost use Prim.Native.Nat.{_*_, _≤_, _<_};
 ghost use lib.ListN.{length, getD};
 ghost use Rattle.bench.specs.State.{state};
-ghost use Rattle.bench.specs.Deliveries.{deliveryOutcome, deliveryReady, deliveryAt, received};
-ghost use Rattle.bench.specs.Effects.{receptionSays, receptionBench, Accepts, Takes};
-ghost use Rattle.bench.specs.Steps.{Ready, IsFilled, Tables};
+ghost use Rattle.bench.specs.Deliveries.{arrivalEnd, deliveryOutcome, deliveryReady, deliveryAt, received};
+ghost use Rattle.bench.specs.Effects.{receptionSays, receptionBench, Accepts, Takes, LinkFits, MessageFits, endStateIn, StandsIn};
+ghost use Rattle.bench.specs.Steps.{IsFilled, TablesOf};
+ghost use Rattle.bench.specs.declared.Bench.{Bench};
 
-// A message at an end, as layer 2 takes it there in the view of the end's bridge.
+// The end where the message at a place arrives, as it stands with this record.
+pub(crate) fn arrival_state(
+    ends: &[u8],
+    view: [u8; 16],
+    number: [u16; 16],
+    old: EndRecord,
+    messages: &[u32],
+    place: usize,
+) -> EndState
+    requires { ⌜ (place < 64) × (320 ≤ length (now messages)) × LinkFits (now messages) place × (64 ≤ length (now ends)) ⌝ }
+    requires { ⌜ getD (now ends) (arrivalEnd (now messages) place) 0 < 16 ⌝ }
+    ensures { λ r. ⌜ r ≡ endStateIn (now (ends .entry)) view number old (arrivalEnd (now (messages .entry)) place) ⌝ }
+{
+    let end = arrival_end(messages, place);
+    let bridge = ends[end] as usize;
+    EndState {
+        end,
+        view: view[bridge],
+        number: number[bridge],
+        old,
+    }
+}
+
+// A message at an end that stands so, as layer 2 takes it there in the view of the end's bridge.
 fn receive(
-    bench: Bench,
+    bridges: usize,
+    views: usize,
+    ends: &[u8],
+    here: EndState,
     costs: &[u32],
     tables: &[u32],
     sent: &mut [u32],
     held: &mut [u32],
-    end: usize,
     message: Agreement,
 ) -> Reception
-    requires { ⌜ Ready bench (now costs) × (end < 2 * bench .links) × (8192 ≤ length (now tables)) × Takes (state bench (now costs) (now sent) (now held) []) end message ⌝ }
-    requires { ⌜ IsFilled bench (now costs) (now tables) (getD (bench .view) (getD (bench .ends) end 0) 0) ⌝ }
-    ensures { λ r. ⌜ (deliveryOutcome (receptionSays r) (receptionBench r bench (bench .messages)) (now (sent .exit)) (now (held .exit)) [] ≡ deliveryAt (state bench (now (costs .entry)) (now (sent .entry)) (now (held .entry)) []) end message) × Accepts r ⌝ }
+    requires { ⌜ (here .end < 64) × (here .view < 32) × (64 ≤ length (now ends)) × (1024 ≤ length (now costs)) × (8192 ≤ length (now tables)) ⌝ }
+    ensures { λ r. ⌜ ((b : Bench) → StandsIn b bridges views (now (ends .entry)) here → Takes (state b (now (costs .entry)) (now (sent .entry)) (now (held .entry)) []) (here .end) message → IsFilled b (now (costs .entry)) (now (tables .entry)) (here .view) → (deliveryOutcome (receptionSays r) (receptionBench r b (b .messages)) (now (sent .exit)) (now (held .exit)) [] ≡ deliveryAt (state b (now (costs .entry)) (now (sent .entry)) (now (held .entry)) []) (here .end) message) × Accepts r) ⌝ }
 {
+    let end = here.end;
+    let view = here.view;
+    let old = here.old;
     let other = opposite_end(end);
-    let far = bench.ends[other] as usize;
-    let bridge = bench.ends[end] as usize;
-    let view = bench.view[bridge];
+    let far = ends[other] as usize;
+    let bridge = ends[end] as usize;
     let row = 32 * (view as usize);
     let block = 256 * (view as usize);
     let block_past = block + 256;
     let taken = deliver_between(
-        bench.bridges,
+        bridges,
         bridge,
         far,
         costs[row + end / 2],
         &tables[block..block_past],
-        bench.views,
+        views,
         view,
-        bench.number[bridge],
+        here.number,
         end,
-        bench.records[end],
+        old,
         message,
         sent,
         held,
@@ -60,9 +89,13 @@ fn receive(
     Reception::Accepted(answer, end, after)
 }
 
-// The message at a place, at the end opposite to its sender.
+// The message at a place, at its end, which stands so.
 pub(crate) fn receive_at(
-    bench: Bench,
+    bridges: usize,
+    links: usize,
+    views: usize,
+    ends: &[u8],
+    here: EndState,
     costs: &[u32],
     tables: &mut [u32],
     known: &mut [bool],
@@ -71,30 +104,35 @@ pub(crate) fn receive_at(
     messages: &[u32],
     place: usize,
 ) -> Reception
-    requires { ⌜ (deliveryReady (state bench (now costs) (now sent) (now held) (now messages)) ≡ true) × (place < bench .messages) ⌝ }
-    requires { ⌜ Tables bench (now costs) (now tables) (now known) ⌝ }
-    ensures { λ r. ⌜ (deliveryOutcome (receptionSays r) (receptionBench r bench (bench .messages)) (now (sent .exit)) (now (held .exit)) (now (messages .entry)) ≡ received (state bench (now (costs .entry)) (now (sent .entry)) (now (held .entry)) (now (messages .entry))) place) × Accepts r ⌝ }
-    ensures { λ r. ⌜ Tables bench (now (costs .entry)) (now (tables .exit)) (now (known .exit)) ⌝ }
+    requires { ⌜ (here .end < 64) × (here .view < 32) × (64 ≤ length (now ends)) × (1024 ≤ length (now costs)) × TablesOf bridges links (now ends) (now costs) (now tables) (now known) ⌝ }
+    requires { ⌜ (place < 64) × (320 ≤ length (now messages)) × MessageFits (now messages) place × (here .end ≡ arrivalEnd (now messages) place) ⌝ }
+    ensures { λ r. ⌜ ((b : Bench) → StandsIn b bridges views (now (ends .entry)) here → b .links ≡ links → deliveryReady (state b (now (costs .entry)) (now (sent .entry)) (now (held .entry)) (now (messages .entry))) ≡ true → place < b .messages → (deliveryOutcome (receptionSays r) (receptionBench r b (b .messages)) (now (sent .exit)) (now (held .exit)) (now (messages .entry)) ≡ received (state b (now (costs .entry)) (now (sent .entry)) (now (held .entry)) (now (messages .entry))) place) × Accepts r) ⌝ }
+    ensures { λ r. ⌜ TablesOf bridges links (now (ends .entry)) (now (costs .entry)) (now (tables .exit)) (now (known .exit)) ⌝ }
 {
-    let at = 5 * place;
-    let from = 2 * (messages[at] as usize) + messages[at + 1] as usize;
-    let end = opposite_end(from);
-    let bridge = bench.ends[end] as usize;
-    let view = bench.view[bridge] as usize;
-    let ends = bench.ends;
     need_view(
-        bench.bridges,
-        bench.links,
-        &ends,
+        bridges,
+        links,
+        ends,
         costs,
-        view,
+        here.view as usize,
         tables,
         known,
     );
+    let at = 5 * place;
     let message = Agreement {
         view: messages[at + 2] as u8,
         number: messages[at + 3] as u16,
         discarded: messages[at + 4] as u16,
     };
-    receive(bench, costs, tables, sent, held, end, message)
+    receive(
+        bridges,
+        views,
+        ends,
+        here,
+        costs,
+        tables,
+        sent,
+        held,
+        message,
+    )
 }

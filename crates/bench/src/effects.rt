@@ -1,4 +1,4 @@
-// What a call leaves, said without the bench: a bench is long to copy, so that a list of events keeps one and changes it in its place.
+// What a call is handed of a bench and what it leaves, said without the bench: a bench is long to copy, so that a list of events keeps one and changes it in its place.
 use crate::Disposition;
 use agreement::Answer;
 use agreement::EndRecord;
@@ -38,4 +38,12 @@ pub(crate) struct EventResult {
     pub(crate) effect: Effect,
     pub(crate) made: usize,
     pub(crate) answered: usize,
+}
+
+// An end as it stands ahead of a call: the view and the number of its bridge, and its own record.
+pub(crate) struct EndState {
+    pub(crate) end: usize,
+    pub(crate) view: u8,
+    pub(crate) number: u16,
+    pub(crate) old: EndRecord,
 }

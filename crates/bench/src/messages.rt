@@ -4,6 +4,7 @@ use crate::Changed;
 use crate::Delivered;
 use crate::Reaction;
 use crate::Reply;
+use crate::deliveries::arrival_state;
 use crate::deliveries::receive_at;
 use crate::effects::Queue;
 use crate::effects::Reception;
@@ -14,6 +15,7 @@ use crate::replies::refused;
 use crate::replies::refused_delivery;
 use crate::sizes::TABLES;
 use agreement::Carrying;
+use agreement::EndRecord;
 ghost use Prim.Native.Nat.{_-_};
 ghost use mathlib.Core.Path.{_≡_};
 ghost use mathlib.Core.Bool.{true, _&&_};
@@ -22,7 +24,8 @@ ghost use Rattle.bench.specs.State.{state};
 ghost use Rattle.bench.specs.Ranges.{benchInRange, messagesInRange};
 ghost use Rattle.bench.specs.Flights.{queueOutcome, sendOf, loseOf};
 ghost use Rattle.bench.specs.Deliveries.{reactionSays, deliveryOutcome, deliveryReady, deliverOf, repeatOf};
-ghost use Rattle.bench.specs.Effects.{queueNumber, queueBench, QueueTold, receptionSays, receptionBench, ReceptionTold};
+ghost use Rattle.bench.specs.Effects.{queueNumber, queueBench, QueueTold, receptionSays, receptionBench, ReceptionTold, HasRecord};
+ghost use Rattle.bench.specs.declared.Event.the-variants.{Send, Deliver, Repeat};
 ghost use Rattle.bench.specs.Steps.{Tables};
 
 fn flight_in_range(bench: Bench, messages: &[u32]) -> bool
@@ -42,7 +45,10 @@ pub fn send(bench: Bench, messages: &mut [u32], bridge: usize, link: usize) -> C
     if !flight_in_range(bench, messages) {
         return refused(17, bench);
     }
-    queued(bench, send_ready(bench, messages, bridge, link))
+    let ends = bench.ends;
+    let end = queue::sending_end(bench.links, &ends, bridge, link);
+    let old = bench.records[end];
+    queued(bench, send_ready(bench, old, messages, bridge, link))
 }
 
 // The bench with so many messages in flight, or as it was.
@@ -60,8 +66,15 @@ fn queued(bench: Bench, queue: Queue) -> Changed
 }
 
 // `send` of what is in range; it still is afterwards.
-pub(crate) fn send_ready(bench: Bench, messages: &mut [u32], bridge: usize, link: usize) -> Queue
+pub(crate) fn send_ready(
+    bench: Bench,
+    old: EndRecord,
+    messages: &mut [u32],
+    bridge: usize,
+    link: usize,
+) -> Queue
     requires { ⌜ (benchInRange bench && messagesInRange bench (now messages)) ≡ true ⌝ }
+    requires { ⌜ HasRecord (Send bridge link) bench (now messages) old ⌝ }
     ensures { λ r. ⌜ (queueOutcome (queueNumber r) (queueBench r bench) (now (messages .exit)) ≡ sendOf bench (now (messages .entry)) bridge link) × QueueTold r × ((benchInRange (queueBench r bench) && messagesInRange (queueBench r bench) (now (messages .exit))) ≡ true) ⌝ }
 {
     let ends = bench.ends;
@@ -79,16 +92,17 @@ pub(crate) fn send_ready(bench: Bench, messages: &mut [u32], bridge: usize, link
     if refusal != 0 {
         return Queue::Refused(refusal);
     }
-    let end = queue::end_of(ends, bridge, link);
-    let old = bench.records[end];
+    let view = bench.view;
+    let number = bench.number;
     let Carrying::Carries(carried) = agreement::calls::carry(
         bench.views,
-        bench.view[bridge],
-        bench.number[bridge],
+        view[bridge],
+        number[bridge],
         old,
     ) else {
         return Queue::Refused(17);
     };
+    let end = queue::end_of(&ends, bridge, link);
     queue::put(
         messages,
         count,
@@ -168,8 +182,11 @@ pub fn deliver(
     }
     let mut tables = [0u32; TABLES];
     let mut known = [false; 32];
+    let end = queue::receiving_end(bench.messages, messages, place);
+    let old = bench.records[end];
     let reception = deliver_ready(
         bench,
+        old,
         costs,
         &mut tables,
         &mut known,
@@ -184,6 +201,7 @@ pub fn deliver(
 // `deliver` of what is in range.
 pub(crate) fn deliver_ready(
     bench: Bench,
+    old: EndRecord,
     costs: &[u32],
     tables: &mut [u32],
     known: &mut [bool],
@@ -193,7 +211,7 @@ pub(crate) fn deliver_ready(
     place: usize,
 ) -> Reception
     requires { ⌜ deliveryReady (state bench (now costs) (now sent) (now held) (now messages)) ≡ true ⌝ }
-    requires { ⌜ Tables bench (now costs) (now tables) (now known) ⌝ }
+    requires { ⌜ Tables bench (now costs) (now tables) (now known) × HasRecord (Deliver place) bench (now messages) old ⌝ }
     ensures { λ r. ⌜ (deliveryOutcome (receptionSays r) (receptionBench r bench (bench .messages - 1)) (now (sent .exit)) (now (held .exit)) (now (messages .exit)) ≡ deliverOf (state bench (now (costs .entry)) (now (sent .entry)) (now (held .entry)) (now (messages .entry))) place) × ReceptionTold r ⌝ }
     ensures { λ r. ⌜ Tables bench (now (costs .entry)) (now (tables .exit)) (now (known .exit)) ⌝ }
 {
@@ -203,7 +221,24 @@ pub(crate) fn deliver_ready(
     if refusal != 0 {
         return Reception::Refused(refusal);
     }
-    let reception = receive_at(bench, costs, tables, known, sent, held, messages, place);
+    let ends = bench.ends;
+    let view = bench.view;
+    let number = bench.number;
+    let here = arrival_state(&ends, view, number, old, messages, place);
+    let reception = receive_at(
+        bench.bridges,
+        bench.links,
+        bench.views,
+        &ends,
+        here,
+        costs,
+        tables,
+        known,
+        sent,
+        held,
+        messages,
+        place,
+    );
     queue::take_out(messages, count, place);
     reception
 }
@@ -225,8 +260,11 @@ pub fn repeat(
     }
     let mut tables = [0u32; TABLES];
     let mut known = [false; 32];
+    let end = queue::receiving_end(bench.messages, messages, place);
+    let old = bench.records[end];
     let reception = repeat_ready(
         bench,
+        old,
         costs,
         &mut tables,
         &mut known,
@@ -241,6 +279,7 @@ pub fn repeat(
 // `repeat` of what is in range.
 pub(crate) fn repeat_ready(
     bench: Bench,
+    old: EndRecord,
     costs: &[u32],
     tables: &mut [u32],
     known: &mut [bool],
@@ -250,7 +289,7 @@ pub(crate) fn repeat_ready(
     place: usize,
 ) -> Reception
     requires { ⌜ deliveryReady (state bench (now costs) (now sent) (now held) (now messages)) ≡ true ⌝ }
-    requires { ⌜ Tables bench (now costs) (now tables) (now known) ⌝ }
+    requires { ⌜ Tables bench (now costs) (now tables) (now known) × HasRecord (Repeat place) bench (now messages) old ⌝ }
     ensures { λ r. ⌜ (deliveryOutcome (receptionSays r) (receptionBench r bench (bench .messages)) (now (sent .exit)) (now (held .exit)) (now (messages .entry)) ≡ repeatOf (state bench (now (costs .entry)) (now (sent .entry)) (now (held .entry)) (now (messages .entry))) place) × ReceptionTold r ⌝ }
     ensures { λ r. ⌜ Tables bench (now (costs .entry)) (now (tables .exit)) (now (known .exit)) ⌝ }
 {
@@ -260,5 +299,22 @@ pub(crate) fn repeat_ready(
     if refusal != 0 {
         return Reception::Refused(refusal);
     }
-    receive_at(bench, costs, tables, known, sent, held, messages, place)
+    let ends = bench.ends;
+    let view = bench.view;
+    let number = bench.number;
+    let here = arrival_state(&ends, view, number, old, messages, place);
+    receive_at(
+        bench.bridges,
+        bench.links,
+        bench.views,
+        &ends,
+        here,
+        costs,
+        tables,
+        known,
+        sent,
+        held,
+        messages,
+        place,
+    )
 }

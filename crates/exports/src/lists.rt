@@ -56,10 +56,10 @@ pub extern "C" fn bench_net_run(
         return 17;
     }
     let old = benches::load(bench);
-    let mut ends = [0usize; EVENT_ENDS];
+    let mut ends = [0u16; EVENT_ENDS];
     let progress = plan::events::list_progress(old);
     let events = plan::events::read_events(rest, progress, answers.len(), &mut ends);
-    let count = ends[0];
+    let count = ends[0] as usize;
     let ran = bench::batches::run(old, costs, sent, held, messages, events, count, answers);
     let used = plan::events::bytes_of(&ends, ran.made);
     settle_list(ran, used, bench, out)

@@ -13,7 +13,7 @@ use lib.Dec.{leb, ltb}
 use Rattle.bench.specs.Batches.{answerSize}
 use Rattle.bench.specs.declared.Event.{Event}
 use Rattle.plan.specs.Sizes.{mostEvents}
-use Rattle.plan.specs.Reading.{readReply}
+use Rattle.plan.specs.Reading.{progressInRange, readReply}
 use Rattle.plan.specs.Events.{Placed, placed, ifEvent, eventsAt, eventsOf, endsOf, mostListed, Listing, listing, eventsReply}
 use Rattle.plan.specs.Steps.{noEvent, nextOf, nextEvent}
 use Rattle.plan.specs.declared.Field.{Field}
@@ -23,6 +23,21 @@ use Rattle.plan.specs.declared.events.NextEvent.{NextEvent}
 use Rattle.plan.proofs.Laws.{field-size}
 
 -- ---- the next event, or none
+
+-- none where no event is read
+pub no-event-read :
+    (rest : List ℕ) (p : Progress) (room : ℕ) →
+    ((e : Event) (k : ℕ) → readReply rest p ≡ Read.Field (Field.Event e) k → ⊥) →
+    nextEvent rest p room ≡ noEvent
+unfolding nextOf
+no-event-read rest p room other = go (readReply rest p) refl
+  where
+    go : (r : Read) → readReply rest p ≡ r → nextOf r (p .bridges) room ≡ noEvent
+    go (Read.Field (Field.Event e) used) is = absurd (other e used is)
+    go (Read.Field (Field.Bridges n) used) is = refl
+    go (Read.Field (Field.Link x y) used) is = refl
+    go (Read.Field Field.View used) is = refl
+    go (Read.Stop number) is = refl
 
 module _ (p : Progress) (room : ℕ) (rest : List ℕ) where
   -- an event was read, and its answer has room
@@ -68,6 +83,12 @@ module _ (p : Progress) (room : ℕ) (rest : List ℕ) where
       go (Read.Field (Field.Link x y) used) is = inr (record { none = refl; list = refl })
       go (Read.Field Field.View used) is = inr (record { none = refl; list = refl })
       go (Read.Stop number) is = inr (record { none = refl; list = refl })
+
+-- with a progress out of range each read is refused, so there is none
+pub none-out-of-range : (most : ℕ) (p : Progress) (room at : ℕ) (rest : List ℕ) → progressInRange p ≡ false → eventsAt most p room at rest ≡ []
+unfolding eventsAt ifEvent readReply
+none-out-of-range zero p room at rest out = refl
+none-out-of-range (suc most) p room at rest out = rw out
 
 -- ---- each event is read where the one before it ends
 

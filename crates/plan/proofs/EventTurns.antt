@@ -1,5 +1,5 @@
 -- A list of events, from one to the next: how far it has come, and where it ends. Assumes nothing.
-use Prim.Native.Nat.{ℕ, suc, _+_, _-_, _≤_, _<_}
+use Prim.Native.Nat.{ℕ, suc, _+_, _-_, _*_, _≤_, _<_}
 use native.Mathlib.Omega.{arith}
 use mathlib.Core.Path.{_≡_, refl, sym, ap, _∙_}
 use mathlib.Core.Logic.{_⊎_, inl, inr}
@@ -12,12 +12,13 @@ use lib.Dec.{eqb}
 use Rattle.bench.specs.declared.Event.{Event}
 use Rattle.bench.specs.declared.Event.the-variants.{Lose}
 use Rattle.plan.specs.Sizes.{mostEvents}
+use Rattle.plan.specs.Reading.{progressInRange}
 use Rattle.plan.specs.Events.{Placed, placed, eventsAt, eventsOf, endsOf, mostListed, listing, eventsReply}
 use Rattle.plan.specs.Steps.{nextEvent}
 use Rattle.plan.specs.declared.Progress.{Progress}
 use Rattle.plan.specs.declared.events.NextEvent.{NextEvent}
-use Rattle.plan.proofs.Laws.{field-size}
-use Rattle.plan.proofs.EventLaws.{GoesOn, Ends, next-or-none, lastEnd, end-at, length-events, length-ends, listed-within}
+use Rattle.plan.proofs.Laws.{field-size, event-size}
+use Rattle.plan.proofs.EventLaws.{GoesOn, Ends, next-or-none, lastEnd, end-at, length-events, length-ends, listed-within, none-out-of-range}
 
 -- ---- one behind those that are read
 
@@ -63,32 +64,42 @@ ahead false most p left at rest = []
 
 pub record Underway (all : List Placed) (rest : List ℕ) (p : Progress) (most : ℕ) (first ends : List ℕ) (events : List Event) (left at count : ℕ) (going : Bool) : Type 0 where
   pub done : List Placed
+  pub ranged : going ≡ true → progressInRange p ≡ true
   pub same : all ≡ done ++ ahead going (most - count) p left at (drop at rest)
   pub counted : length done ≡ count
   pub few : count ≤ most
   pub reached : lastEnd 0 done ≡ at
   pub within : at ≤ length rest
+  pub short : at ≤ 5 * count
   pub listed : events ≡ eventsOf done ++ replicate (mostEvents - count) (Lose 0)
   pub ended : drop 1 ends ≡ endsOf done ++ drop (suc count) first
   pub long : length ends ≡ length first
 
 pub begins :
-    (rest : List ℕ) (p : Progress) (most room : ℕ) (first : List ℕ) →
-    Underway (eventsAt most p room 0 rest) rest p most first first (replicate mostEvents (Lose 0)) room 0 0 true
+    (rest : List ℕ) (p : Progress) (most room : ℕ) (first : List ℕ) (going : Bool) → going ≡ progressInRange p →
+    Underway (eventsAt most p room 0 rest) rest p most first first (replicate mostEvents (Lose 0)) room 0 0 going
 unfolding eventsOf endsOf
-begins rest p most room first =
-    let whole : most - 0 ≡ most = omega arith in
+begins rest p most room first going is =
     record {
       done = [];
-      same = rw whole;
+      ranged = λ on. sym is ∙ on;
+      same = go going is;
       counted = refl;
       few = omega arith;
       reached = refl;
       within = omega arith;
+      short = omega arith;
       listed = refl;
       ended = refl;
       long = refl;
     }
+  where
+    whole : most - 0 ≡ most
+    whole = omega arith
+
+    go : (b : Bool) → b ≡ progressInRange p → eventsAt most p room 0 rest ≡ ahead b (most - 0) p room 0 (drop 0 rest)
+    go true e = rw whole
+    go false e = none-out-of-range most p room 0 rest (sym e)
 
 -- ---- one event more, or none
 
@@ -145,11 +156,13 @@ module _
       let one : suc count ≡ 1 + count = omega arith in
       record {
         done = old .done ++ (x ∷ []);
+        ranged = λ z. old .ranged refl;
         same = so-far ∙ rw (on .list, drop-drop, append-snoc);
         counted = length-append (old .done) (x ∷ []) ∙ omega (arith, old .counted);
         few = more;
         reached = last-snoc 0 (old .done) x;
         within = omega (arith, size .1, length-drop at rest, old .within);
+        short = omega (arith, old .short, event-size (drop at rest) p (on .goes .read));
         listed = stored (n .event) ∙ rw (events-snoc (old .done) x, append-snoc);
         ended =
             ap (λ (k : ℕ). drop 1 (set ends k (at + n .used))) one
@@ -168,11 +181,13 @@ module _
       rw still
       (record {
         done = old .done;
+        ranged = λ z. old .ranged refl;
         same = so-far ∙ rw (none .list);
         counted = old .counted;
         few = old .few;
         reached = old .reached;
         within = old .within;
+        short = old .short;
         listed = stored (Lose 0) ∙ rw one;
         ended = rw (old .counted, old .reached) at (last-kept (old .done) ends (drop (suc count) first) (old .ended));
         long = length-set ends count at ∙ old .long;

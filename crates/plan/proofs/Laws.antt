@@ -1,27 +1,28 @@
 -- What a field that was read tells, for the layers above: the bytes that it takes, and what its checks say of it. Assumes nothing.
 use Prim.Native.Nat.{ℕ, zero, suc, _≤_, _<_}
 use native.Mathlib.Omega.{arith}
-use mathlib.Core.Path.{_≡_, refl, sym, subst, _∙_}
+use mathlib.Core.Path.{_≡_, refl, sym, ap, subst, _∙_}
 use mathlib.Core.Logic.{⊎-elim}
 use mathlib.Core.Bool.{Bool, true, false, cond, _&&_, _||_, not}
 use mathlib.Core.List.{List, []}
-use borrow.Author.Tests.{ltb-true, ltb-false, leb-true, leb-false, eqb-true, eqb-false, not-true, not-false}
+use borrow.Author.Tests.{ltb-true, ltb-false, lt-leb, leb-true, leb-false, ne-eqb, eqb-true, eqb-false, not-true, not-false}
 use lib.ListN.{length}
 use lib.Dec.{eqb, leb, ltb}
+use Rattle.bench.specs.declared.Event.{Event}
 use Rattle.distances.specs.View.{maxCost}
 use Rattle.distances.specs.Call.{allBelow}
 use Rattle.distances.specs.Refusal.{check, refusal}
 use Rattle.distances.proofs.Booleans.{both-true, one-true}
 use Rattle.distances.proofs.Ranges.{allBelow-true, allBelow-none, allBelow-more}
 use Rattle.plan.specs.Sizes.{leastBridges, mostBridges, mostLinks, mostViews, headerBytes}
-use Rattle.plan.specs.Tags.{tags, mayCome, passes, known, inOrder, rightLength}
+use Rattle.plan.specs.Tags.{tags, mayCome, passes, known, setsUp, inOrder, rightLength}
 use Rattle.plan.specs.Fields.{value, tag, valueLength, size, costIn, eventBy, fieldOf}
 use Rattle.plan.specs.Reading.{headerChecks, costsFit, bridgeChecks, linkChecks, viewChecks, valueChecks, fieldRefusal, readOf, progressInRange, readReply}
 use Rattle.plan.specs.declared.Progress.{Progress}
 use Rattle.plan.specs.declared.Field.{Field}
 use Rattle.plan.specs.declared.Read.{Read}
 use Rattle.distances.proofs.Refusals.{passed}
-use Rattle.plan.proofs.TagTable.{event-late}
+use Rattle.plan.proofs.TagTable.{in-range, event-late, event-short}
 
 -- what the checks of each field tell
 pub record BridgesRead (p : Progress) (n : ℕ) : Type 0 where
@@ -72,7 +73,7 @@ in-range-links p e =
     leb-true (p .links) mostLinks (both-true (leb (p .links) mostLinks) _ more .0)
 
 -- nor a bridge
-in-range-bridges : (p : Progress) → progressInRange p ≡ true → p .bridges ≤ mostBridges
+pub in-range-bridges : (p : Progress) → progressInRange p ≡ true → p .bridges ≤ mostBridges
 unfolding progressInRange
 in-range-bridges p e =
     let counts = both-true (leb (p .stage) 3) _ e .1 in
@@ -88,7 +89,9 @@ stops e = let z : _≡_ {A = ℕ} 0 1 = cc in omega arith
 
 module _ (rest : List ℕ) (p : Progress) where
   record Header : Type 0 where
+    named : known (tag rest) ≡ true
     order : inOrder (tag rest) (p .stage) ≡ true
+    right : rightLength (tag rest) (p .links) (valueLength rest) ≡ true
     whole : size rest ≤ length rest
 
   header-told : refusal (headerChecks rest p) ≡ 0 → Header
@@ -99,7 +102,12 @@ module _ (rest : List ℕ) (p : Progress) where
       let three = passed (check (not (inOrder (tag rest) (p .stage))) 4) _ (omega arith) (two .1) in
       let four = passed (check (not (rightLength (tag rest) (p .links) (valueLength rest))) 3) _ (omega arith) (three .1) in
       let five = passed (check (ltb (length rest) (size rest)) 1) _ (omega arith) (four .1) in
-      record { order = not-false _ (three .0); whole = ltb-false (length rest) (size rest) (five .0) }
+      record {
+        named = not-false _ (two .0);
+        order = not-false _ (three .0);
+        right = not-false _ (four .0);
+        whole = ltb-false (length rest) (size rest) (five .0);
+      }
 
   bridges-told : tag rest ≡ 1 → inOrder (tag rest) (p .stage) ≡ true → refusal (bridgeChecks rest p) ≡ 0 → BridgesRead p (value rest 0)
   unfolding inOrder passes tags mayCome bridgeChecks
@@ -196,7 +204,77 @@ field-size rest p e =
     let h = header-told rest p (t .header) in
     (omega arith, omega arith, t .taken)
 
--- and the bridges are few
+-- an event has none of the three tags that set the network up
+event-tag :
+    (rest : List ℕ) {e : Event} → fieldOf rest ≡ Field.Event e →
+    (eqb (tag rest) 1 ≡ false) × (eqb (tag rest) 2 ≡ false) × (eqb (tag rest) 3 ≡ false)
+unfolding fieldOf
+event-tag rest {e} = go (eqb (tag rest) 1) (eqb (tag rest) 2) (eqb (tag rest) 3)
+  where
+    isEvent : Field → ℕ
+    isEvent (Field.Bridges n) = 0
+    isEvent (Field.Link a b) = 0
+    isEvent Field.View = 0
+    isEvent (Field.Event v) = 1
+
+    other : {f : Field} → isEvent f ≡ 0 → f ≡ Field.Event e → ⊥
+    other none same = omega (arith, none, ap isEvent same)
+
+    go : (a b c : Bool) →
+        cond a (Field.Bridges (value rest 0)) (cond b (Field.Link (value rest 0) (value rest 1)) (cond c Field.View (Field.Event (eventBy (tag rest) (value rest 0) (value rest 1))))) ≡ Field.Event e →
+        (a ≡ false) × (b ≡ false) × (c ≡ false)
+    go true b c f = absurd (other refl f)
+    go false true c f = absurd (other refl f)
+    go false false true f = absurd (other refl f)
+    go false false false f = (refl, refl, refl)
+
+-- an event takes at most five
+pub event-size : (rest : List ℕ) (p : Progress) {e : Event} {k : ℕ} → readReply rest p ≡ Read.Field (Field.Event e) k → k ≤ 5
+event-size rest p read =
+    let t = none-applies rest p read in
+    let h = header-told rest p (t .header) in
+    let other = event-tag rest (t .field) in
+    omega (arith, event-short (tag rest) (p .links) (valueLength rest) (other .0) (other .1) (other .2) (h .right), t .taken)
+
+-- ---- an event by its header and tag alone
+
+-- no field is read whose header is refused
+pub header-passed : (rest : List ℕ) (p : Progress) {f : Field} {k : ℕ} → readReply rest p ≡ Read.Field f k → refusal (headerChecks rest p) ≡ 0
+header-passed rest p read = none-applies rest p read .header
+
+-- no event by a tag that sets the network up
+pub event-no-setup : (rest : List ℕ) (p : Progress) {e : Event} {k : ℕ} → readReply rest p ≡ Read.Field (Field.Event e) k → setsUp (tag rest) ≡ false
+event-no-setup rest p read =
+    let t = none-applies rest p read in
+    let h = header-told rest p (t .header) in
+    let other = event-tag rest (t .field) in
+    lt-leb (tag rest) 3
+    (omega (
+      arith,
+      in-range (tag rest) (h .named) .0,
+      eqb-false (tag rest) 1 (other .0),
+      eqb-false (tag rest) 2 (other .1),
+      eqb-false (tag rest) 3 (other .2),
+    ))
+
+-- with any other tag that the header's checks let pass there is one: its value has no check
+pub event-read :
+    (rest : List ℕ) (p : Progress) → progressInRange p ≡ true → refusal (headerChecks rest p) ≡ 0 → setsUp (tag rest) ≡ false →
+    readReply rest p ≡ Read.Field (Field.Event (eventBy (tag rest) (value rest 0) (value rest 1))) (size rest)
+unfolding readReply readOf fieldRefusal valueChecks fieldOf refusal
+event-read rest p inside passes event =
+    let whole = header-told rest p passes .whole in
+    let late = leb-false (tag rest) 3 event in
+    rw (
+      inside,
+      ne-eqb (length rest) 0 (λ z. omega arith),
+      passes,
+      ne-eqb (tag rest) 1 (λ z. omega arith),
+      ne-eqb (tag rest) 2 (λ z. omega arith),
+      ne-eqb (tag rest) 3 (λ z. omega arith),
+    )
+
+-- where a field was read the bridges are few
 pub field-bridges : (rest : List ℕ) (p : Progress) {f : Field} {k : ℕ} → readReply rest p ≡ Read.Field f k → p .bridges ≤ mostBridges
 unfolding readReply
 field-bridges rest p {f} {k} = go (progressInRange p) refl

@@ -5,13 +5,14 @@ use native.Mathlib.Omega.{arith}
 use mathlib.Core.Path.{_≡_, refl, sym, _∙_}
 use mathlib.Core.Bool.{Bool, true, false, cond, _&&_, false≢true}
 use mathlib.Core.List.{List, [], _∷_}
-use borrow.Author.Tests.{eq-eqb, ne-eqb, leb-true, leb-false}
+use borrow.Author.Tests.{eq-eqb, ne-eqb, eqb-true, leb-true, leb-false}
 use lib.ListN.{length, getD, drop}
 use lib.Dec.{eqb, leb}
 use Rattle.distances.proofs.Booleans.{both-true}
-use Rattle.plan.specs.Tags.{Row, row, tags, mayCome, passes, known, inOrder, IsRow}
+use Rattle.plan.specs.Tags.{Row, row, tags, mayCome, lengthFits, passes, known, inOrder, rightLength, IsRow}
 use Rattle.plan.specs.declared.tags.Rule.{Rule}
-use Rattle.plan.specs.declared.tags.Length.the-variants.{CostPerLink}
+use Rattle.plan.specs.declared.tags.Length.{Length}
+use Rattle.plan.specs.declared.tags.Length.the-variants.{Bytes, CostPerLink}
 use Rattle.plan.specs.declared.tags.Place.{Place}
 use Rattle.plan.specs.declared.tags.Place.the-variants.{First, BeforeViews, BeforeEvents, AfterView}
 
@@ -70,37 +71,57 @@ in-range t e =
 pub rule-at : (x : Rule) (t : ℕ) → known t ≡ true → IsRow t (row t (getD rules (t - 1) x .0) (getD rules (t - 1) x .1))
 rule-at x t e test = let inside = in-range t e in rw counted at (at test t rules x 1 (t - 1) (omega arith) (omega arith))
 
--- the rows of events: after a view
+-- ---- what all rows of events have, those behind the first three
+
+allRows : (Row → Bool) → List Row → Bool
+allRows good [] = true
+allRows good (r ∷ rs) = good r && allRows good rs
+
+module _ (t : ℕ) {P : Type 0} (good test : Row → Bool) (told : (r : Row) → good r ≡ true → test r ≡ true → P) where
+  -- the tag's row passes a test, and is among rows of which each tells by that
+  by-row : (rs : List Row) → allRows good rs ≡ true → passes test t rs ≡ true → P
+  unfolding allRows passes
+  by-row [] e h = absurd (false≢true h)
+  by-row (r ∷ rs) e h =
+      let both = both-true (good r) (allRows good rs) e in
+      go (eqb t (r .tag)) (told r (both .0)) (by-row rs (both .1)) h
+    where
+      go : (b : Bool) {here later : Bool} → (here ≡ true → P) → (later ≡ true → P) → cond b here later ≡ true → P
+      go true f g = f
+      go false f g = g
+
+-- they come after a view
 isLate : Place → Bool
 isLate First = false
 isLate BeforeViews = false
 isLate BeforeEvents = false
 isLate AfterView = true
 
-allLate : List Row → Bool
-allLate [] = true
-allLate (r ∷ rs) = isLate (r .place) && allLate rs
+-- their values have at most two bytes
+isShort : Length → Bool
+isShort (Bytes n) = leb n 2
+isShort CostPerLink = false
 
-module _ (t stage : ℕ) where
-  late-place : (q : Place) → isLate q ≡ true → mayCome q stage ≡ true → 2 ≤ stage
+module _ (t : ℕ) where
+  late-place : (stage : ℕ) (q : Place) → isLate q ≡ true → mayCome q stage ≡ true → 2 ≤ stage
   unfolding isLate mayCome
-  late-place First e h = absurd (false≢true e)
-  late-place BeforeViews e h = absurd (false≢true e)
-  late-place BeforeEvents e h = absurd (false≢true e)
-  late-place AfterView e h = leb-true 2 stage h
+  late-place stage First e h = absurd (false≢true e)
+  late-place stage BeforeViews e h = absurd (false≢true e)
+  late-place stage BeforeEvents e h = absurd (false≢true e)
+  late-place stage AfterView e h = leb-true 2 stage h
 
-  late : (rs : List Row) → allLate rs ≡ true → passes (λ r. mayCome (r .place) stage) t rs ≡ true → 2 ≤ stage
-  unfolding allLate passes
-  late [] e h = absurd (false≢true h)
-  late (r ∷ rs) e h =
-      let both = both-true (isLate (r .place)) (allLate rs) e in
-      go (eqb t (r .tag)) (late-place (r .place) (both .0)) (late rs (both .1)) h
-    where
-      go : (b : Bool) {here later : Bool} → (here ≡ true → 2 ≤ stage) → (later ≡ true → 2 ≤ stage) → cond b here later ≡ true → 2 ≤ stage
-      go true f g = f
-      go false f g = g
+  short-length : (links n : ℕ) (q : Length) → isShort q ≡ true → lengthFits q links n ≡ true → n ≤ 2
+  unfolding isShort lengthFits
+  short-length links n (Bytes m) e h = omega (arith, leb-true m 2 e, eqb-true n m h)
+  short-length links n CostPerLink e h = absurd (false≢true e)
 
-  -- an event, which is what every tag from 4 on is, comes after a view
-  pub event-late : eqb t 1 ≡ false → eqb t 2 ≡ false → eqb t 3 ≡ false → inOrder t stage ≡ true → 2 ≤ stage
-  unfolding isLate allLate passes inOrder tags
-  event-late one two three h = late (drop 3 tags) refl (rw (one, two, three) at h)
+  -- an event is what every tag from 4 on is
+  pub event-late : (stage : ℕ) → eqb t 1 ≡ false → eqb t 2 ≡ false → eqb t 3 ≡ false → inOrder t stage ≡ true → 2 ≤ stage
+  unfolding isLate allRows passes inOrder tags
+  event-late stage one two three h =
+      by-row t (λ r. isLate (r .place)) (λ r. mayCome (r .place) stage) (λ r. late-place stage (r .place)) (drop 3 tags) refl (rw (one, two, three) at h)
+
+  pub event-short : (links n : ℕ) → eqb t 1 ≡ false → eqb t 2 ≡ false → eqb t 3 ≡ false → rightLength t links n ≡ true → n ≤ 2
+  unfolding isShort allRows passes rightLength tags
+  event-short links n one two three h =
+      by-row t (λ r. isShort (r .length)) (λ r. lengthFits (r .length) links n) (λ r. short-length links n (r .length)) (drop 3 tags) refl (rw (one, two, three) at h)

@@ -1,16 +1,21 @@
 // The events at the head of the bytes that are left, read once for a list of calls.
-use crate::Field;
 use crate::Progress;
-use crate::Read;
-use crate::fields::read_field;
+use crate::bytes::byte_at;
+use crate::bytes::value_length;
+use crate::fields::progress_in_range;
+use crate::header::header_refusal;
+use crate::sizes::HEADER_BYTES;
+use crate::tags::sets_up;
+use crate::values::event_in;
 use bench::Bench;
 use bench::Event;
 use bench::sizes::MOST_EVENTS;
 use distances::ready::both;
 ghost use mathlib.Core.Path.{_≡_};
-ghost use mathlib.Core.Bool.{cond};
+ghost use mathlib.Core.Bool.{true, cond};
 ghost use Prim.Native.Nat.{suc, _<_};
 ghost use lib.Dec.{eqb};
+ghost use Rattle.plan.specs.Reading.{progressInRange};
 ghost use Rattle.plan.specs.Events.{mostListed, listing, eventsReply, listProgress, bytesBy};
 ghost use Rattle.plan.specs.Steps.{noEvent, nextEvent};
 
@@ -31,22 +36,27 @@ fn no_event() -> NextEvent
     }
 }
 
-// The event at the head, if the numbers that it answers with have room.
+// The event at the head, if the numbers that it answers with have room. The header and the tag tell all: an event's value has no check.
 fn next_event(rest: &[u8], p: Progress, room: usize) -> NextEvent
+    requires { ⌜ progressInRange p ≡ true ⌝ }
     ensures { λ r. ⌜ r ≡ nextEvent (now (rest .entry)) p room ⌝ }
 {
-    let read = read_field(rest, p);
-    let Read::Field(field, used) = read else {
+    if header_refusal(rest, p) != 0 {
         return no_event();
-    };
-    let Field::Event(event) = field else {
+    }
+    if sets_up(byte_at(rest, 0)) {
         return no_event();
-    };
+    }
+    let event = event_in(rest);
     let size = bench::batches::answer_size(p.bridges as u8, event);
     if room < size {
         return no_event();
     }
-    NextEvent { event, used, size }
+    NextEvent {
+        event,
+        used: HEADER_BYTES + value_length(rest),
+        size,
+    }
 }
 
 // How many events a list has room for, with so many lent numbers.
@@ -71,22 +81,17 @@ fn counted(count: usize, used: usize) -> usize
 }
 
 // As many events as stand at the head of the bytes, up to the first field that is none, to the most that a list has room for, and to one
-// whose answer has no room behind the others in so many numbers. How many goes to ends[0], the bytes up to the end of event k to
-// ends[k + 1].
-pub fn read_events(
-    rest: &[u8],
-    p: Progress,
-    room: usize,
-    ends: &mut [usize],
-) -> [Event; MOST_EVENTS]
+// whose answer has no room behind the others in so many numbers; none where the progress is out of range. How many goes to ends[0], the
+// bytes up to the end of event k to ends[k + 1]: 16 bits hold them, since each of 2,048 events takes at most 5 bytes.
+pub fn read_events(rest: &[u8], p: Progress, room: usize, ends: &mut [u16]) -> [Event; MOST_EVENTS]
     ensures { λ r. ⌜ listing r (now (ends .exit)) ≡ eventsReply (now (rest .entry)) p room (now (ends .entry)) ⌝ }
 {
+    let mut going = progress_in_range(p);
     let mut events = [Event::Lose(0); MOST_EVENTS];
     let most = most_listed(ends.len());
     let mut left = room;
     let mut at = 0;
     let mut count = 0;
-    let mut going = true;
     while both(going, count < most) {
         let next = next_event(&rest[at..], p, left);
         let event = next.event;
@@ -95,11 +100,11 @@ pub fn read_events(
         at += used;
         left -= next.size;
         count = counted(count, used);
-        ends[count] = at;
+        ends[count] = at as u16;
         going = used != 0;
     }
     if 0 < ends.len() {
-        ends[0] = count;
+        ends[0] = count as u16;
     }
     events
 }
@@ -117,7 +122,7 @@ pub fn list_progress(bench: Bench) -> Progress
 }
 
 // The bytes of the first `made` events, by where each ends; 0 for more than there are.
-pub fn bytes_of(ends: &[usize], made: usize) -> usize
+pub fn bytes_of(ends: &[u16], made: usize) -> usize
     ensures { λ r. ⌜ r ≡ bytesBy (now (ends .entry)) made ⌝ }
 {
     if made == 0 {
@@ -126,5 +131,5 @@ pub fn bytes_of(ends: &[usize], made: usize) -> usize
     if ends.len() <= made {
         return 0;
     }
-    ends[made]
+    ends[made] as usize
 }

@@ -28,7 +28,8 @@ fn count_in_range(bridges: usize) -> bool
     both(LEAST_BRIDGES <= bridges, bridges <= MOST_BRIDGES)
 }
 
-fn progress_in_range(p: Progress) -> bool
+// Shared with the list of events, which tests a progress once.
+pub(crate) fn progress_in_range(p: Progress) -> bool
     ensures { λ r. ⌜ r ≡ progressInRange p ⌝ }
 {
     let counted = count_in_range(p.bridges);

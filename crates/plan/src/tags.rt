@@ -5,7 +5,7 @@ ghost use mathlib.Core.Path.{_≡_};
 ghost use mathlib.Core.Bool.{true};
 ghost use Prim.Native.Nat.{_≤_};
 ghost use Rattle.plan.specs.Sizes.{mostLinks};
-ghost use Rattle.plan.specs.Tags.{row, mayCome, lengthFits, known, IsRow};
+ghost use Rattle.plan.specs.Tags.{row, mayCome, lengthFits, known, setsUp, IsRow};
 
 // Where in the plan a field may come: first of all, after the bridge count and before views or events, or after a view.
 pub(crate) enum Place {
@@ -24,6 +24,8 @@ pub(crate) enum Length {
 pub(crate) struct Rule(pub(crate) Place, pub(crate) Length);
 
 const LAST_TAG: usize = 12;
+
+const LAST_SETUP_TAG: u8 = 3;
 
 // Tag 1 first. Small numbers, since each look-up copies the table.
 const TAGS: [Rule; LAST_TAG] = [
@@ -45,6 +47,13 @@ pub(crate) fn known(tag: usize) -> bool
     ensures { λ r. ⌜ r ≡ known tag ⌝ }
 {
     both(1 <= tag, tag <= LAST_TAG)
+}
+
+// Of the known tags, 1 to 3 set the network up and the others are events.
+pub(crate) fn sets_up(tag: u8) -> bool
+    ensures { λ r. ⌜ r ≡ setsUp tag ⌝ }
+{
+    tag <= LAST_SETUP_TAG
 }
 
 pub(crate) fn rule_of(tag: usize) -> Rule

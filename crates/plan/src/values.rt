@@ -15,7 +15,7 @@ ghost use mathlib.Core.Path.{_≡_};
 ghost use Prim.Native.Nat.{_≤_, _<_};
 ghost use Rattle.distances.specs.Refusal.{refusal};
 ghost use Rattle.plan.specs.Sizes.{mostLinks};
-ghost use Rattle.plan.specs.Fields.{costIn, eventBy, fieldOf};
+ghost use Rattle.plan.specs.Fields.{byte, value, costIn, eventBy, fieldOf};
 ghost use Rattle.plan.specs.Reading.{costsFit, bridgeChecks, linkChecks, viewChecks, valueChecks};
 
 // The cost of link l in a view's value.
@@ -137,20 +137,25 @@ fn event_of(tag: u8, a: u8, b: u8) -> Event
     Event::Path(a, b)
 }
 
+// The event at the head, for the tag of one.
+pub(crate) fn event_in(rest: &[u8]) -> Event
+    ensures { λ r. ⌜ r ≡ eventBy (byte (now (rest .entry)) 0) (value (now (rest .entry)) 0) (value (now (rest .entry)) 1) ⌝ }
+{
+    event_of(byte_at(rest, 0), value_at(rest, 0), value_at(rest, 1))
+}
+
 pub(crate) fn field_of(rest: &[u8]) -> Field
     ensures { λ r. ⌜ r ≡ fieldOf (now (rest .entry)) ⌝ }
 {
     let tag = byte_at(rest, 0);
-    let a = value_at(rest, 0);
-    let b = value_at(rest, 1);
     if tag == 1 {
-        return Field::Bridges(a);
+        return Field::Bridges(value_at(rest, 0));
     }
     if tag == 2 {
-        return Field::Link(a, b);
+        return Field::Link(value_at(rest, 0), value_at(rest, 1));
     }
     if tag == 3 {
         return Field::View;
     }
-    Field::Event(event_of(tag, a, b))
+    Field::Event(event_in(rest))
 }

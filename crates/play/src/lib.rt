@@ -18,7 +18,7 @@ ghost use Rattle.text.specs.Lines.{refusedText};
 const READ_BYTES: usize = 61441;
 
 // What waits to be printed.
-const OUT_BYTES: usize = 131072;
+const OUT_BYTES: usize = 49152;
 
 // What became of a plan: all that it prints was handed to standard output, so many bytes; or a write failed, and so many had been handed
 // on before it; or the plan could not be read, and nothing was handed on.

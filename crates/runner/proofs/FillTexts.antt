@@ -9,6 +9,7 @@ use lib.ListN.{length, getD}
 use lib.Seq.{sets, length-sets}
 use lib.Dec.{eqb, leb}
 use Rattle.distances.proofs.Booleans.{not-both}
+use Rattle.protocol.specs.Calls.{report, path, refuse, checks}
 use Rattle.bench.specs.State.{State}
 use Rattle.bench.specs.Batches.{replyOf, answersOf, answerSize}
 use Rattle.bench.specs.Changes.{ChangeOutcome}
@@ -16,6 +17,8 @@ use Rattle.bench.specs.declared.Bench.{Bench}
 use Rattle.bench.specs.declared.Event.{Event}
 use Rattle.bench.specs.declared.Event.the-variants.{Update, Send, Deliver, Repeat, Lose, Cut, Restore, Report, Path}
 use Rattle.bench.proofs.BatchRuns.{accepted-bridges, answers-length}
+use Rattle.bench.proofs.FlightCalls.{refusal-none}
+use Rattle.bench.proofs.WalkSteps.{bridge-listed, bridges-listed}
 use Rattle.plan.specs.Reading.{readReply}
 use Rattle.plan.specs.declared.Field.{Field}
 use Rattle.plan.specs.declared.Read.{Read}
@@ -30,19 +33,28 @@ use Rattle.runner.specs.declared.Runner.{Runner}
 
 -- ---- texts are short
 
-path-short : (start dest : ℕ) (answers : List ℕ) → length (pathText start dest answers) ≤ 66
+path-short : (start dest : ℕ) (answers : List ℕ) → start < 100 → dest < 100 → length (pathText start dest answers) ≤ 39
 unfolding pathText
-path-short start dest answers = go (eqb (getD answers 0 0) 0)
+path-short start dest answers from to = go (eqb (getD answers 0 0) 0)
   where
-    go : (b : Bool) → length (cond b (deliveredText start dest (getD answers 2 0)) (stopsText start dest (getD answers 1 0) (getD answers 2 0))) ≤ 66
-    go true = length-deliveredText start dest (getD answers 2 0)
-    go false = length-stopsText start dest (getD answers 1 0) (getD answers 2 0)
+    go : (b : Bool) → length (cond b (deliveredText start dest (getD answers 2 0)) (stopsText start dest (getD answers 1 0) (getD answers 2 0))) ≤ 39
+    go true = omega (arith, length-deliveredText start dest (getD answers 2 0) from to)
+    go false = length-stopsText start dest (getD answers 1 0) (getD answers 2 0) from to
+
+-- an accepted report or path names bridges of the network
+report-listed : (s : State) (d : ℕ) → replyOf s (Report d) ≡ 0 → d < s .bench .bridges
+unfolding replyOf refuse checks
+report-listed s d none = bridge-listed _ d _ (refusal-none _ _ (report d) none .1)
+
+path-listed : (s : State) (y d : ℕ) → replyOf s (Path y d) ≡ 0 → (y < s .bench .bridges) × (d < s .bench .bridges)
+unfolding replyOf refuse checks
+path-listed s y d none = bridges-listed _ y d _ (refusal-none _ _ (path y d) none .1)
 
 pub record ShortText (s : State) (e : Event) : Type 0 where
   pub room : length (textOf s e) ≤ 544
-  pub few : length (textOf s e) ≤ 22 * length (answersOf s e)
+  pub few : length (textOf s e) ≤ 15 * length (answersOf s e)
 
--- a text has room among 544 bytes, and 22 for each number that its event answers with
+-- a text has room among 544 bytes, and 15 for each number that its event answers with
 pub text-short : (s : State) (e : Event) → replyOf s e ≡ 0 → ShortText s e
 unfolding eventText answerSize
 text-short s (Update y t) none = record { room = omega arith; few = omega arith }
@@ -53,11 +65,14 @@ text-short s (Lose p) none = record { room = omega arith; few = omega arith }
 text-short s (Cut l) none = record { room = omega arith; few = omega arith }
 text-short s (Restore l) none = record { room = omega arith; few = omega arith }
 text-short s (Report d) none =
-    let short = length-reportText d (s .bench .bridges) (answersOf s (Report d)) in
     let bridges = accepted-bridges s (Report d) none in
+    let listed = report-listed s d none in
+    let short = length-reportText d (s .bench .bridges) (answersOf s (Report d)) (omega (arith, listed, bridges .1)) (omega (arith, bridges .1)) in
     record { room = omega (arith, short, bridges .1); few = omega (arith, short, bridges .0, answers-length s (Report d) none) }
 text-short s (Path y d) none =
-    let short = path-short y d (answersOf s (Path y d)) in
+    let bridges = accepted-bridges s (Path y d) none in
+    let listed = path-listed s y d none in
+    let short = path-short y d (answersOf s (Path y d)) (omega (arith, listed .0, bridges .1)) (omega (arith, listed .1, bridges .1)) in
     record { room = omega (arith, short); few = omega (arith, short, answers-length s (Path y d) none) }
 
 last-short : (number events offset : ℕ) → length (lastText number events offset) ≤ 544

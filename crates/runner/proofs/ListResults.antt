@@ -101,7 +101,7 @@ module _
     (fits : ListFits (done .runner) (length rest - done .used))
     (long : buffersLong (buffers costs sent held messages out) ≡ true)
     (numbers : ℕ)
-    (room : done .written + 22 * numbers + 544 ≤ length out)
+    (room : done .written + 15 * numbers + 544 ≤ length out)
     (first : List ℕ)
     (events : List Event)
     (ends : List ℕ)

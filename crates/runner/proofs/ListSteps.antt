@@ -44,7 +44,7 @@ stateAt t = stateOn (t .runner .bench) (t .buffers)
 pub record Roomy (rest : List ℕ) (more numbers : ℕ) (t : StepOutcome) : Type 0 where
   pub stage : t .runner .stage ≡ 3
   pub going : t .going ≡ true
-  pub room : t .written + 22 * numbers + 544 ≤ length (t .buffers .out)
+  pub room : t .written + 15 * numbers + 544 ≤ length (t .buffers .out)
   pub events : t .runner .events + more ≤ 61440
   pub offset : t .runner .offset + (length rest - t .used) ≤ 61440
   pub used : t .used ≤ length rest

@@ -15,7 +15,7 @@ use Rattle.text.specs.Lines.{refusedText}
 use Rattle.text.specs.Writing.{Put}
 use Rattle.text.proofs.Laws.{length-refusedText}
 use Rattle.text.proofs.Puts.{joined, nothing}
-use Rattle.runner.specs.Events.{eventText, Line, line, lineOf}
+use Rattle.runner.specs.Events.{eventText, NoText, Line, line, lineOf}
 use Rattle.runner.specs.Turns.{StepOutcome, lastText}
 use Rattle.runner.specs.Lists.{textsOf, turned, refusedOn, endedOn, SomeNumber}
 use Rattle.runner.specs.declared.Stepped.{Stepped}
@@ -91,6 +91,22 @@ module _ (bridges written : ℕ) (es : List Event) (answers out₀ : List ℕ) w
           few = omega arith;
           numbers = omega (arith, t .numbers, sizes-ahead);
           room = rw joint (omega (arith, t .room, counted, long-ahead, length-sets out end here));
+        })
+
+    -- an event that has none is passed over
+    pub telling-skip : (width : ℕ) → width ≡ size → NoText e → Telling out end (at + width) (k + 1)
+    telling-skip width same none =
+        let text : here ≡ [] = none bridges (take size (drop at answers)) in
+        let behind : List ℕ = textsOf bridges (drop (suc k) es) (drop (at + size) answers) in
+        let ahead : textsOf bridges (drop k es) (drop at answers) ≡ behind = texts-ahead ∙ ap (λ (l : List ℕ). l ++ behind) text in
+        rw (add-one k, same)
+        (record {
+          text = t .text;
+          put = t .put;
+          whole = t .whole ∙ ap (λ (l : List ℕ). t .text ++ l) ahead;
+          few = omega arith;
+          numbers = omega (arith, t .numbers, sizes-ahead);
+          room = rw (sym ahead) (t .room);
         })
 
     -- as the code lends it, and has it back

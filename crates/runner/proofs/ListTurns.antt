@@ -69,8 +69,8 @@ some-number room s (e ∷ es) = go (some-number (room - length (answersOf s e)) 
     go later b is (refused some) = rw (runs-unmade room s e es b is refl) (above (replyOf s e) some)
     go later b is (made none fits) = rw (runs-made room s e es is) later
 
--- the texts of a list have 22 bytes at most for each number that its events answered with
-pub texts-few : (room : ℕ) (s : State) (es : List Event) → let b : Batch = batchFrom room s es in length (textsOf (s .bench .bridges) (take (b .made) es) (b .answers)) ≤ 22 * length (b .answers)
+-- the texts of a list have 15 bytes at most for each number that its events answered with
+pub texts-few : (room : ℕ) (s : State) (es : List Event) → let b : Batch = batchFrom room s es in length (textsOf (s .bench .bridges) (take (b .made) es) (b .answers)) ≤ 15 * length (b .answers)
 unfolding textsOf
 texts-few room s [] = rw runs-none (omega arith)
 texts-few room s (e ∷ es) = go (texts-few (room - length (answersOf s e)) (stepBy s (callOf e)) es) (eventBatchIn room s e) refl (first-of room s e)
@@ -79,10 +79,10 @@ texts-few room s (e ∷ es) = go (texts-few (room - length (answersOf s e)) (ste
     then = following room s e es
 
     go :
-        length (textsOf (stepBy s (callOf e) .bench .bridges) (take (then .made) es) (then .answers)) ≤ 22 * length (then .answers) →
+        length (textsOf (stepBy s (callOf e) .bench .bridges) (take (then .made) es) (then .answers)) ≤ 15 * length (then .answers) →
         (b : Batch) → eventBatchIn room s e ≡ b → First room s e b →
         let r : Batch = batchFrom room s (e ∷ es) in
-        length (textsOf (s .bench .bridges) (take (r .made) (e ∷ es)) (r .answers)) ≤ 22 * length (r .answers)
+        length (textsOf (s .bench .bridges) (take (r .made) (e ∷ es)) (r .answers)) ≤ 15 * length (r .answers)
     go later b is (full few) = rw (runs-unmade room s e es b is refl) (omega arith)
     go later b is (refused some) = rw (runs-unmade room s e es b is refl) (omega arith)
     go later b is (made none fits) =
@@ -90,8 +90,8 @@ texts-few room s (e ∷ es) = go (texts-few (room - length (answersOf s e)) (ste
         let long = answers-length s e none in
         let kept = step-kept s (callOf e) in
         let short = text-short s e none in
-        let behind : length (textsOf (s .bench .bridges) (take (then .made) es) (then .answers)) ≤ 22 * length (then .answers) =
-        subst (λ (n : ℕ). length (textsOf n (take (then .made) es) (then .answers)) ≤ 22 * length (then .answers)) (kept .bridges) later in
+        let behind : length (textsOf (s .bench .bridges) (take (then .made) es) (then .answers)) ≤ 15 * length (then .answers) =
+        subst (λ (n : ℕ). length (textsOf n (take (then .made) es) (then .answers)) ≤ 15 * length (then .answers)) (kept .bridges) later in
         rw (runs-made room s e es is, take-at answers (then .answers) _ long, drop-at answers (then .answers) _ long)
         (omega (
           arith,

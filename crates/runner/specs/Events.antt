@@ -1,5 +1,6 @@
 -- What an event prints (document 01, "Events" and "Plan file"). Assumes nothing.
 use Prim.Native.Nat.{ℕ}
+use mathlib.Core.Path.{_≡_}
 use mathlib.Core.Bool.{cond}
 use mathlib.Core.List.{List, []}
 use lib.ListN.{length, getD}
@@ -29,6 +30,10 @@ eventText bridges (Cut l) answers = []
 eventText bridges (Restore l) answers = []
 eventText bridges (Report d) answers = reportText d bridges answers
 eventText bridges (Path y d) answers = pathText y d answers
+
+-- an event has no text, whatever it answers with
+abbrev pub NoText : Event → Type 0
+NoText e = (bridges : ℕ) (answers : List ℕ) → eventText bridges e answers ≡ []
 
 abbrev pub textOf : State → Event → List ℕ
 textOf s e = eventText (s .bench .bridges) e (answersOf s e)

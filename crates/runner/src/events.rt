@@ -2,10 +2,11 @@
 use crate::stops::count_of;
 use bench::Event;
 ghost use mathlib.Core.Path.{_≡_};
+ghost use mathlib.Core.Bool.{false};
 ghost use Prim.Native.Nat.{_≤_};
 ghost use lib.ListN.{length};
 ghost use Rattle.bench.specs.Batches.{answerSize};
-ghost use Rattle.runner.specs.Events.{pathText, eventText, line, lineOf};
+ghost use Rattle.runner.specs.Events.{pathText, eventText, NoText, line, lineOf};
 
 fn path_text(out: &mut [u8], start: u8, dest: u8, answers: &[u32]) -> usize
     requires { ⌜ (3 ≤ length (now answers)) × (544 ≤ length (now out)) ⌝ }
@@ -18,6 +19,23 @@ fn path_text(out: &mut [u8], start: u8, dest: u8, answers: &[u32]) -> usize
         return count_of(text::lines::path_delivered(out, from, to, hops));
     }
     count_of(text::lines::path_stops(out, from, to, answers[1], hops))
+}
+
+// Whether an event has a text; false only where it has none.
+pub(crate) fn has_text(event: Event) -> bool
+    ensures { λ b. ⌜ (b ≡ false → NoText event) ⌝ }
+{
+    match event {
+        Event::Report(_) => true,
+        Event::Path(_, _) => true,
+        Event::Update(_, _) => false,
+        Event::Send(_, _) => false,
+        Event::Deliver(_) => false,
+        Event::Repeat(_) => false,
+        Event::Lose(_) => false,
+        Event::Cut(_) => false,
+        Event::Restore(_) => false,
+    }
 }
 
 // The line of an event that was carried out, by the numbers that it answered with.

@@ -82,10 +82,10 @@ fn steps_listed(
     let messages = done.messages;
     let bench = r.bench;
     let room = answer_room(out.len() - done.written);
-    let mut ends = [0usize; EVENT_ENDS];
+    let mut ends = [0u16; EVENT_ENDS];
     let progress = plan::events::list_progress(bench);
     let events = plan::events::read_events(&rest[used..], progress, room, &mut ends);
-    let count = ends[0];
+    let count = ends[0] as usize;
     if count == 0 {
         return step_on(done, rest, costs, sent, held, out);
     }

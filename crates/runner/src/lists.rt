@@ -2,6 +2,7 @@
 use crate::Runner;
 use crate::Stepped;
 use crate::events::event_text;
+use crate::events::has_text;
 use crate::sizes::ANSWERS;
 use crate::sizes::BYTES_FOR_A_NUMBER;
 use crate::sizes::LONGEST_PLAN;
@@ -41,10 +42,10 @@ pub(crate) fn list_fits(r: Runner, left: usize) -> bool
     )
 }
 
-// So many numbers that what their events print has room, 22 bytes for each, and the longest text behind it.
+// So many numbers that what their events print has room, 15 bytes for each, and the longest text behind it.
 pub(crate) fn answer_room(bytes: usize) -> usize
     requires { ⌜ 544 ≤ bytes ⌝ }
-    ensures { λ n. ⌜ (n ≤ 6144) × (22 * n + 544 ≤ bytes) ⌝ }
+    ensures { λ n. ⌜ (n ≤ 2048) × (15 * n + 544 ≤ bytes) ⌝ }
 {
     let numbers = (bytes - LONGEST) / BYTES_FOR_A_NUMBER;
     if ANSWERS < numbers {
@@ -72,7 +73,9 @@ fn put_texts(
     while k < made {
         let event = events[k];
         let past = at + bench::batches::answer_size(bridges as u8, event);
-        end += event_text(bridges, event, &answers[at..past], &mut out[end..]);
+        if has_text(event) {
+            end += event_text(bridges, event, &answers[at..past], &mut out[end..]);
+        }
         at = past;
         k += 1;
     }
@@ -142,7 +145,7 @@ pub(crate) fn listed_on(
     done: Stepped,
     listed: RanMessages,
     events: [Event; MOST_EVENTS],
-    ends: &[usize],
+    ends: &[u16],
     answers: &[u32],
     out: &mut [u8],
 ) -> Stepped

@@ -9,9 +9,9 @@ pub(crate) const MOST_COUNTED: u32 = 61440;
 pub(crate) const MOST_BEFORE_A_LIST: u32 = 59392;
 
 // The answers of one list, and the most bytes that are printed for one of their numbers.
-pub(crate) const ANSWERS: usize = 6144;
+pub(crate) const ANSWERS: usize = 2048;
 
-pub(crate) const BYTES_FOR_A_NUMBER: usize = 22;
+pub(crate) const BYTES_FOR_A_NUMBER: usize = 15;
 
 // Where each event of a list ends, behind how many there are.
 pub(crate) const EVENT_ENDS: usize = 2049;

@@ -1,4 +1,4 @@
--- Laws of the texts: decimal digits evaluate to the number and have no leading zero, and every text fits in 544 bytes.
+-- Laws of the texts: decimal digits evaluate to the number and have no leading zero, and how long each text can be.
 -- Assumes nothing.
 use Prim.Native.Nat.{ℕ, zero, suc, _+_, _-_, _*_, _/_, _%_, _^_, _≤_, _<_}
 use native.Mathlib.Nat.{pow-suc}
@@ -65,6 +65,14 @@ length-digits (suc k) n =
     (λ h. omega arith)
     (λ h. simp length-append (omega (arith, length-digits k (n / 10))))
 
+-- a number below 100 has at most two digits
+pub length-two : (n : ℕ) → n < 100 → length (decimal n) ≤ 2
+length-two n low = go (ltb n 10) refl
+  where
+    go : (b : Bool) → ltb n 10 ≡ b → length (decimal n) ≤ 2
+    go true e = rw (digits-one 9 n (ltb-true n 10 e)) (omega arith)
+    go false e = rw (digits-two 9 n (omega arith) (ltb-false n 10 e) low) (omega arith)
+
 -- each byte is one of `0` to `9`
 abbrev pub IsDigit : ℕ → Type 0
 IsDigit b = (48 ≤ b) × (b ≤ 57)
@@ -125,29 +133,29 @@ length-orDash n = go (eqb n 4294967295)
     go true = omega arith
     go false = omega (arith, length-digits 9 n)
 
--- the lengths of the texts
-pub length-rowLine : (bridge distance link : ℕ) → length (rowLine bridge distance link) ≤ 33
+-- the lengths of the texts; a bridge below 100 has two digits at most
+pub length-rowLine : (bridge distance link : ℕ) → bridge < 100 → length (rowLine bridge distance link) ≤ 25
 unfolding rowLine
-length-rowLine bridge distance link = simp length-append (omega (arith, length-digits 9 bridge, length-orDash distance, length-orDash link))
+length-rowLine bridge distance link low = simp length-append (omega (arith, length-two bridge low, length-orDash distance, length-orDash link))
 
-pub length-rowLines : (rows : List ℕ) (k : ℕ) → length (rowLines rows k) ≤ 33 * k
+pub length-rowLines : (rows : List ℕ) (k : ℕ) → k ≤ 100 → length (rowLines rows k) ≤ 25 * k
 unfolding rowLines
-length-rowLines rows zero = omega arith
-length-rowLines rows (suc y) =
-    simp length-append (omega (arith, length-rowLines rows y, length-rowLine y (getD rows (2 * y) 0) (getD rows (2 * y + 1) 0)))
+length-rowLines rows zero few = omega arith
+length-rowLines rows (suc y) few =
+    simp length-append (omega (arith, length-rowLines rows y (omega arith), length-rowLine y (getD rows (2 * y) 0) (getD rows (2 * y + 1) 0) (omega arith)))
 
-pub length-reportText : (dest bridges : ℕ) (rows : List ℕ) → length (reportText dest bridges rows) ≤ 16 + 33 * bridges
+pub length-reportText : (dest bridges : ℕ) (rows : List ℕ) → dest < 100 → bridges ≤ 100 → length (reportText dest bridges rows) ≤ 8 + 25 * bridges
 unfolding reportText
-length-reportText dest bridges rows = simp length-append (omega (arith, length-digits 9 dest, length-rowLines rows bridges))
+length-reportText dest bridges rows low few = simp length-append (omega (arith, length-two dest low, length-rowLines rows bridges few))
 
-pub length-deliveredText : (start dest hops : ℕ) → length (deliveredText start dest hops) ≤ 66
+pub length-deliveredText : (start dest hops : ℕ) → start < 100 → dest < 100 → length (deliveredText start dest hops) ≤ 32
 unfolding deliveredText
-length-deliveredText start dest hops = simp length-append (omega (arith, length-digits 9 start, length-digits 9 dest, length-digits 9 hops))
+length-deliveredText start dest hops from to = simp length-append (omega (arith, length-two start from, length-two dest to, length-digits 9 hops))
 
-pub length-stopsText : (start dest last hops : ℕ) → length (stopsText start dest last hops) ≤ 66
+pub length-stopsText : (start dest last hops : ℕ) → start < 100 → dest < 100 → length (stopsText start dest last hops) ≤ 39
 unfolding stopsText
-length-stopsText start dest last hops =
-    simp length-append (omega (arith, length-digits 9 start, length-digits 9 dest, length-digits 9 last, length-digits 9 hops))
+length-stopsText start dest last hops from to =
+    simp length-append (omega (arith, length-two start from, length-two dest to, length-digits 9 last, length-digits 9 hops))
 
 pub length-endText : (events : ℕ) → length (endText events) ≤ 544
 unfolding endText

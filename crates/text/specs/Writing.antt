@@ -8,7 +8,7 @@ use lib.Seq.{sets}
 use lib.Dec.{leb}
 use Rattle.text.specs.declared.Written.{Written}
 
--- every text has room in so many bytes
+-- every text has room in so many bytes: 16, and 33 for each of 16 bridges, with ten digits for every number
 abbrev pub longestText : ℕ
 longestText = 544
 

@@ -11,8 +11,8 @@ use Rattle.play.proofs.print.Statement.{statement}
 use Rattle.play.proofs.print.Tie as tie
 
 -- the bytes that are lent
-room : 544 ≤ length (replicate {A = ℕ} 131072 0)
-room = omega (arith, length-replicate {A = ℕ} 131072 0)
+room : 544 ≤ length (replicate {A = ℕ} 49152 0)
+room = omega (arith, length-replicate {A = ℕ} 49152 0)
 
 slice-aggregate-too-long : tie.Need-slice-aggregate-too-long
 slice-aggregate-too-long c = search needs

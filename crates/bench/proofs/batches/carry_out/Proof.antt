@@ -75,14 +75,8 @@ update-result-requires c κs = tt
 enum-known-event-2 : tie.Need-enum-known-event-2
 enum-known-event-2 c = c .match .keys2
 
-cast-send-ready : tie.Need-cast-send-ready
-cast-send-ready c = byte-fits (c .before .known-told2 .given .0 .1)
-
-cast-send-ready-2 : tie.Need-cast-send-ready-2
-cast-send-ready-2 c = byte-fits (c .before .known-told2 .given .1 .0 .1)
-
 send-ready-requires : tie.Need-send-ready-requires
-send-ready-requires c κs = flight-of (Given (c .before .before .before .before .before .before .before .before .before .before .before .before .before .before .before)) (c .before .before .before .before .before .before .before .before .before .before .before .before .before .before .before .pre .0)
+send-ready-requires c κs = (flight-of (Given (c .before .before .before .before .before .before .before .before .before .before .before .before .before .before .before)) (c .before .before .before .before .before .before .before .before .before .before .before .before .before .before .before .pre .0), rw (c .before .before .event2 .given .1) at (c .before .before .before .before .before .before .before .before .before .before .before .before .before .before .before .pre .1 .3))
 
 queue-result-requires : tie.Need-queue-result-requires
 queue-result-requires c κs = tt
@@ -94,7 +88,7 @@ cast-p : tie.Need-cast-p
 cast-p c = byte-fits (c .known-told3 .given .0 .1)
 
 deliver-ready-requires : tie.Need-deliver-ready-requires
-deliver-ready-requires c κs = (c .before .before .before .before .before .before .before .before .before .before .before .before .before .before .before .before .before .before .before .pre .0, c .before .before .before .before .before .before .before .before .before .before .before .before .before .before .before .before .before .before .before .pre .1 .1)
+deliver-ready-requires c κs = (c .before .before .before .before .before .before .before .before .before .before .before .before .before .before .before .before .before .before .before .pre .0, (c .before .before .before .before .before .before .before .before .before .before .before .before .before .before .before .before .before .before .before .pre .1 .1, rw (c .before .before .before .before .before .before .event3 .given .1) at (c .before .before .before .before .before .before .before .before .before .before .before .before .before .before .before .before .before .before .before .pre .1 .3)))
 
 taken-count-requires : tie.Need-taken-count-requires
 taken-count-requires c κs = tt
@@ -110,7 +104,7 @@ cast-p-2 : tie.Need-cast-p-2
 cast-p-2 c = byte-fits (c .known-told4 .given .0 .1)
 
 repeat-ready-requires : tie.Need-repeat-ready-requires
-repeat-ready-requires c κs = (c .before .before .before .before .before .before .before .before .before .before .before .before .before .before .before .before .before .before .before .pre .0, c .before .before .before .before .before .before .before .before .before .before .before .before .before .before .before .before .before .before .before .pre .1 .1)
+repeat-ready-requires c κs = (c .before .before .before .before .before .before .before .before .before .before .before .before .before .before .before .before .before .before .before .pre .0, (c .before .before .before .before .before .before .before .before .before .before .before .before .before .before .before .before .before .before .before .pre .1 .1, rw (c .before .before .before .before .before .before .event4 .given .1) at (c .before .before .before .before .before .before .before .before .before .before .before .before .before .before .before .before .before .before .before .pre .1 .3)))
 
 answer-delivery-requires-2 : tie.Need-answer-delivery-requires-2
 unfolding answerSize
@@ -160,7 +154,7 @@ enum-known-event-9 : tie.Need-enum-known-event-9
 enum-known-event-9 c = c .match .keys9
 
 cast-y-2 : tie.Need-cast-y-2
-cast-y-2 c = byte-fits (c .known-told9 .given .0 .1)
+cast-y-2 c = byte-fits (c .known-told2 .given .0 .1)
 
 cast-d-2 : tie.Need-cast-d-2
 cast-d-2 c = byte-fits (c .known-told9 .given .1 .0 .1)
@@ -185,7 +179,7 @@ returns-2 c = (
 )
 
 same-length-3 : tie.Need-same-length-3
-same-length-3 c = c .before .before .before .send-ready .kept .1 .0
+same-length-3 c = c .before .before .before .send-ready .kept .1 .1 .0
 
 returns-3 : tie.Need-returns-3
 returns-3 c = (
@@ -194,19 +188,19 @@ returns-3 c = (
 )
 
 same-length-4 : tie.Need-same-length-4
-same-length-4 c = c .before .before .before .before .before .before .before .before .before .before .before .before .before .before .before .deliver-ready .kept .1 .1 .0
+same-length-4 c = c .before .before .before .before .before .before .before .before .before .before .before .before .before .before .before .deliver-ready .kept .1 .1 .1 .0
 
 same-length-5 : tie.Need-same-length-5
-same-length-5 c = c .before .before .before .before .before .before .before .before .before .before .before .before .before .before .before .deliver-ready .kept .1 .1 .1 .0
+same-length-5 c = c .before .before .before .before .before .before .before .before .before .before .before .before .before .before .before .deliver-ready .kept .1 .1 .1 .1 .0
 
 same-length-6 : tie.Need-same-length-6
-same-length-6 c = c .before .before .before .before .before .before .before .before .before .before .before .before .before .before .before .deliver-ready .kept .1 .1 .1 .1 .0
+same-length-6 c = c .before .before .before .before .before .before .before .before .before .before .before .before .before .before .before .deliver-ready .kept .1 .1 .1 .1 .1 .0
 
 same-length-7 : tie.Need-same-length-7
-same-length-7 c = c .before .before .before .before .before .before .before .before .before .before .before .before .before .before .before .deliver-ready .kept .1 .1 .1 .1 .1 .0
+same-length-7 c = c .before .before .before .before .before .before .before .before .before .before .before .before .before .before .before .deliver-ready .kept .1 .1 .1 .1 .1 .1 .0
 
 same-length-8 : tie.Need-same-length-8
-same-length-8 c = c .before .before .before .before .before .before .before .before .before .before .before .before .before .before .before .deliver-ready .kept .1 .1 .1 .1 .1 .1 .0
+same-length-8 c = c .before .before .before .before .before .before .before .before .before .before .before .before .before .before .before .deliver-ready .kept .1 .1 .1 .1 .1 .1 .1 .0
 
 same-length-9 : tie.Need-same-length-9
 same-length-9 c = c .before .before .answer-delivery .kept .1 .1 .0
@@ -220,16 +214,16 @@ returns-4 c = let room : 3 ≤ length (c .before .before .before .before .before
     )
 
 same-length-10 : tie.Need-same-length-10
-same-length-10 c = c .before .before .before .before .before .before .before .before .before .before .before .before .repeat-ready .kept .1 .1 .0
+same-length-10 c = c .before .before .before .before .before .before .before .before .before .before .before .before .repeat-ready .kept .1 .1 .1 .0
 
 same-length-11 : tie.Need-same-length-11
-same-length-11 c = c .before .before .before .before .before .before .before .before .before .before .before .before .repeat-ready .kept .1 .1 .1 .0
+same-length-11 c = c .before .before .before .before .before .before .before .before .before .before .before .before .repeat-ready .kept .1 .1 .1 .1 .0
 
 same-length-12 : tie.Need-same-length-12
-same-length-12 c = c .before .before .before .before .before .before .before .before .before .before .before .before .repeat-ready .kept .1 .1 .1 .1 .0
+same-length-12 c = c .before .before .before .before .before .before .before .before .before .before .before .before .repeat-ready .kept .1 .1 .1 .1 .1 .0
 
 same-length-13 : tie.Need-same-length-13
-same-length-13 c = c .before .before .before .before .before .before .before .before .before .before .before .before .repeat-ready .kept .1 .1 .1 .1 .1 .0
+same-length-13 c = c .before .before .before .before .before .before .before .before .before .before .before .before .repeat-ready .kept .1 .1 .1 .1 .1 .1 .0
 
 same-length-14 : tie.Need-same-length-14
 same-length-14 c = refl
@@ -309,6 +303,12 @@ returns-10 c = let room : 3 ≤ length (c .before .before .before .before .befor
   (quiet-told (waySays (c .before .before .before .before .before .before .before .before .path-ready .result) .number) 3 (c .before .before .before .before .before .before .before .before .before .before .before .before .before .before .before .before .before .before .before .before .before .before .before .before .before .before .before .args .bench) _ (c .before .before .answer-path .ensures .0), c .before .before .before .before .before .before .before .before .path-ready .ensures .1),
 )
 
+cast-l : tie.Need-cast-l
+cast-l c = byte-fits (c .known-told2 .given .1 .0 .1)
+
+cast-y-3 : tie.Need-cast-y-3
+cast-y-3 c = byte-fits (c .known-told9 .given .0 .1)
+
 pub carry-out-spec : {M : Type 1} → statement M
 carry-out-spec =
     tie.close
@@ -322,8 +322,8 @@ carry-out-spec =
     update-ready-requires
     update-result-requires
     enum-known-event-2
-    cast-send-ready
-    cast-send-ready-2
+    cast-y-2
+    cast-l
     send-ready-requires
     queue-result-requires
     enum-known-event-3
@@ -349,7 +349,7 @@ carry-out-spec =
     cast-d
     answer-report-requires
     enum-known-event-9
-    cast-y-2
+    cast-y-3
     cast-d-2
     path-ready-requires
     answer-path-requires

@@ -5,7 +5,7 @@ use mathlib.Core.Path.{_≡_, refl, sym, ap, _∙_}
 use mathlib.Core.Bool.{Bool, true, false, _&&_}
 use mathlib.Core.List.{List, _++_}
 use borrow.Author.Tests.{ltb-true, ltb-false}
-use lib.ListN.{length, take}
+use lib.ListN.{length, take, length-set}
 use lib.Seq.{length-take-le, getD-take}
 use lib.Dec.{ltb, eqb}
 use Rattle.distances.proofs.Booleans.{both-true}
@@ -17,7 +17,11 @@ use Rattle.bench.specs.Chains.{Chained}
 use Rattle.bench.specs.Effects.{stateOf, appliedTo}
 use Rattle.bench.specs.Steps.{Tables}
 use Rattle.bench.specs.declared.Bench.{Bench}
+use Rattle.agreement.specs.Record.{freshRecord}
+use Rattle.agreement.proofs.Basics.{getD-default}
+use Rattle.bench.proofs.ArrivalSteps.{arrival-told}
 use Rattle.bench.proofs.BatchTurns.{Underway, left, begins, turned, stands, ended, shrinks, behind-all, none-behind}
+use Rattle.bench.proofs.CallLengths.{records-long}
 use Rattle.bench.proofs.ChainSteps.{ends-told}
 use Rattle.bench.proofs.ChainLaws.{chained-same}
 use Rattle.bench.proofs.ChoiceReads.{record-fits}
@@ -34,7 +38,7 @@ use Rattle.bench.proofs.batches.run_in_range.Statement.{statement}
 use Rattle.bench.proofs.batches.run_in_range.Tie as tie
 
 abbrev Inv-loop : tie.InvT-loop
-Inv-loop costs sent₀ held₀ flight₀ count answers₀ events tables₀ known₀ chain current₀ how₀ made₀ answered₀ going₀ sent held flight answers tables known current how made answered going =
+Inv-loop costs sent₀ held₀ flight₀ count answers₀ events tables₀ known₀ places chain current₀ how₀ made₀ answered₀ going₀ sent held flight answers tables known current how made answered going =
     Underway (batchFrom (length answers₀) (state current₀ costs sent₀ held₀ flight₀) (take count events)) (take count events) answers₀
     (state current costs sent held flight) made answered answers going how
     × (deliveryReady (state current costs sent held flight) ≡ true)
@@ -43,9 +47,11 @@ Inv-loop costs sent₀ held₀ flight₀ count answers₀ events tables₀ known
     × (length held ≡ length held₀)
     × (length flight ≡ length flight₀)
     × Chained (current .links) (current .ends) chain
+    × (current .ends ≡ places)
+    × (length (current .records) ≡ 64)
 
 abbrev μ-loop : tie.MeasureT-loop
-μ-loop costs sent₀ held₀ flight₀ count answers₀ events tables₀ known₀ chain current₀ how₀ made₀ answered₀ going₀ sent held flight answers tables known current how made answered going =
+μ-loop costs sent₀ held₀ flight₀ count answers₀ events tables₀ known₀ places chain current₀ how₀ made₀ answered₀ going₀ sent held flight answers tables known current how made answered going =
     left count made going
 
 -- a start of the loop
@@ -99,28 +105,32 @@ going t =
 
 -- the state before the event's effect is stored
 abbrev Then : (t : tie.After-carry-out Inv-loop μ-loop) → State
-Then t = At (t .before .before .before .before .before .before .before .before .before .before .before .before .before .before .before .before .before .before .before .before) (t .before .before .before .before .before .before .before .before .before .before .before .loop .current) (t .carry-out .last .1 .1 .1 .1 .1 .0) (t .carry-out .last .1 .1 .1 .1 .1 .1 .0) (t .carry-out .last .1 .1 .1 .1 .1 .1 .1 .0)
+Then t = At (t .before .before .before .before .before .before .before .before .before .before .before .before .before .before .before .before .before .before .before .before .before .before .before .before) (t .before .before .before .before .before .before .before .before .before .before .before .before .before .before .before .loop .current) (t .carry-out .last .1 .1 .1 .1 .1 .1 .0) (t .carry-out .last .1 .1 .1 .1 .1 .1 .1 .0) (t .carry-out .last .1 .1 .1 .1 .1 .1 .1 .1 .0)
 
 -- what it leaves
 turn : (t : tie.After-carry-out Inv-loop μ-loop) →
-    let s : Begun = t .before .before .before .before .before .before .before .before .before .before .before .before .before .before .before .before .before .before .before .before in
+    let s : Begun = (t .before .before .before .before .before .before .before .before .before .before .before .before .before .before .before .before .before .before .before .before .before .before .before .before) in
     Underway (Whole s) (listed s) (s .args .answers .now)
     (appliedTo (t .carry-out .result .effect) (Then t))
-    (t .before .before .before .before .before .before .before .before .before .before .before .loop .made + t .carry-out .result .made)
-    (t .before .before .before .before .before .before .before .before .before .before .before .loop .answered + t .carry-out .result .answered)
-    (take (t .before .before .before .before .before .before .before .before .before .before .before .loop .answered) (t .before .before .before .before .before .before .before .before .before .before .before .loop .answers) ++ t .carry-out .last .1 .1 .1 .1 .1 .1 .1 .1 .1 .0)
+    (t .before .before .before .before .before .before .before .before .before .before .before .before .before .before .before .loop .made + t .carry-out .result .made)
+    (t .before .before .before .before .before .before .before .before .before .before .before .before .before .before .before .loop .answered + t .carry-out .result .answered)
+    (take (t .before .before .before .before .before .before .before .before .before .before .before .before .before .before .before .loop .answered) (t .before .before .before .before .before .before .before .before .before .before .before .before .before .before .before .loop .answers) ++ t .carry-out .last .1 .1 .1 .1 .1 .1 .1 .1 .1 .1 .0)
     (eqb (t .carry-out .result .made) 1)
     (t .carry-out .result .disposition)
 turn t =
-    let s : Begun = t .before .before .before .before .before .before .before .before .before .before .before .before .before .before .before .before .before .before .before .before in
-    let l = t .before .before .before .before .before .before .before .before .before .before .before .loop in
-    let go = going (t .before .before .before .before .before .before .before .before .before) in
+    let s : Begun = (t .before .before .before .before .before .before .before .before .before .before .before .before .before .before .before .before .before .before .before .before .before .before .before .before) in
+    let l = t .before .before .before .before .before .before .before .before .before .before .before .before .before .before .before .loop in
+    let go = going (t .before .before .before .before .before .before .before .before .before .before .before .before .before) in
     turned (Whole s) (listed s) (s .args .answers .now) (At s (l .current) (l .sent) (l .held) (l .flight)) (l .made) (l .answered) (l .answers) (l .how) (rw (go .0) at (l .inv .0)) _ _
-    (sym (getD-take (s .args .count) (s .args .t6) (l .made) _ (go .1))) (rw (counted s) (go .1)) _ _ (behind-all (l .answers) (l .answered)) (t .carry-out .kept .1 .1 .1 .1 .1 .1 .1 .1 .1 .0)
+    (sym (getD-take (s .args .count) (s .args .t6) (l .made) _ (go .1))) (rw (counted s) (go .1)) _ _ (behind-all (l .answers) (l .answered)) (t .carry-out .kept .1 .1 .1 .1 .1 .1 .1 .1 .1 .1 .0)
     (t .carry-out .ensures .0)
 
+-- as many records as the type says
+recorded : (s : Begun) → length (s .args .bench .records) ≡ 64
+recorded s = search (needs, length-mapped)
+
 loop-holds : tie.Need-loop-holds Inv-loop μ-loop
-loop-holds c = (begins _ _ _, c .before .before .before .before .before .before .before .before .pre .0, tables-none (c .before .before .before .before .before .before .before .before .args .bench) _, refl, refl, refl, c .end-chains .ensures)
+loop-holds c = (begins _ _ _, c .before .before .before .before .before .before .before .before .pre .0, tables-none (c .before .before .before .before .before .before .before .before .args .bench) _, refl, refl, refl, c .end-chains .ensures, refl, recorded (c .before .before .before .before .before .before .before .before))
 
 both-requires : tie.Need-both-requires Inv-loop μ-loop
 both-requires c κs = tt
@@ -132,114 +142,124 @@ array-copy-out-event : tie.Need-array-copy-out-event Inv-loop μ-loop
 array-copy-out-event c = lt-of-lt-of-le (going c .1) (c .before .before .before .before .before .before .before .before .before .before .before .pre .1)
 
 slice-aggregate-carry-out : tie.Need-slice-aggregate-carry-out Inv-loop μ-loop
-slice-aggregate-carry-out c = sym (c .before .before .before .before .loop .inv .2 .long)
+slice-aggregate-carry-out c = sym (c .before .before .before .before .before .before .before .before .loop .inv .2 .long)
 
 slice-aggregate-carry-out-2 : tie.Need-slice-aggregate-carry-out-2 Inv-loop μ-loop
-slice-aggregate-carry-out-2 c = sym (c .before .before .before .before .before .loop .inv .2 .flags)
+slice-aggregate-carry-out-2 c = sym (c .before .before .before .before .before .before .before .before .before .loop .inv .2 .flags)
 
 mul-carry-out : tie.Need-mul-carry-out Inv-loop μ-loop
-mul-carry-out c = answers-scaled (c .before .before .before .before .before .before .before .before .before .before .before .before .before .before .before .before .before .before) (c .before .before .before .before .before .before .before .before .before .loop .inv .0 .within)
+mul-carry-out c = answers-scaled (c .before .before .before .before .before .before .before .before .before .before .before .before .before .before .before .before .before .before .before .before .before .before) (c .before .before .before .before .before .before .before .before .before .before .before .before .before .loop .inv .0 .within)
 
 sub-carry-out : tie.Need-sub-carry-out Inv-loop μ-loop
-sub-carry-out c = rw (c .before .before .before .before .before .before .before .before .before .loop .inv .0 .long) (c .before .before .before .before .before .before .before .before .before .loop .inv .0 .within)
+sub-carry-out c = rw (c .before .before .before .before .before .before .before .before .before .before .before .before .before .loop .inv .0 .long) (c .before .before .before .before .before .before .before .before .before .before .before .before .before .loop .inv .0 .within)
 
 part-carry-out-start : tie.Need-part-carry-out-start Inv-loop μ-loop
-part-carry-out-start c = rw (c .before .before .before .before .before .before .before .before .before .loop .inv .0 .long) (c .before .before .before .before .before .before .before .before .before .loop .inv .0 .within)
+part-carry-out-start c = rw (c .before .before .before .before .before .before .before .before .before .before .before .before .before .loop .inv .0 .long) (c .before .before .before .before .before .before .before .before .before .before .before .before .before .loop .inv .0 .within)
 
 part-carry-out-end : tie.Need-part-carry-out-end Inv-loop μ-loop
 part-carry-out-end c = le-refl _
 
 carry-out-requires : tie.Need-carry-out-requires Inv-loop μ-loop
 carry-out-requires c κs =
-    let now = At (c .before .before .before .before .before .before .before .before .before .before .before .before .before .before .before .before .before .before .before) (c .before .before .before .before .before .before .before .before .before .before .loop .current) (c .before .before .before .before .before .before .before .before .before .before .loop .sent) (c .before .before .before .before .before .before .before .before .before .before .loop .held) (c .before .before .before .before .before .before .before .before .before .before .loop .flight) in
-    (c .before .before .before .before .before .before .before .before .before .before .loop .inv .1, (few (c .before .before .before .before .before .before .before .before .before .before .loop .current) (c .before .before .before .before .before .before .before .before .before .before .before .before .before .before .before .before .before .before .before .args .costs .now) (told now (c .before .before .before .before .before .before .before .before .before .before .loop .inv .1) .lasting) .0, c .before .before .before .before .before .before .before .before .before .before .loop .inv .2, c .before .before .before .before .before .before .before .before .before .before .loop .inv .6))
+    let now = At (c .before .before .before .before .before .before .before .before .before .before .before .before .before .before .before .before .before .before .before .before .before .before .before) (c .before .before .before .before .before .before .before .before .before .before .before .before .before .before .loop .current) (c .before .before .before .before .before .before .before .before .before .before .before .before .before .before .loop .sent) (c .before .before .before .before .before .before .before .before .before .before .before .before .before .before .loop .held) (c .before .before .before .before .before .before .before .before .before .before .before .before .before .before .loop .flight) in
+    (c .before .before .before .before .before .before .before .before .before .before .before .before .before .before .loop .inv .1, (few (c .before .before .before .before .before .before .before .before .before .before .before .before .before .before .loop .current) (c .before .before .before .before .before .before .before .before .before .before .before .before .before .before .before .before .before .before .before .before .before .before .before .args .costs .now) (told now (c .before .before .before .before .before .before .before .before .before .before .before .before .before .before .loop .inv .1) .lasting) .0, c .before .before .before .before .before .before .before .before .before .before .before .before .before .before .loop .inv .2, c .before .before .before .before .before .before .before .before .before .before .before .before .before .before .loop .inv .6, c .before .before .before .before .before .before .before .before .event-end .ensures .1 (c .before .before .before .before .before .before .before .before .before .before .before .before .before .before .loop .current) refl refl (c .before .before .before .before .before .before .before .before .before .before .before .before .before .before .loop .inv .7) _ (getD-default (c .before .before .before .before .before .before .before .before .before .before .before .before .before .before .loop .current .records) (c .before .before .before .before .before .before .before .before .event-end .result) _ freshRecord (rw (c .before .before .before .before .before .before .before .before .before .before .before .before .before .before .loop .inv .8) (c .before .before .before .before .before .before .before .before .event-end .ensures .0)))))
 
 add-answered : tie.Need-add-answered Inv-loop μ-loop
-add-answered c = answers-fit (c .before .before .before .before .before .before .before .before .before .before .before .before .before .before .before .before .before .before .before .before .before .before .before .before .before .before .before .before .before .before .before) (turn (c .before .before .before .before .before .before .before .before .before .before .before) .within)
+add-answered c = answers-fit (c .before .before .before .before .before .before .before .before .before .before .before .before .before .before .before .before .before .before .before .before .before .before .before .before .before .before .before .before .before .before .before .before .before .before .before) (turn (c .before .before .before .before .before .before .before .before .before .before .before) .within)
 
 add-made : tie.Need-add-made Inv-loop μ-loop
-add-made c = made-fits (turn (c .before .before .before .before .before .before .before .before .before .before .before .before) .few) (rw (counted (c .before .before .before .before .before .before .before .before .before .before .before .before .before .before .before .before .before .before .before .before .before .before .before .before .before .before .before .before .before .before .before .before)) (c .before .before .before .before .before .before .before .before .before .before .before .before .before .before .before .before .before .before .before .before .before .before .before .before .before .before .before .before .before .before .before .before .pre .1))
+add-made c = made-fits (turn (c .before .before .before .before .before .before .before .before .before .before .before .before) .few) (rw (counted (c .before .before .before .before .before .before .before .before .before .before .before .before .before .before .before .before .before .before .before .before .before .before .before .before .before .before .before .before .before .before .before .before .before .before .before .before)) (c .before .before .before .before .before .before .before .before .before .before .before .before .before .before .before .before .before .before .before .before .before .before .before .before .before .before .before .before .before .before .before .before .before .before .before .before .pre .1))
 
 loop-less : tie.Need-loop-less Inv-loop μ-loop
-loop-less c = rw (going (c .before .before .before .before .before .before .before .before .before .before .before .before .before .before .before .before .before .before .before .before .before .before .before .before) .0) (shrinks (c .before .before .before .before .before .before .before .before .before .before .before .before .before .before .before .before .before .before .before .before .before .before .before .before .before .before .before .before .before .before .before .before .before .before .before .args .count) (c .before .before .before .before .before .before .before .before .before .before .before .before .before .before .before .before .before .before .before .before .before .before .before .before .before .before .loop .made) (c .before .before .before .before .before .before .before .before .before .before .before .before .before .before .before .carry-out .result .made) (going (c .before .before .before .before .before .before .before .before .before .before .before .before .before .before .before .before .before .before .before .before .before .before .before .before) .1))
+loop-less c = rw (going (c .before .before .before .before .before .before .before .before .before .before .before .before .before .before .before .before .before .before .before .before .before .before .before .before .before .before .before .before) .0) (shrinks (c .before .before .before .before .before .before .before .before .before .before .before .before .before .before .before .before .before .before .before .before .before .before .before .before .before .before .before .before .before .before .before .before .before .before .before .before .before .before .before .args .count) (c .before .before .before .before .before .before .before .before .before .before .before .before .before .before .before .before .before .before .before .before .before .before .before .before .before .before .before .before .before .before .loop .made) (c .before .before .before .before .before .before .before .before .before .before .before .before .before .before .before .carry-out .result .made) (going (c .before .before .before .before .before .before .before .before .before .before .before .before .before .before .before .before .before .before .before .before .before .before .before .before .before .before .before .before) .1))
 
 loop-again : tie.Need-loop-again Inv-loop μ-loop
 loop-again c =
-    let l = c .before .before .before .before .before .before .before .before .before .before .before .before .before .before .before .before .before .before .before .before .before .before .before .before .before .before .loop in
+    let l = c .before .before .before .before .before .before .before .before .before .before .before .before .before .before .before .before .before .before .before .before .before .before .before .before .before .before .before .before .before .before .loop in
     let done = c .before .before .before .before .before .before .before .before .before .before .before .before .before .before .before .carry-out in (
       rw (none-behind (l .answers) _ (l .answered)) (rw (c .enum-told .given .1) at (turn (c .before .before .before .before .before .before .before .before .before .before .before .before .before .before .before))),
       rw (c .enum-told .given .1) at (done .ensures .0 .ready),
       done .ensures .1 .1,
-      done .kept .1 .1 .1 .1 .1 .0 ∙ l .inv .3,
-      done .kept .1 .1 .1 .1 .1 .1 .0 ∙ l .inv .4,
-      done .kept .1 .1 .1 .1 .1 .1 .1 .0 ∙ l .inv .5,
+      done .kept .1 .1 .1 .1 .1 .1 .0 ∙ l .inv .3,
+      done .kept .1 .1 .1 .1 .1 .1 .1 .0 ∙ l .inv .4,
+      done .kept .1 .1 .1 .1 .1 .1 .1 .1 .0 ∙ l .inv .5,
       l .inv .6,
+      l .inv .7,
+      l .inv .8,
     )
 
 loop-less-2 : tie.Need-loop-less-2 Inv-loop μ-loop
-loop-less-2 c = rw (going (c .before .before .before .before .before .before .before .before .before .before .before .before .before .before .before .before .before .before .before .before .before .before .before .before .before) .0) (shrinks (c .before .before .before .before .before .before .before .before .before .before .before .before .before .before .before .before .before .before .before .before .before .before .before .before .before .before .before .before .before .before .before .before .before .before .before .before .args .count) (c .before .before .before .before .before .before .before .before .before .before .before .before .before .before .before .before .before .before .before .before .before .before .before .before .before .before .before .loop .made) (c .before .before .before .before .before .before .before .before .before .before .before .before .before .before .before .before .carry-out .result .made) (going (c .before .before .before .before .before .before .before .before .before .before .before .before .before .before .before .before .before .before .before .before .before .before .before .before .before) .1))
+loop-less-2 c = rw (going (c .before .before .before .before .before .before .before .before .before .before .before .before .before .before .before .before .before .before .before .before .before .before .before .before .before .before .before .before .before) .0) (shrinks (c .before .before .before .before .before .before .before .before .before .before .before .before .before .before .before .before .before .before .before .before .before .before .before .before .before .before .before .before .before .before .before .before .before .before .before .before .before .before .before .before .args .count) (c .before .before .before .before .before .before .before .before .before .before .before .before .before .before .before .before .before .before .before .before .before .before .before .before .before .before .before .before .before .before .before .loop .made) (c .before .before .before .before .before .before .before .before .before .before .before .before .before .before .before .before .carry-out .result .made) (going (c .before .before .before .before .before .before .before .before .before .before .before .before .before .before .before .before .before .before .before .before .before .before .before .before .before .before .before .before .before) .1))
 
 loop-again-2 : tie.Need-loop-again-2 Inv-loop μ-loop
 loop-again-2 c =
-    let l = c .before .before .before .before .before .before .before .before .before .before .before .before .before .before .before .before .before .before .before .before .before .before .before .before .before .before .before .loop in
+    let l = c .before .before .before .before .before .before .before .before .before .before .before .before .before .before .before .before .before .before .before .before .before .before .before .before .before .before .before .before .before .before .before .loop in
     let done = c .before .before .before .before .before .before .before .before .before .before .before .before .before .before .before .before .carry-out in (
       rw (none-behind (l .answers) _ (l .answered)) (rw (c .before .effect .given .1) at (turn (c .before .before .before .before .before .before .before .before .before .before .before .before .before .before .before .before))),
       rw (c .before .effect .given .1) at (done .ensures .0 .ready),
       done .ensures .1 .1,
-      done .kept .1 .1 .1 .1 .1 .0 ∙ l .inv .3,
-      done .kept .1 .1 .1 .1 .1 .1 .0 ∙ l .inv .4,
-      done .kept .1 .1 .1 .1 .1 .1 .1 .0 ∙ l .inv .5,
+      done .kept .1 .1 .1 .1 .1 .1 .0 ∙ l .inv .3,
+      done .kept .1 .1 .1 .1 .1 .1 .1 .0 ∙ l .inv .4,
+      done .kept .1 .1 .1 .1 .1 .1 .1 .1 .0 ∙ l .inv .5,
       l .inv .6,
+      l .inv .7,
+      l .inv .8,
     )
 
 loop-less-3 : tie.Need-loop-less-3 Inv-loop μ-loop
-loop-less-3 c = rw (going (c .before .before .before .before .before .before .before .before .before .before .before .before .before .before .before .before .before .before .before .before .before .before .before .before .before) .0) (shrinks (c .before .before .before .before .before .before .before .before .before .before .before .before .before .before .before .before .before .before .before .before .before .before .before .before .before .before .before .before .before .before .before .before .before .before .before .before .args .count) (c .before .before .before .before .before .before .before .before .before .before .before .before .before .before .before .before .before .before .before .before .before .before .before .before .before .before .before .loop .made) (c .before .before .before .before .before .before .before .before .before .before .before .before .before .before .before .before .carry-out .result .made) (going (c .before .before .before .before .before .before .before .before .before .before .before .before .before .before .before .before .before .before .before .before .before .before .before .before .before) .1))
+loop-less-3 c = rw (going (c .before .before .before .before .before .before .before .before .before .before .before .before .before .before .before .before .before .before .before .before .before .before .before .before .before .before .before .before .before) .0) (shrinks (c .before .before .before .before .before .before .before .before .before .before .before .before .before .before .before .before .before .before .before .before .before .before .before .before .before .before .before .before .before .before .before .before .before .before .before .before .before .before .before .before .args .count) (c .before .before .before .before .before .before .before .before .before .before .before .before .before .before .before .before .before .before .before .before .before .before .before .before .before .before .before .before .before .before .before .loop .made) (c .before .before .before .before .before .before .before .before .before .before .before .before .before .before .before .before .carry-out .result .made) (going (c .before .before .before .before .before .before .before .before .before .before .before .before .before .before .before .before .before .before .before .before .before .before .before .before .before .before .before .before .before) .1))
 
 loop-again-3 : tie.Need-loop-again-3 Inv-loop μ-loop
 loop-again-3 c =
-    let l = c .before .before .before .before .before .before .before .before .before .before .before .before .before .before .before .before .before .before .before .before .before .before .before .before .before .before .before .loop in
+    let l = c .before .before .before .before .before .before .before .before .before .before .before .before .before .before .before .before .before .before .before .before .before .before .before .before .before .before .before .before .before .before .before .loop in
     let done = c .before .before .before .before .before .before .before .before .before .before .before .before .before .before .before .before .carry-out in (
       rw (none-behind (l .answers) _ (l .answered)) (rw (c .before .effect2 .given .1) at (turn (c .before .before .before .before .before .before .before .before .before .before .before .before .before .before .before .before))),
       rw (c .before .effect2 .given .1) at (done .ensures .0 .ready),
       done .ensures .1 .1,
-      done .kept .1 .1 .1 .1 .1 .0 ∙ l .inv .3,
-      done .kept .1 .1 .1 .1 .1 .1 .0 ∙ l .inv .4,
-      done .kept .1 .1 .1 .1 .1 .1 .1 .0 ∙ l .inv .5,
+      done .kept .1 .1 .1 .1 .1 .1 .0 ∙ l .inv .3,
+      done .kept .1 .1 .1 .1 .1 .1 .1 .0 ∙ l .inv .4,
+      done .kept .1 .1 .1 .1 .1 .1 .1 .1 .0 ∙ l .inv .5,
       l .inv .6,
+      l .inv .7,
+      l .inv .8,
     )
 
 loop-less-4 : tie.Need-loop-less-4 Inv-loop μ-loop
-loop-less-4 c = rw (going (c .before .before .before .before .before .before .before .before .before .before .before .before .before .before .before .before .before .before .before .before .before .before .before .before .before) .0) (shrinks (c .before .before .before .before .before .before .before .before .before .before .before .before .before .before .before .before .before .before .before .before .before .before .before .before .before .before .before .before .before .before .before .before .before .before .before .before .args .count) (c .before .before .before .before .before .before .before .before .before .before .before .before .before .before .before .before .before .before .before .before .before .before .before .before .before .before .before .loop .made) (c .before .before .before .before .before .before .before .before .before .before .before .before .before .before .before .before .carry-out .result .made) (going (c .before .before .before .before .before .before .before .before .before .before .before .before .before .before .before .before .before .before .before .before .before .before .before .before .before) .1))
+loop-less-4 c = rw (going (c .before .before .before .before .before .before .before .before .before .before .before .before .before .before .before .before .before .before .before .before .before .before .before .before .before .before .before .before .before) .0) (shrinks (c .before .before .before .before .before .before .before .before .before .before .before .before .before .before .before .before .before .before .before .before .before .before .before .before .before .before .before .before .before .before .before .before .before .before .before .before .before .before .before .before .args .count) (c .before .before .before .before .before .before .before .before .before .before .before .before .before .before .before .before .before .before .before .before .before .before .before .before .before .before .before .before .before .before .before .loop .made) (c .before .before .before .before .before .before .before .before .before .before .before .before .before .before .before .before .carry-out .result .made) (going (c .before .before .before .before .before .before .before .before .before .before .before .before .before .before .before .before .before .before .before .before .before .before .before .before .before .before .before .before .before) .1))
 
 loop-again-4 : tie.Need-loop-again-4 Inv-loop μ-loop
 loop-again-4 c =
-    let l = c .before .before .before .before .before .before .before .before .before .before .before .before .before .before .before .before .before .before .before .before .before .before .before .before .before .before .before .loop in
+    let l = c .before .before .before .before .before .before .before .before .before .before .before .before .before .before .before .before .before .before .before .before .before .before .before .before .before .before .before .before .before .before .before .loop in
     let done = c .before .before .before .before .before .before .before .before .before .before .before .before .before .before .before .before .carry-out in (
       rw (none-behind (l .answers) _ (l .answered)) (rw (c .before .effect3 .given .1) at (turn (c .before .before .before .before .before .before .before .before .before .before .before .before .before .before .before .before))),
       rw (c .before .effect3 .given .1) at (done .ensures .0 .ready),
       done .ensures .1 .1,
-      done .kept .1 .1 .1 .1 .1 .0 ∙ l .inv .3,
-      done .kept .1 .1 .1 .1 .1 .1 .0 ∙ l .inv .4,
-      done .kept .1 .1 .1 .1 .1 .1 .1 .0 ∙ l .inv .5,
+      done .kept .1 .1 .1 .1 .1 .1 .0 ∙ l .inv .3,
+      done .kept .1 .1 .1 .1 .1 .1 .1 .0 ∙ l .inv .4,
+      done .kept .1 .1 .1 .1 .1 .1 .1 .1 .0 ∙ l .inv .5,
       l .inv .6,
+      l .inv .7,
+      rw length-set (l .inv .8),
     )
 
 loop-less-5 : tie.Need-loop-less-5 Inv-loop μ-loop
-loop-less-5 c = rw (going (c .before .before .before .before .before .before .before .before .before .before .before .before .before .before .before .before .before .before .before .before .before .before .before .before .before .before .before .before .before .before .before .before .before .before) .0) (shrinks (c .before .before .before .before .before .before .before .before .before .before .before .before .before .before .before .before .before .before .before .before .before .before .before .before .before .before .before .before .before .before .before .before .before .before .before .before .before .before .before .before .before .before .before .before .before .args .count) (c .before .before .before .before .before .before .before .before .before .before .before .before .before .before .before .before .before .before .before .before .before .before .before .before .before .before .before .before .before .before .before .before .before .before .before .before .loop .made) (c .before .before .before .before .before .before .before .before .before .before .before .before .before .before .before .before .before .before .before .before .before .before .before .before .before .carry-out .result .made) (going (c .before .before .before .before .before .before .before .before .before .before .before .before .before .before .before .before .before .before .before .before .before .before .before .before .before .before .before .before .before .before .before .before .before .before) .1))
+loop-less-5 c = rw (going (c .before .before .before .before .before .before .before .before .before .before .before .before .before .before .before .before .before .before .before .before .before .before .before .before .before .before .before .before .before .before .before .before .before .before .before .before .before .before) .0) (shrinks (c .before .before .before .before .before .before .before .before .before .before .before .before .before .before .before .before .before .before .before .before .before .before .before .before .before .before .before .before .before .before .before .before .before .before .before .before .before .before .before .before .before .before .before .before .before .before .before .before .before .args .count) (c .before .before .before .before .before .before .before .before .before .before .before .before .before .before .before .before .before .before .before .before .before .before .before .before .before .before .before .before .before .before .before .before .before .before .before .before .before .before .before .before .loop .made) (c .before .before .before .before .before .before .before .before .before .before .before .before .before .before .before .before .before .before .before .before .before .before .before .before .before .carry-out .result .made) (going (c .before .before .before .before .before .before .before .before .before .before .before .before .before .before .before .before .before .before .before .before .before .before .before .before .before .before .before .before .before .before .before .before .before .before .before .before .before .before) .1))
 
 loop-again-5 : tie.Need-loop-again-5 Inv-loop μ-loop
 loop-again-5 c =
-    let l = c .before .before .before .before .before .before .before .before .before .before .before .before .before .before .before .before .before .before .before .before .before .before .before .before .before .before .before .before .before .before .before .before .before .before .before .before .loop in
+    let l = c .before .before .before .before .before .before .before .before .before .before .before .before .before .before .before .before .before .before .before .before .before .before .before .before .before .before .before .before .before .before .before .before .before .before .before .before .before .before .before .before .loop in
     let done = c .before .before .before .before .before .before .before .before .before .before .before .before .before .before .before .before .before .before .before .before .before .before .before .before .before .carry-out in
     let now = ap (stateOf (Then (c .before .before .before .before .before .before .before .before .before .before .before .before .before .before .before .before .before .before .before .before .before .before .before .before .before))) (c .before .before .before .before .moved .ensures) in (
       rw (none-behind (l .answers) _ (l .answered)) (stands now (rw (c .before .before .before .before .before .before .before .before .before .before .effect4 .given .1) at (turn (c .before .before .before .before .before .before .before .before .before .before .before .before .before .before .before .before .before .before .before .before .before .before .before .before .before)))),
       ap (λ (z : State). deliveryReady z) now ∙ (rw (c .before .before .before .before .before .before .before .before .before .before .effect4 .given .1) at (done .ensures .0 .ready)),
       tables-same (l .current) (c .before .before .before .before .moved .result) _ _ _ (sym (ap (λ (o : ChangeOutcome). o .bench .bridges) (c .before .before .before .before .moved .ensures))) (sym (ap (λ (o : ChangeOutcome). o .bench .links) (c .before .before .before .before .moved .ensures)))
           (sym (ap (λ (o : ChangeOutcome). o .bench .ends) (c .before .before .before .before .moved .ensures))) (done .ensures .1 .1),
-      c .before .before .before .before .moved .kept .1 .1 .1 .1 .1 .1 .0 ∙ (done .kept .1 .1 .1 .1 .1 .0 ∙ l .inv .3),
-      c .before .before .before .before .moved .kept .1 .1 .1 .1 .1 .1 .1 .0 ∙ (done .kept .1 .1 .1 .1 .1 .1 .0 ∙ l .inv .4),
-      done .kept .1 .1 .1 .1 .1 .1 .1 .0 ∙ l .inv .5,
+      c .before .before .before .before .moved .kept .1 .1 .1 .1 .1 .1 .0 ∙ (done .kept .1 .1 .1 .1 .1 .1 .0 ∙ l .inv .3),
+      c .before .before .before .before .moved .kept .1 .1 .1 .1 .1 .1 .1 .0 ∙ (done .kept .1 .1 .1 .1 .1 .1 .1 .0 ∙ l .inv .4),
+      done .kept .1 .1 .1 .1 .1 .1 .1 .1 .0 ∙ l .inv .5,
       chained-same (sym (ap (λ (o : ChangeOutcome). o .bench .links) (c .before .before .before .before .moved .ensures))) (sym (ap (λ (o : ChangeOutcome). o .bench .ends) (c .before .before .before .before .moved .ensures))) (l .inv .6),
+      ap (λ (o : ChangeOutcome). o .bench .ends) (c .before .before .before .before .moved .ensures) ∙ l .inv .7,
+      ap (λ (o : ChangeOutcome). length (o .bench .records)) (c .before .before .before .before .moved .ensures) ∙ records-long _ _ _ _ _ _ ∙ l .inv .8,
     )
 
 slice-aggregate-end-chains : tie.Need-slice-aggregate-end-chains Inv-loop μ-loop
@@ -249,7 +269,7 @@ end-chains-requires : tie.Need-end-chains-requires Inv-loop μ-loop
 end-chains-requires c κs = ends-told _ _ _ _ (both-true (stateInRange (At (c .before .before .before .before .before .before .before) (c .before .before .before .before .before .before .before .args .bench) (c .before .before .before .before .before .before .before .args .sent .now) (c .before .before .before .before .before .before .before .args .held .now) (c .before .before .before .before .before .before .before .args .flight .now))) _ (c .before .before .before .before .before .before .before .pre .0) .0)
 
 slice-aggregate-carry-out-3 : tie.Need-slice-aggregate-carry-out-3 Inv-loop μ-loop
-slice-aggregate-carry-out-3 c = sym (c .before .before .before .before .before .before .before .end-chains .ensures .long)
+slice-aggregate-carry-out-3 c = sym (c .before .before .before .before .before .before .before .before .before .before .before .end-chains .ensures .long)
 
 enum-told : tie.Need-enum-told Inv-loop μ-loop
 enum-told c = c .match .keys1
@@ -279,16 +299,16 @@ slice-aggregate-moved : tie.Need-slice-aggregate-moved Inv-loop μ-loop
 slice-aggregate-moved c = sym (c .before .before .before .before .before .before .before .before .before .before .before .before .before .before .before .before .before .carry-out .ensures .1 .1 .long)
 
 slice-aggregate-moved-2 : tie.Need-slice-aggregate-moved-2 Inv-loop μ-loop
-slice-aggregate-moved-2 c = sym (c .before .before .before .before .before .before .before .before .before .before .before .before .before .before .before .before .before .before .before .before .before .before .before .before .before .before .before .before .before .before .end-chains .ensures .long)
+slice-aggregate-moved-2 c = sym (c .before .before .before .before .before .before .before .before .before .before .before .before .before .before .before .before .before .before .before .before .before .before .before .before .before .before .before .before .before .before .before .before .before .before .end-chains .ensures .long)
 
 moved-requires : tie.Need-moved-requires Inv-loop μ-loop
 moved-requires c κs =
-    let l = c .before .before .before .before .before .before .before .before .before .before .before .before .before .before .before .before .before .before .before .before .before .before .before .before .before .before .before .before .before .before .before .loop in
+    let l = c .before .before .before .before .before .before .before .before .before .before .before .before .before .before .before .before .before .before .before .before .before .before .before .before .before .before .before .before .before .before .before .before .before .before .before .loop in
     let can = rw (c .before .before .before .before .before .effect4 .given .1) at (c .before .before .before .before .before .before .before .before .before .before .before .before .before .before .before .before .before .before .before .before .carry-out .ensures .1 .0) in
     let tables = c .before .before .before .before .before .before .before .before .before .before .before .before .before .before .before .before .before .before .before .before .carry-out .ensures .1 .1 in
-    let inside = both-true (stateInRange (At (c .before .before .before .before .before .before .before .before .before .before .before .before .before .before .before .before .before .before .before .before .before .before .before .before .before .before .before .before .before .before .before .before .before .before .before .before .before .before .before .before) (l .current) (l .sent) (l .held) (l .flight))) _ (l .inv .1) .0 in
+    let inside = both-true (stateInRange (At (c .before .before .before .before .before .before .before .before .before .before .before .before .before .before .before .before .before .before .before .before .before .before .before .before .before .before .before .before .before .before .before .before .before .before .before .before .before .before .before .before .before .before .before .before) (l .current) (l .sent) (l .held) (l .flight))) _ (l .inv .1) .0 in
     let ready = network-told _ _ _ _ inside in (
-      (rw (c .before .before .before .before .before .before .before .before .before .before .before .before .before .before .before .before .before .before .before .before .carry-out .kept .1 .1 .1 .1 .1 .0, c .before .before .before .before .before .before .before .before .before .before .before .before .before .before .before .before .before .before .before .before .carry-out .kept .1 .1 .1 .1 .1 .1 .0) inside, can .bridge, can .view, le-of-eq (sym (tables .long)), can .number),
+      (rw (c .before .before .before .before .before .before .before .before .before .before .before .before .before .before .before .before .before .before .before .before .carry-out .kept .1 .1 .1 .1 .1 .1 .0, c .before .before .before .before .before .before .before .before .before .before .before .before .before .before .before .before .before .before .before .before .carry-out .kept .1 .1 .1 .1 .1 .1 .1 .0) inside, can .bridge, can .view, le-of-eq (sym (tables .long)), can .number),
       (tables-filled (l .current) _ _ _ tables _ (lt-of-lt-of-le (can .view) (ready .fewViews)) (can .filled), l .inv .6),
     )
 
@@ -309,6 +329,22 @@ returns c =
     ended _ _ _ _ _ _ _ _ _ (c .before .before .loop .inv .0)
     (λ on. rw (counted (c .before .before .before .before .before .before .before .before .before .before .before)) (past {going = c .before .before .loop .going} {made = c .before .before .loop .made} {count = c .before .before .before .before .before .before .before .before .before .before .before .args .count} (c .before .both .ensures) (c .if1 .left) on))
 
+slice-aggregate-event-end : tie.Need-slice-aggregate-event-end Inv-loop μ-loop
+slice-aggregate-event-end c = sym (placed (c .before .before .before .before .before .before .before .before .before .before .before .before .before))
+
+event-end-requires : tie.Need-event-end-requires Inv-loop μ-loop
+event-end-requires c κs =
+    let now = At (c .before .before .before .before .before .before .before .before .before .before .before .before .before .before) (c .before .before .before .before .before .loop .current) (c .before .before .before .before .before .loop .sent) (c .before .before .before .before .before .loop .held) (c .before .before .before .before .before .loop .flight) in
+    let h = told now (c .before .before .before .before .before .loop .inv .1) in
+    let counts = few (c .before .before .before .before .before .loop .current) (c .before .before .before .before .before .before .before .before .before .before .before .before .before .before .args .costs .now) (h .lasting) in
+    (counts .1, omega (arith, counts .1, placed (c .before .before .before .before .before .before .before .before .before .before .before .before .before .before)), h .count, h .messagesLong, λ p low. arrival-told now (c .before .before .before .before .before .loop .inv .1) p low .arrives)
+
+mul-old : tie.Need-mul-old Inv-loop μ-loop
+mul-old c = record-fits (c .event-end .ensures .0)
+
+element-copy-out-old : tie.Need-element-copy-out-old Inv-loop μ-loop
+element-copy-out-old c = c .event-end .ensures .0
+
 pub run-in-range-spec : {M : Type 1} → statement M
 run-in-range-spec =
     tie.close
@@ -321,6 +357,10 @@ run-in-range-spec =
     both-requires
     mul-event
     array-copy-out-event
+    slice-aggregate-event-end
+    event-end-requires
+    mul-old
+    element-copy-out-old
     slice-aggregate-carry-out
     slice-aggregate-carry-out-2
     slice-aggregate-carry-out-3

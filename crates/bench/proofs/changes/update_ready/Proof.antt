@@ -16,11 +16,11 @@ use Rattle.protocol.specs.Calls.{change, update, refuse}
 use Rattle.bench.proofs.changes.update_ready.Statement.{statement}
 use Rattle.bench.proofs.changes.update_ready.Tie as tie
 
-fits : (s : tie.Start) → Fits w16 (getD (s .args .t1 .number) (s .args .bridge) 0)
+fits : (s : tie.Start) → Fits w16 (getD (s .args .bench .number) (s .args .bridge) 0)
 fits s = search needs
 
 -- the table's number, for a state with this bench
-number-of : (c : tie.After-update-refusal) (s : State) → s .bench ≡ c .before .before .before .before .before .before .args .t1 → c .update-refusal .result ≡ refuse (networkOf (s .bench) []) (change (update (c .before .before .before .before .before .before .args .bridge) (c .before .before .before .before .before .before .args .view)))
+number-of : (c : tie.After-update-refusal) (s : State) → s .bench ≡ c .before .before .before .before .before .before .args .bench → c .update-refusal .result ≡ refuse (networkOf (s .bench) []) (change (update (c .before .before .before .before .before .before .args .bridge) (c .before .before .before .before .before .before .args .view)))
 number-of c s here =
     c .update-refusal .ensures (s .bench) (ap (λ (b : Bench). b .bridges) here) (ap (λ (b : Bench). b .views) here) (ap (λ (b : Bench). b .view) here)
     (ap (λ (b : Bench). b .number) here)
@@ -28,7 +28,7 @@ number-of c s here =
 -- an update that is not turned down
 low : (c : tie.Else1) → (c .before .before .before .before .before .before .before .args .bridge < 16) × (c .before .before .before .before .before .before .before .args .view < 32)
 low c =
-    let u = update-told (networkOf (c .before .before .before .before .before .before .before .args .t1) []) (c .before .before .before .before .before .before .before .args .bridge) (c .before .before .before .before .before .before .before .args .view) (c .before .update-refusal .ensures (c .before .before .before .before .before .before .before .args .t1) refl refl refl refl) (c .if1 .left) in
+    let u = update-told (networkOf (c .before .before .before .before .before .before .before .args .bench) []) (c .before .before .before .before .before .before .before .args .bridge) (c .before .before .before .before .before .before .before .args .view) (c .before .update-refusal .ensures (c .before .before .before .before .before .before .before .args .bench) refl refl refl refl) (c .if1 .left) in
     (lt-of-lt-of-le (u .bridge) (c .before .before .before .before .before .before .before .pre .0 .fewBridges), lt-of-lt-of-le (u .view) (c .before .before .before .before .before .before .before .pre .0 .fewViews))
 
 update-refusal-requires : tie.Need-update-refusal-requires
@@ -40,20 +40,17 @@ returns c = (
   (omega arith, c .before .before .before .before .before .before .before .pre .1),
 )
 
-element-copy-out-present : tie.Need-element-copy-out-present
-element-copy-out-present c = low (c) .0
-
 cast-present : tie.Need-cast-present
 cast-present c = search needs
 
 returns-2 : tie.Need-returns-2
 returns-2 c = (
-  λ s here ok. changes-nothing s _ _ _ ok (number-of (c .before .before .before) s here) (c .before .before .if1 .left) (ap (λ (b : Bench). getD (b .view) (c .before .before .before .before .before .before .before .before .before .args .bridge) 0) here ∙ c .if2 .taken),
-  (tt, c .before .before .before .before .before .before .before .before .before .pre .1),
+  λ s here ok. changes-nothing s _ _ _ ok (number-of (c .before .before) s here) (c .before .if1 .left) (ap (λ (b : Bench). getD (b .view) (c .before .before .before .before .before .before .before .before .args .bridge) 0) here ∙ c .if2 .taken),
+  (tt, c .before .before .before .before .before .before .before .before .pre .1),
 )
 
 need-view-requires : tie.Need-need-view-requires
-need-view-requires c κs = (low (c .before .before .before .before .before .before) .1, c .before .before .before .before .before .before .before .before .before .before .before .before .before .pre .0 .costsLong, c .before .before .before .before .before .before .before .before .before .before .before .before .before .pre .1)
+need-view-requires c κs = (low (c .before .before .before .before .before) .1, c .before .before .before .before .before .before .before .before .before .before .before .before .pre .0 .costsLong, c .before .before .before .before .before .before .before .before .before .before .before .before .pre .1)
 
 slice-aggregate-need-view : tie.Need-slice-aggregate-need-view
 slice-aggregate-need-view c = search needs
@@ -66,20 +63,23 @@ same-length-2 c = c .before .before .before .before .need-view .kept .1 .1 .1 .1
 
 returns-3 : tie.Need-returns-3
 returns-3 c =
-    let a = c .before .before .before .before .before .before .before .before .before .before .before .before .before .before .before .before .before .before .args in
-    let u = update-told (networkOf (a .t1) []) (a .bridge) (a .view) (c .before .before .before .before .before .before .before .before .before .before .before .before .update-refusal .ensures (a .t1) refl refl refl refl) (c .before .before .before .before .before .before .before .before .before .before .before .if1 .left) in (
-      λ s here ok. moves-it s _ _ _ ok (number-of (c .before .before .before .before .before .before .before .before .before .before .before .before) s here) (c .before .before .before .before .before .before .before .before .before .before .before .if1 .left)
+    let a = c .before .before .before .before .before .before .before .before .before .before .before .before .before .before .before .before .before .args in
+    let u = update-told (networkOf (a .bench) []) (a .bridge) (a .view) (c .before .before .before .before .before .before .before .before .before .before .before .update-refusal .ensures (a .bench) refl refl refl refl) (c .before .before .before .before .before .before .before .before .before .before .if1 .left) in (
+      λ s here ok. moves-it s _ _ _ ok (number-of (c .before .before .before .before .before .before .before .before .before .before .before) s here) (c .before .before .before .before .before .before .before .before .before .before .if1 .left)
           (λ there. c .before .before .before .before .before .before .before .before .before .if2 .left (sym (ap (λ (b : Bench). getD (b .view) (a .bridge) 0) here) ∙ there)),
       (
         record {
           bridge = u .bridge;
           view = u .view;
-          number = number-left (networkOf (a .t1) []) (a .bridge) (a .view) u (fits (c .before .before .before .before .before .before .before .before .before .before .before .before .before .before .before .before .before .before) .fits) (c .before .before .before .before .before .before .before .before .before .if2 .left);
+          number = number-left (networkOf (a .bench) []) (a .bridge) (a .view) u (fits (c .before .before .before .before .before .before .before .before .before .before .before .before .before .before .before .before .before) .fits) (c .before .before .before .before .before .before .before .before .before .if2 .left);
           filled = c .before .before .before .before .need-view .ensures .0 .1;
         },
         c .before .before .before .before .need-view .ensures .0 .0,
       ),
     )
+
+array-read-present : tie.Need-array-read-present
+array-read-present c = low c .0
 
 pub update-ready-spec : {M : Type 1} → statement M
 update-ready-spec =
@@ -87,7 +87,7 @@ update-ready-spec =
     (tie.spec
     update-refusal-requires
     returns
-    element-copy-out-present
+    array-read-present
     cast-present
     returns-2
     slice-aggregate-need-view

@@ -1,66 +1,62 @@
--- `deliveries::receive` meets its contract. The bench is ready, so the view's distances can be lent; layer 2 takes the message and answers
+-- `deliveries::receive` meets its contract. In every bench in which the end stands so layer 2 takes the message and answers
 -- (`received-between`). Assumes nothing.
 use Prim.Native.Nat.{ℕ, _<_}
 use native.Mathlib.Omega.{arith}
 use mathlib.Core.Path.{_≡_, refl, ap}
-use borrow.Author.Needs.{needs}
-use lib.ListN.{length, getD}
+use lib.ListN.{getD}
 use native.Mathlib.Nat.{le-add-right}
-use Rattle.agreement.specs.Record.{freshRecord}
-use Rattle.agreement.specs.Offer.{opposite}
 use Rattle.agreement.specs.Call.{Response}
 use Rattle.agreement.specs.declared.Answer.{Answer}
-use Rattle.agreement.proofs.Basics.{getD-default}
 use Rattle.agreement.proofs.Ends.{opposite-below}
-use Rattle.bench.proofs.ChangeSteps.{length-mapped}
-use Rattle.bench.proofs.FlightSteps.{Placed, placed}
 use Rattle.bench.proofs.ReceiveSteps.{received-between, answers-there}
-use Rattle.bench.proofs.ChoiceReads.{end-low, bridge-fits, view-fits, costs-fit, block-fits, record-fits}
-use Rattle.bench.proofs.ViewReads.{block-past, block-scaled, block-there, number-fits}
+use Rattle.bench.proofs.ChoiceReads.{view-fits, costs-fit, cost-fits, cost-scaled, cost-there, block-fits}
+use Rattle.bench.proofs.ViewReads.{block-past, block-scaled, block-there}
 use Rattle.bench.proofs.deliveries.receive.Statement.{statement}
 use Rattle.bench.proofs.deliveries.receive.Tie as tie
 
--- what the ready bench tells of the end
-told : (s : tie.Start) → Placed (s .args .t1) (s .args .end)
-told s = placed (s .pre .0 .0) (s .args .end) (s .pre .0 .1)
+opposite-end-requires : tie.Need-opposite-end-requires
+opposite-end-requires c κs = tt
 
--- as many records as the type says
-listed : (s : tie.Start) → length (s .args .t1 .records) ≡ 64
-listed s = search (needs, length-mapped)
+shared-slice-read-far : tie.Need-shared-slice-read-far
+shared-slice-read-far c =
+    let low : c .before .opposite-end .result < 64 = rw (c .before .opposite-end .ensures) (opposite-below _ 32 (c .before .before .before .before .before .before .before .before .pre .0)) in
+    omega (arith, c .before .before .before .before .before .before .before .before .pre .2)
 
-low : (s : tie.Start) → s .args .end < 64
-low s = end-low (s .pre .0 .1) (s .pre .0 .0 .fewLinks)
+cast-far : tie.Need-cast-far
+cast-far c = omega (arith, c .shared-slice-known4 .given (c .before .opposite-end .result))
 
--- and so does the other end of its link
-far-low : (s : tie.Start) → opposite (s .args .end) < 64
-far-low s = end-low (opposite-below _ _ (s .pre .0 .1)) (s .pre .0 .0 .fewLinks)
-
-element-copy-out-bridge : tie.Need-element-copy-out-bridge
-element-copy-out-bridge c = low (c .before .before .before .before .before .before)
+shared-slice-read-bridge : tie.Need-shared-slice-read-bridge
+shared-slice-read-bridge c = omega (arith, c .before .before .before .before .before .before .before .before .before .pre .0, c .before .before .before .before .before .before .before .before .before .pre .2)
 
 cast-bridge : tie.Need-cast-bridge
-cast-bridge c = bridge-fits (told (c .before .before .before .before .before .before .before) .bridge)
-
-element-copy-out-view : tie.Need-element-copy-out-view
-element-copy-out-view c = told (c .before .before .before .before .before .before .before) .bridge
+cast-bridge c = omega (arith, c .shared-slice-known5 .given (c .before .before .before .before .before .before .before .before .before .args .here .end))
 
 cast-row : tie.Need-cast-row
-cast-row c = view-fits (told (c .before .before .before .before .before .before .before .before) .view)
+cast-row c = view-fits (c .before .before .before .before .before .before .before .before .before .pre .1)
 
 mul-row : tie.Need-mul-row
-mul-row c = costs-fit (told (c .before .before .before .before .before .before .before .before) .view)
+mul-row c = costs-fit (c .before .before .before .before .before .before .before .before .before .pre .1)
 
 cast-block : tie.Need-cast-block
-cast-block c = view-fits (told (c .before .before .before .before .before .before .before .before) .view)
+cast-block c = view-fits (c .before .before .before .before .before .before .before .before .before .pre .1)
 
 mul-block : tie.Need-mul-block
-mul-block c = block-fits (told (c .before .before .before .before .before .before .before .before) .view)
+mul-block c = block-fits (c .before .before .before .before .before .before .before .before .before .pre .1)
 
 add-block-past : tie.Need-add-block-past
-add-block-past c = block-past (told (c .before .before .before .before .before .before .before .before) .view)
+add-block-past c = block-past (c .before .before .before .before .before .before .before .before .before .pre .1)
+
+add-deliver-between : tie.Need-add-deliver-between
+add-deliver-between c = cost-fits (c .before .before .before .before .before .before .before .before .before .pre .1) (c .before .before .before .before .before .before .before .before .before .pre .0)
+
+mul-deliver-between : tie.Need-mul-deliver-between
+mul-deliver-between c = cost-scaled (c .before .before .before .before .before .before .before .before .before .pre .1) (c .before .before .before .before .before .before .before .before .before .pre .0)
+
+shared-slice-read-deliver-between : tie.Need-shared-slice-read-deliver-between
+shared-slice-read-deliver-between c = cost-there (c .before .before .before .before .before .before .before .before .before .before .pre .1) (c .before .before .before .before .before .before .before .before .before .before .pre .0) (c .before .before .before .before .before .before .before .before .before .before .pre .3)
 
 mul-deliver-between-2 : tie.Need-mul-deliver-between-2
-mul-deliver-between-2 c = block-scaled (told (c .before .before .before .before .before .before .before .before .before) .view)
+mul-deliver-between-2 c = block-scaled (c .before .before .before .before .before .before .before .before .before .before .pre .1)
 
 sub-deliver-between : tie.Need-sub-deliver-between
 sub-deliver-between c = le-add-right _ 256
@@ -69,22 +65,16 @@ part-deliver-between-start : tie.Need-part-deliver-between-start
 part-deliver-between-start c = le-add-right _ 256
 
 part-deliver-between-end : tie.Need-part-deliver-between-end
-part-deliver-between-end c = block-there (told (c .before .before .before .before .before .before .before .before .before) .view) (c .before .before .before .before .before .before .before .before .before .pre .0 .2)
-
-mul-deliver-between-3 : tie.Need-mul-deliver-between-3
-mul-deliver-between-3 c = number-fits (told (c .before .before .before .before .before .before .before .before .before .before) .bridge)
-
-element-copy-out-deliver-between : tie.Need-element-copy-out-deliver-between
-element-copy-out-deliver-between c = told (c .before .before .before .before .before .before .before .before .before .before) .bridge
-
-mul-deliver-between-4 : tie.Need-mul-deliver-between-4
-mul-deliver-between-4 c = record-fits (low (c .before .before .before .before .before .before .before .before .before .before .before))
-
-element-copy-out-deliver-between-2 : tie.Need-element-copy-out-deliver-between-2
-element-copy-out-deliver-between-2 c = low (c .before .before .before .before .before .before .before .before .before .before .before)
+part-deliver-between-end c = block-there (c .before .before .before .before .before .before .before .before .before .before .pre .1) (c .before .before .before .before .before .before .before .before .before .before .pre .4)
 
 deliver-between-requires : tie.Need-deliver-between-requires
 deliver-between-requires c κs = tt
+
+enum-known-reply : tie.Need-enum-known-reply
+enum-known-reply c = c .match .keys1
+
+enum-told : tie.Need-enum-told
+enum-told c = c .match .keys2
 
 same-length : tie.Need-same-length
 same-length c = c .before .before .before .before .before .before .before .deliver-between .kept .1 .1 .1 .1 .1 .1 .1 .1 .1 .1 .1 .0
@@ -93,48 +83,13 @@ same-length-2 : tie.Need-same-length-2
 same-length-2 c = c .before .before .before .before .before .before .before .deliver-between .kept .1 .1 .1 .1 .1 .1 .1 .1 .1 .1 .1 .1 .0
 
 returns : tie.Need-returns
-returns c =
-    let s : tie.Start = c .before .before .before .before .before .before .before .before .before .before .before .before .before .before .before .before .before .before .before .before .before .before in
-    let a = s .args in
+returns c = λ b stands takes filled.
+    let a = c .before .before .before .before .before .before .before .before .before .before .before .before .before .before .before .before .before .before .before .before .before .args in
     let said = rw (c .enum-told .given .1) at
-    (answers-there (a .t1) (a .costs .now) (a .tables .now) (a .sent .now) (a .held .now) (a .end) _ _ _ (a .message) _ (s .pre .1) (low s) refl (ap (λ (k : ℕ). getD (a .t1 .ends) k 0) (c .before .before .before .before .before .before .before .before .before .before .before .before .before .before .before .before .before .opposite-end .ensures)) refl
-    (getD-default (a .t1 .records) (a .end) _ freshRecord (rw (listed s) (low s))) (s .pre .0 .3) (c .before .before .before .before .before .before .before .deliver-between .ensures)) in
+    (answers-there b (a .bridges) (a .views) (a .ends .now) (a .costs .now) (a .tables .now) (a .sent .now) (a .held .now) (a .here) _ _ (a .message) stands filled (c .before .before .before .before .before .before .before .before .before .before .before .before .before .before .before .before .before .before .before .before .before .pre .0)
+    (ap (λ (k : ℕ). getD (a .ends .now) k 0) (c .before .before .before .before .before .before .before .before .before .before .before .before .before .before .opposite-end .ensures)) refl takes (c .before .before .before .before .before .before .before .deliver-between .ensures)) in
     let out : _≡_ {A = ℕ} 17 0 = ap (λ (r : Response Answer). r .number) said in
     absurd (omega arith)
-
-returns-2 : tie.Need-returns-2
-returns-2 c =
-    let s : tie.Start = c .before .before .before .before .before .before .before .before .before .before .before .before .before .before .before .before .before .before .before .before .before .before .before in
-    let a = s .args in (
-      rw (c .before .reply .given .1) at
-          (received-between (a .t1) (a .costs .now) (a .tables .now) (a .sent .now) (a .held .now) (a .end) _ _ _ (a .message) _ (s .pre .1) (low s) refl (ap (λ (k : ℕ). getD (a .t1 .ends) k 0) (c .before .before .before .before .before .before .before .before .before .before .before .before .before .before .before .before .before .before .opposite-end .ensures)) refl
-          (getD-default (a .t1 .records) (a .end) _ freshRecord (rw (listed s) (low s))) (s .pre .0 .3) (c .before .before .before .before .before .before .before .before .deliver-between .ensures)),
-      low s,
-    )
-
-opposite-end-requires : tie.Need-opposite-end-requires
-opposite-end-requires c κs = tt
-
-element-copy-out-far : tie.Need-element-copy-out-far
-element-copy-out-far c = rw (c .opposite-end .ensures) (far-low (c .before .before .before .before .before))
-
-cast-far : tie.Need-cast-far
-cast-far c = rw (c .before .opposite-end .ensures) (bridge-fits (placed (c .before .before .before .before .before .before .pre .0 .0) _ (opposite-below _ _ (c .before .before .before .before .before .before .pre .0 .1)) .bridge))
-
-add-deliver-between : tie.Need-add-deliver-between
-add-deliver-between c = omega (arith, told (c .before .before .before .before .before .before .before .before) .view, low (c .before .before .before .before .before .before .before .before))
-
-mul-deliver-between : tie.Need-mul-deliver-between
-mul-deliver-between c = omega (arith, told (c .before .before .before .before .before .before .before .before) .view, low (c .before .before .before .before .before .before .before .before))
-
-shared-slice-read-deliver-between : tie.Need-shared-slice-read-deliver-between
-shared-slice-read-deliver-between c = omega (arith, told (c .before .before .before .before .before .before .before .before .before) .view, low (c .before .before .before .before .before .before .before .before .before), c .before .before .before .before .before .before .before .before .before .pre .0 .0 .costsLong)
-
-enum-known-reply : tie.Need-enum-known-reply
-enum-known-reply c = c .match .keys1
-
-enum-told : tie.Need-enum-told
-enum-told c = c .match .keys2
 
 same-length-3 : tie.Need-same-length-3
 same-length-3 c = c .before .before .before .before .before .before .before .before .deliver-between .kept .1 .1 .1 .1 .1 .1 .1 .1 .1 .1 .1 .0
@@ -142,16 +97,24 @@ same-length-3 c = c .before .before .before .before .before .before .before .bef
 same-length-4 : tie.Need-same-length-4
 same-length-4 c = c .before .before .before .before .before .before .before .before .deliver-between .kept .1 .1 .1 .1 .1 .1 .1 .1 .1 .1 .1 .1 .0
 
+returns-2 : tie.Need-returns-2
+returns-2 c = λ b stands takes filled.
+    let a = c .before .before .before .before .before .before .before .before .before .before .before .before .before .before .before .before .before .before .before .before .before .before .args in (
+      rw (c .before .reply .given .1) at
+          (received-between b (a .bridges) (a .views) (a .ends .now) (a .costs .now) (a .tables .now) (a .sent .now) (a .held .now) (a .here) _ _ (a .message) stands filled (c .before .before .before .before .before .before .before .before .before .before .before .before .before .before .before .before .before .before .before .before .before .before .pre .0)
+          (ap (λ (k : ℕ). getD (a .ends .now) k 0) (c .before .before .before .before .before .before .before .before .before .before .before .before .before .before .before .opposite-end .ensures)) refl takes (c .before .before .before .before .before .before .before .before .deliver-between .ensures)),
+      c .before .before .before .before .before .before .before .before .before .before .before .before .before .before .before .before .before .before .before .before .before .before .pre .0,
+    )
+
 pub receive-spec : {M : Type 1} → statement M
 receive-spec =
     tie.close
     (tie.spec
     opposite-end-requires
-    element-copy-out-far
+    shared-slice-read-far
     cast-far
-    element-copy-out-bridge
+    shared-slice-read-bridge
     cast-bridge
-    element-copy-out-view
     cast-row
     mul-row
     cast-block
@@ -164,10 +127,6 @@ receive-spec =
     sub-deliver-between
     part-deliver-between-start
     part-deliver-between-end
-    mul-deliver-between-3
-    element-copy-out-deliver-between
-    mul-deliver-between-4
-    element-copy-out-deliver-between-2
     deliver-between-requires
     enum-known-reply
     enum-told

@@ -1,6 +1,17 @@
 -- `messages::deliver` meets its contract: out of range, or `deliver_ready`, and then the bench with what it took. Assumes nothing.
 use native.Mathlib.Omega.{arith}
-use mathlib.Core.Path.{sym, _∙_, refl}
+use Prim.Native.Nat.{ℕ}
+use mathlib.Core.Path.{_≡_, sym, _∙_, refl, ap}
+use mathlib.Core.Bool.{true}
+use borrow.Author.Needs.{needs}
+use lib.ListN.{length, getD}
+use Rattle.agreement.proofs.Basics.{getD-default}
+use Rattle.agreement.specs.Record.{freshRecord}
+use Rattle.bench.specs.Deliveries.{deliveryReady}
+use Rattle.bench.proofs.ChangeSteps.{length-mapped}
+use Rattle.bench.proofs.ChoiceReads.{record-fits}
+use Rattle.bench.proofs.TieRanges.{told}
+use Rattle.bench.proofs.ArrivalSteps.{arrival-told}
 use borrow.Author.Tests.{not-true, not-false}
 use Rattle.bench.specs.State.{State, state}
 use Rattle.bench.proofs.TieRefusals.{refusal-out}
@@ -11,7 +22,14 @@ use Rattle.bench.proofs.messages.deliver.Tie as tie
 
 -- what is handed over
 abbrev Given : tie.Start → State
-Given s = let a = s .args in state (a .bench) (a .costs .now) (a .sent .now) (a .held .now) (a .messages .now)
+Given s = let a = s .args in state (a .t1) (a .costs .now) (a .sent .now) (a .held .now) (a .messages .now)
+
+-- as many records as the type says
+listed : (s : tie.Start) → length (s .args .t1 .records) ≡ 64
+listed s = search (needs, length-mapped)
+
+inside : (c : tie.Else1) → deliveryReady (Given (c .before .before .before .before .before .before .before)) ≡ true
+inside c = sym (c .before .delivery-in-range .ensures) ∙ not-false _ (c .if1 .left)
 
 delivery-in-range-requires : tie.Need-delivery-in-range-requires
 delivery-in-range-requires c κs = tt
@@ -26,16 +44,22 @@ returns : tie.Need-returns
 returns c = deliver-refused (Given (c .before .before .before .before .before .before .before .before)) _ 17 (refusal-out _ _ _ (sym (c .before .before .delivery-in-range .ensures) ∙ not-true _ (c .before .if1 .taken))) (λ z. omega arith) (c .refused-delivery .ensures .0) (c .refused-delivery .ensures .1)
 
 deliver-ready-requires : tie.Need-deliver-ready-requires
-deliver-ready-requires c κs = (sym (c .before .before .before .before .before .before .delivery-in-range .ensures) ∙ not-false _ (c .before .before .before .before .before .if1 .left), tables-none (c .before .before .before .before .before .before .before .before .before .before .before .before .args .bench) _)
+deliver-ready-requires c κs = let a = c .before .before .before .before .before .before .before .before .before .before .before .before .before .before .before .args in (
+  inside (c .before .before .before .before .before .before .before .before),
+  (
+    tables-none (a .t1) _,
+    λ there. getD-default (a .t1 .records) (c .before .before .before .before .before .before .receiving-end .result) _ freshRecord (rw (listed (c .before .before .before .before .before .before .before .before .before .before .before .before .before .before .before)) (c .before .before .before .before .before .before .receiving-end .ensures .0)) ∙ ap (λ (e : ℕ). getD (a .t1 .records) e freshRecord) (c .before .before .before .before .before .before .receiving-end .ensures .1 there),
+  ),
+)
 
 same-length-2 : tie.Need-same-length-2
-same-length-2 c = c .before .before .before .before .before .before .before .before .before .before .deliver-ready .kept .1 .1 .1 .1 .0
+same-length-2 c = c .before .before .before .before .before .before .before .before .before .before .deliver-ready .kept .1 .1 .1 .1 .1 .0
 
 same-length-3 : tie.Need-same-length-3
-same-length-3 c = c .before .before .before .before .before .before .before .before .before .before .deliver-ready .kept .1 .1 .1 .1 .1 .0
+same-length-3 c = c .before .before .before .before .before .before .before .before .before .before .deliver-ready .kept .1 .1 .1 .1 .1 .1 .0
 
 same-length-4 : tie.Need-same-length-4
-same-length-4 c = c .before .before .before .before .before .before .before .before .before .before .deliver-ready .kept .1 .1 .1 .1 .1 .1 .0
+same-length-4 c = c .before .before .before .before .before .before .before .before .before .before .deliver-ready .kept .1 .1 .1 .1 .1 .1 .1 .0
 
 returns-2 : tie.Need-returns-2
 returns-2 c = rw (c .taken .ensures .0, c .taken .ensures .1, c .before .taken-count .ensures) (c .before .before .before .before .before .before .before .before .before .before .deliver-ready .ensures .0 .0)
@@ -52,6 +76,15 @@ slice-aggregate-deliver-ready c = refl
 slice-aggregate-deliver-ready-2 : tie.Need-slice-aggregate-deliver-ready-2
 slice-aggregate-deliver-ready-2 c = refl
 
+receiving-end-requires : tie.Need-receiving-end-requires
+receiving-end-requires c κs = let s : tie.Start = (c .before .before .before .before .before .before .before .before) in let h = told (Given s) (inside (c .before)) in (h .count, h .messagesLong, λ there. arrival-told (Given s) (inside (c .before)) _ there .arrives)
+
+mul-old : tie.Need-mul-old
+mul-old c = record-fits (c .receiving-end .ensures .0)
+
+element-copy-out-old : tie.Need-element-copy-out-old
+element-copy-out-old c = c .receiving-end .ensures .0
+
 pub deliver-spec : {M : Type 1} → statement M
 deliver-spec =
     tie.close
@@ -60,6 +93,9 @@ deliver-spec =
     refused-delivery-requires
     same-length
     returns
+    receiving-end-requires
+    mul-old
+    element-copy-out-old
     slice-aggregate-deliver-ready
     slice-aggregate-deliver-ready-2
     deliver-ready-requires

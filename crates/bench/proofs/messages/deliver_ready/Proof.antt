@@ -1,12 +1,18 @@
 -- `messages::deliver_ready` meets its contract. What an accepted delivery is handed is ready for the private functions (`delivery-told`).
 -- Assumes nothing.
-use Prim.Native.Nat.{ℕ}
+use Prim.Native.Nat.{ℕ, _<_}
 use native.Mathlib.Omega.{arith}
-use mathlib.Core.Path.{_≡_, sym, _∙_, refl}
+use mathlib.Core.Path.{_≡_, sym, _∙_, refl, ap}
+use borrow.Author.Needs.{needs}
+use lib.ListN.{length}
+use native.Mathlib.Nat.{le-of-eq}
+use Rattle.bench.specs.Effects.{receptionSays, receptionBench, Accepts}
+use Rattle.bench.specs.declared.effects.EndState.{EndState}
+use Rattle.bench.proofs.ArrivalSteps.{ArrivalTold, arrival-told, stands-in}
 use Rattle.bench.specs.State.{State, state, networkOf}
 use Rattle.protocol.specs.Calls.{deliver, refuse}
 use Rattle.bench.specs.Changes.{refusalOf}
-use Rattle.bench.specs.Deliveries.{deliveryReady}
+use Rattle.bench.specs.Deliveries.{deliveryReady, deliveryOutcome, received}
 use Rattle.bench.proofs.TieRefusals.{refusal-ready}
 use Rattle.bench.proofs.TieRanges.{told, few}
 use Rattle.bench.proofs.TieChecks.{message-told}
@@ -23,6 +29,22 @@ Given s = let a = s .args in state (a .bench) (a .costs .now) (a .sent .now) (a 
 same : (s : tie.Start) (k : ℕ) → k ≡ refuse (networkOf (s .args .bench) (s .args .messages .now)) (deliver (s .args .place)) → k ≡ refusalOf (deliveryReady (Given s)) (networkOf (s .args .bench) (s .args .messages .now)) (deliver (s .args .place))
 same s k e = e ∙ sym (refusal-ready _ _ _ (s .pre .0))
 
+-- as many ends as the type says
+placed : (s : tie.Start) → length (s .args .bench .ends) ≡ 64
+placed s = search needs
+
+-- the message is there
+there : (c : tie.Else1) → c .before .before .before .before .before .before .before .before .before .before .args .place < c .before .before .before .before .before .before .before .before .before .before .args .bench .messages
+there c = delivery-told (Given (c .before .before .before .before .before .before .before .before .before .before)) _ _ (same (c .before .before .before .before .before .before .before .before .before .before) _ (c .before .deliver-refusal .ensures (c .before .before .before .before .before .before .before .before .before .before .args .bench) refl refl)) (c .if1 .left) .listed
+
+arrives : (c : tie.Else1) → ArrivalTold (Given (c .before .before .before .before .before .before .before .before .before .before)) (c .before .before .before .before .before .before .before .before .before .before .args .place)
+arrives c = arrival-told (Given (c .before .before .before .before .before .before .before .before .before .before)) (c .before .before .before .before .before .before .before .before .before .before .pre .0) _ (there c)
+
+-- layer 2 takes it at its end, which stands so in the bench
+taken : (c : tie.After-receive-at) → (deliveryOutcome (receptionSays (c .receive-at .result)) (receptionBench (c .receive-at .result) (c .before .before .before .before .before .before .before .before .before .before .before .before .before .before .before .before .before .before .before .before .before .before .before .args .bench) (c .before .before .before .before .before .before .before .before .before .before .before .before .before .before .before .before .before .before .before .before .before .before .before .args .bench .messages)) (c .receive-at .last .1 .1 .1 .1 .1 .1 .1 .1 .0) (c .receive-at .last .1 .1 .1 .1 .1 .1 .1 .1 .1 .0) (c .before .before .before .before .before .before .before .before .before .before .before .before .before .before .before .before .before .before .before .before .before .before .before .args .messages .now) ≡ received (Given (c .before .before .before .before .before .before .before .before .before .before .before .before .before .before .before .before .before .before .before .before .before .before .before)) (c .before .before .before .before .before .before .before .before .before .before .before .before .before .before .before .before .before .before .before .before .before .before .before .args .place)) × Accepts (c .receive-at .result)
+taken c =
+    c .receive-at .ensures .0 (c .before .before .before .before .before .before .before .before .before .before .before .before .before .before .before .before .before .before .before .before .before .before .before .args .bench) (stands-in (c .before .before .before .before .before .before .before .before .before .before .before .before .before .before .before .before .before .before .before .before .before .before .before .args .bench) _ (c .before .before .before .before .before .before .before .before .before .before .before .before .before .before .before .before .before .before .before .before .before .before .before .args .old) _ (c .before .before .before .before .before .before .before .arrival-state .ensures) (c .before .before .before .before .before .before .before .before .before .before .before .before .before .before .before .before .before .before .before .before .before .before .before .pre .1 .1 (there (c .before .before .before .before .before .before .before .before .before .before .before .before .before)))) refl (c .before .before .before .before .before .before .before .before .before .before .before .before .before .before .before .before .before .before .before .before .before .before .before .pre .0) (there (c .before .before .before .before .before .before .before .before .before .before .before .before .before))
+
 deliver-refusal-requires : tie.Need-deliver-refusal-requires
 deliver-refusal-requires c κs = let h = told (Given (c .before .before .before .before .before .before .before .before)) (c .before .before .before .before .before .before .before .before .pre .0) in ((h .count, h .messagesLong), λ low. omega (arith, few (c .before .before .before .before .before .before .before .before .args .bench) (c .before .before .before .before .before .before .before .before .args .costs .now) (h .lasting), message-told _ _ _ (h .message (c .before .before .before .before .before .before .before .before .args .place) low) .link))
 
@@ -30,31 +52,45 @@ same-length : tie.Need-same-length
 same-length c = refl
 
 returns : tie.Need-returns
-returns c = ((deliver-refused (Given (c .before .before .before .before .before .before .before .before .before .before)) _ _ (same (c .before .before .before .before .before .before .before .before .before .before) _ (c .before .deliver-refusal .ensures (c .before .before .before .before .before .before .before .before .before .before .args .bench) refl refl)) (c .if1 .taken) refl refl, omega arith), c .before .before .before .before .before .before .before .before .before .before .pre .1)
+returns c = ((deliver-refused (Given (c .before .before .before .before .before .before .before .before .before .before)) _ _ (same (c .before .before .before .before .before .before .before .before .before .before) _ (c .before .deliver-refusal .ensures (c .before .before .before .before .before .before .before .before .before .before .args .bench) refl refl)) (c .if1 .taken) refl refl, omega arith), c .before .before .before .before .before .before .before .before .before .before .pre .1 .0)
 
 receive-at-requires : tie.Need-receive-at-requires
-receive-at-requires c κs = let h = delivery-told (Given (c .before .before .before .before .before .before .before .before .before .before .before .before .before .before .before)) _ _ (same (c .before .before .before .before .before .before .before .before .before .before .before .before .before .before .before) _ (c .before .before .before .before .before .before .deliver-refusal .ensures (c .before .before .before .before .before .before .before .before .before .before .before .before .before .before .before .args .bench) refl refl)) (c .before .before .before .before .before .if1 .left) in ((c .before .before .before .before .before .before .before .before .before .before .before .before .before .before .before .pre .0, h .listed), c .before .before .before .before .before .before .before .before .before .before .before .before .before .before .before .pre .1)
+receive-at-requires c κs =
+    let h = arrives (c .before .before .before .before .before .before .before .before .before .before .before .before) in
+    let here = c .before .before .before .before .before .before .arrival-state .ensures in (
+      (rw (ap (λ (n : EndState). n .end) here) (h .end), rw (ap (λ (n : EndState). n .view) here) (h .view), le-of-eq (sym (placed (c .before .before .before .before .before .before .before .before .before .before .before .before .before .before .before .before .before .before .before .before .before .before))), h .costs, c .before .before .before .before .before .before .before .before .before .before .before .before .before .before .before .before .before .before .before .before .before .before .pre .1 .0),
+      (h .place, h .long, h .fits, ap (λ (n : EndState). n .end) here),
+    )
 
 take-out-requires : tie.Need-take-out-requires
-take-out-requires c κs = let h = delivery-told (Given (c .before .before .before .before .before .before .before .before .before .before .before .before .before .before .before .before .before .before .before .before .before .before .before .before .before)) _ _ (same (c .before .before .before .before .before .before .before .before .before .before .before .before .before .before .before .before .before .before .before .before .before .before .before .before .before) _ (c .before .before .before .before .before .before .before .before .before .before .before .before .before .before .before .before .deliver-refusal .ensures (c .before .before .before .before .before .before .before .before .before .before .before .before .before .before .before .before .before .before .before .before .before .before .before .before .before .args .bench) refl refl)) (c .before .before .before .before .before .before .before .before .before .before .before .before .before .before .before .if1 .left) in (h .listed, h .count, h .long)
+take-out-requires c κs = let h = delivery-told (Given (c .before .before .before .before .before .before .before .before .before .before .before .before .before .before .before .before .before .before .before .before .before .before .before .before .before .before .before .before .before .before .before .before)) _ _ (same (c .before .before .before .before .before .before .before .before .before .before .before .before .before .before .before .before .before .before .before .before .before .before .before .before .before .before .before .before .before .before .before .before) _ (c .before .before .before .before .before .before .before .before .before .before .before .before .before .before .before .before .before .before .before .before .before .before .before .deliver-refusal .ensures (c .before .before .before .before .before .before .before .before .before .before .before .before .before .before .before .before .before .before .before .before .before .before .before .before .before .before .before .before .before .before .before .before .args .bench) refl refl)) (c .before .before .before .before .before .before .before .before .before .before .before .before .before .before .before .before .before .before .before .before .before .before .if1 .left) in (h .listed, h .count, h .long)
 
 same-length-2 : tie.Need-same-length-2
-same-length-2 c = c .before .before .before .before .before .before .before .before .before .before .before .before .receive-at .kept .1 .1 .0
+same-length-2 c = c .before .before .before .before .before .before .before .before .before .before .before .before .receive-at .kept .1 .1 .1 .1 .1 .1 .0
 
 same-length-3 : tie.Need-same-length-3
-same-length-3 c = c .before .before .before .before .before .before .before .before .before .before .before .before .receive-at .kept .1 .1 .1 .0
+same-length-3 c = c .before .before .before .before .before .before .before .before .before .before .before .before .receive-at .kept .1 .1 .1 .1 .1 .1 .1 .0
 
 same-length-4 : tie.Need-same-length-4
-same-length-4 c = c .before .before .before .before .before .before .before .before .before .before .before .before .receive-at .kept .1 .1 .1 .1 .0
+same-length-4 c = c .before .before .before .before .before .before .before .before .before .before .before .before .receive-at .kept .1 .1 .1 .1 .1 .1 .1 .1 .0
 
 returns-2 : tie.Need-returns-2
-returns-2 c = ((deliver-done (Given (c .before .before .before .before .before .before .before .before .before .before .before .before .before .before .before .before .before .before .before .before .before .before .before .before .before .before .before .before)) _ _ (same (c .before .before .before .before .before .before .before .before .before .before .before .before .before .before .before .before .before .before .before .before .before .before .before .before .before .before .before .before) _ (c .before .before .before .before .before .before .before .before .before .before .before .before .before .before .before .before .before .before .before .deliver-refusal .ensures (c .before .before .before .before .before .before .before .before .before .before .before .before .before .before .before .before .before .before .before .before .before .before .before .before .before .before .before .before .args .bench) refl refl)) (c .before .before .before .before .before .before .before .before .before .before .before .before .before .before .before .before .before .before .if1 .left) (c .before .before .before .before .before .before .before .before .before .before .before .before .receive-at .ensures .0 .0) (reception-counted (c .before .before .before .before .before .before .before .before .before .before .before .before .receive-at .result) (c .before .before .before .before .before .before .before .before .before .before .before .before .before .before .before .before .before .before .before .before .before .before .before .before .before .before .before .before .args .bench) (c .before .before .before .before .before .before .before .before .before .before .before .before .before .before .before .before .before .before .before .before .before .before .before .before .before .before .before .before .args .bench .messages) _ (c .before .before .before .before .before .before .before .before .before .before .before .before .receive-at .ensures .0 .1)) (c .before .before .take-out .ensures), reception-told (c .before .before .before .before .before .before .before .before .before .before .before .before .receive-at .result) (c .before .before .before .before .before .before .before .before .before .before .before .before .receive-at .ensures .0 .1)), c .before .before .before .before .before .before .before .before .before .before .before .before .receive-at .ensures .1)
+returns-2 c = ((deliver-done (Given (c .before .before .before .before .before .before .before .before .before .before .before .before .before .before .before .before .before .before .before .before .before .before .before .before .before .before .before .before .before .before .before .before .before .before .before)) _ _ (same (c .before .before .before .before .before .before .before .before .before .before .before .before .before .before .before .before .before .before .before .before .before .before .before .before .before .before .before .before .before .before .before .before .before .before .before) _ (c .before .before .before .before .before .before .before .before .before .before .before .before .before .before .before .before .before .before .before .before .before .before .before .before .before .before .deliver-refusal .ensures (c .before .before .before .before .before .before .before .before .before .before .before .before .before .before .before .before .before .before .before .before .before .before .before .before .before .before .before .before .before .before .before .before .before .before .before .args .bench) refl refl)) (c .before .before .before .before .before .before .before .before .before .before .before .before .before .before .before .before .before .before .before .before .before .before .before .before .before .if1 .left) (taken (c .before .before .before .before .before .before .before .before .before .before .before .before) .0) (reception-counted (c .before .before .before .before .before .before .before .before .before .before .before .before .receive-at .result) (c .before .before .before .before .before .before .before .before .before .before .before .before .before .before .before .before .before .before .before .before .before .before .before .before .before .before .before .before .before .before .before .before .before .before .before .args .bench) (c .before .before .before .before .before .before .before .before .before .before .before .before .before .before .before .before .before .before .before .before .before .before .before .before .before .before .before .before .before .before .before .before .before .before .before .args .bench .messages) _ (taken (c .before .before .before .before .before .before .before .before .before .before .before .before) .1)) (c .before .before .take-out .ensures), reception-told (c .before .before .before .before .before .before .before .before .before .before .before .before .receive-at .result) (taken (c .before .before .before .before .before .before .before .before .before .before .before .before) .1)), c .before .before .before .before .before .before .before .before .before .before .before .before .receive-at .ensures .1)
 
 same-length-5 : tie.Need-same-length-5
-same-length-5 c = c .before .before .before .before .before .before .before .before .before .before .before .before .receive-at .kept .1 .1 .1 .1 .1 .0
+same-length-5 c = c .before .before .before .before .before .before .before .before .before .before .before .before .receive-at .kept .1 .1 .1 .1 .1 .1 .1 .1 .1 .0
 
 same-length-6 : tie.Need-same-length-6
 same-length-6 c = c .before .before .take-out .kept .0
+
+slice-aggregate-arrival-state : tie.Need-slice-aggregate-arrival-state
+slice-aggregate-arrival-state c = sym (placed (c .before .before .before .before .before .before .before .before .before .before .before .before .before .before))
+
+arrival-state-requires : tie.Need-arrival-state-requires
+arrival-state-requires c κs = let h = arrives (c .before .before .before .before .before) in ((h .place, h .long, h .arrives, le-of-eq (sym (placed (c .before .before .before .before .before .before .before .before .before .before .before .before .before .before .before)))), h .bridge)
+
+slice-aggregate-receive-at : tie.Need-slice-aggregate-receive-at
+slice-aggregate-receive-at c = sym (placed (c .before .before .before .before .before .before .before .before .before .before .before .before .before .before .before .before .before))
 
 pub deliver-ready-spec : {M : Type 1} → statement M
 deliver-ready-spec =
@@ -63,6 +99,9 @@ deliver-ready-spec =
     deliver-refusal-requires
     same-length
     returns
+    slice-aggregate-arrival-state
+    arrival-state-requires
+    slice-aggregate-receive-at
     receive-at-requires
     take-out-requires
     same-length-2

@@ -1,6 +1,17 @@
 -- `messages::repeat` meets its contract: out of range, or `repeat_ready`, and then the bench with what it took. Assumes nothing.
 use native.Mathlib.Omega.{arith}
-use mathlib.Core.Path.{sym, _∙_, refl}
+use Prim.Native.Nat.{ℕ}
+use mathlib.Core.Path.{_≡_, sym, _∙_, refl, ap}
+use mathlib.Core.Bool.{true}
+use borrow.Author.Needs.{needs}
+use lib.ListN.{length, getD}
+use Rattle.agreement.proofs.Basics.{getD-default}
+use Rattle.agreement.specs.Record.{freshRecord}
+use Rattle.bench.specs.Deliveries.{deliveryReady}
+use Rattle.bench.proofs.ChangeSteps.{length-mapped}
+use Rattle.bench.proofs.ChoiceReads.{record-fits}
+use Rattle.bench.proofs.TieRanges.{told}
+use Rattle.bench.proofs.ArrivalSteps.{arrival-told}
 use borrow.Author.Tests.{not-true, not-false}
 use Rattle.bench.specs.State.{State, state}
 use Rattle.bench.proofs.TieRefusals.{refusal-out}
@@ -11,7 +22,14 @@ use Rattle.bench.proofs.messages.repeat.Tie as tie
 
 -- what is handed over
 abbrev Given : tie.Start → State
-Given s = let a = s .args in state (a .bench) (a .costs .now) (a .sent .now) (a .held .now) (a .messages .now)
+Given s = let a = s .args in state (a .t1) (a .costs .now) (a .sent .now) (a .held .now) (a .messages .now)
+
+-- as many records as the type says
+listed : (s : tie.Start) → length (s .args .t1 .records) ≡ 64
+listed s = search (needs, length-mapped)
+
+inside : (c : tie.Else1) → deliveryReady (Given (c .before .before .before .before .before .before)) ≡ true
+inside c = sym (c .before .delivery-in-range .ensures) ∙ not-false _ (c .if1 .left)
 
 delivery-in-range-requires : tie.Need-delivery-in-range-requires
 delivery-in-range-requires c κs = tt
@@ -23,13 +41,19 @@ returns : tie.Need-returns
 returns c = repeat-refused (Given (c .before .before .before .before .before .before .before)) _ 17 (refusal-out _ _ _ (sym (c .before .before .delivery-in-range .ensures) ∙ not-true _ (c .before .if1 .taken))) (λ z. omega arith) (c .refused-delivery .ensures .0) (c .refused-delivery .ensures .1)
 
 repeat-ready-requires : tie.Need-repeat-ready-requires
-repeat-ready-requires c κs = (sym (c .before .before .before .before .before .delivery-in-range .ensures) ∙ not-false _ (c .before .before .before .before .if1 .left), tables-none (c .before .before .before .before .before .before .before .before .before .before .args .bench) _)
+repeat-ready-requires c κs = let a = c .before .before .before .before .before .before .before .before .before .before .before .before .args in (
+  inside (c .before .before .before .before .before .before),
+  (
+    tables-none (a .t1) _,
+    λ there. getD-default (a .t1 .records) (c .before .before .before .before .before .receiving-end .result) _ freshRecord (rw (listed (c .before .before .before .before .before .before .before .before .before .before .before .before)) (c .before .before .before .before .before .receiving-end .ensures .0)) ∙ ap (λ (e : ℕ). getD (a .t1 .records) e freshRecord) (c .before .before .before .before .before .receiving-end .ensures .1 there),
+  ),
+)
 
 same-length : tie.Need-same-length
-same-length c = c .before .before .before .before .before .before .before .repeat-ready .kept .1 .1 .1 .1 .0
+same-length c = c .before .before .before .before .before .before .before .repeat-ready .kept .1 .1 .1 .1 .1 .0
 
 same-length-2 : tie.Need-same-length-2
-same-length-2 c = c .before .before .before .before .before .before .before .repeat-ready .kept .1 .1 .1 .1 .1 .0
+same-length-2 c = c .before .before .before .before .before .before .before .repeat-ready .kept .1 .1 .1 .1 .1 .1 .0
 
 returns-2 : tie.Need-returns-2
 returns-2 c = rw (c .taken .ensures .0, c .taken .ensures .1) (c .before .before .before .before .before .before .before .repeat-ready .ensures .0 .0)
@@ -43,6 +67,15 @@ slice-aggregate-repeat-ready c = refl
 slice-aggregate-repeat-ready-2 : tie.Need-slice-aggregate-repeat-ready-2
 slice-aggregate-repeat-ready-2 c = refl
 
+receiving-end-requires : tie.Need-receiving-end-requires
+receiving-end-requires c κs = let s : tie.Start = (c .before .before .before .before .before .before) in let h = told (Given s) (inside (c)) in (h .count, h .messagesLong, λ there. arrival-told (Given s) (inside (c)) _ there .arrives)
+
+mul-old : tie.Need-mul-old
+mul-old c = record-fits (c .receiving-end .ensures .0)
+
+element-copy-out-old : tie.Need-element-copy-out-old
+element-copy-out-old c = c .receiving-end .ensures .0
+
 pub repeat-spec : {M : Type 1} → statement M
 repeat-spec =
     tie.close
@@ -50,6 +83,9 @@ repeat-spec =
     delivery-in-range-requires
     refused-delivery-requires
     returns
+    receiving-end-requires
+    mul-old
+    element-copy-out-old
     slice-aggregate-repeat-ready
     slice-aggregate-repeat-ready-2
     repeat-ready-requires

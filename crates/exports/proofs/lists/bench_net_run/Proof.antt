@@ -3,6 +3,7 @@
 use Rattle.exports.proofs.Entry.{passed, failed, room}
 use Rattle.exports.specs.Lists.{withMade, countsOf, listedIn, netRunReply}
 use Prim.Native.Nat.{ℕ, _≤_}
+use native.Mathlib.Omega.{arith}
 use mathlib.Core.Path.{_≡_}
 use mathlib.Core.Bool.{true}
 use mathlib.Core.List.{List, [], _∷_}
@@ -12,6 +13,7 @@ use lib.Seq.{sets}
 use Rattle.bench.specs.State.{state}
 use Rattle.bench.specs.Batches.{BatchOutcome, refusalIn, batchOf}
 use Rattle.plan.specs.Events.{Listing, bytesBy}
+use Rattle.plan.proofs.EventLaws.{listed}
 use Rattle.exports.specs.Call.{callOutcome}
 use Rattle.exports.specs.Network.{holdsBench, benchIn}
 use borrow.Author.Needs.{needs}
@@ -65,6 +67,11 @@ read-events-requires c κs = search needs
 array-read-count : tie.Need-array-read-count
 array-read-count c = search needs
 
+cast-count : tie.Need-cast-count
+cast-count c =
+    let l = listed _ _ _ _ (c .before .read-events .ensures) in
+    record { fits = omega (arith, l .count, l .few) }
+
 run-requires : tie.Need-run-requires
 run-requires c κs = search needs
 
@@ -114,6 +121,7 @@ bench-net-run-spec =
     slice-aggregate-read-events
     read-events-requires
     array-read-count
+    cast-count
     run-requires
     slice-aggregate-bytes-of
     bytes-of-requires

@@ -11,16 +11,17 @@ use lib.Dec.{ltb}
 use Rattle.distances.proofs.Booleans.{both-true}
 use Rattle.bench.proofs.BatchTurns.{behind-all}
 use Rattle.plan.specs.Events.{eventsAt, listing, eventsReply}
+use Rattle.plan.proofs.EventLaws.{listed-within}
 use Rattle.plan.proofs.EventTurns.{Underway, Turned, begins, most-within, turned, ended, remaining, shrinks}
 use Rattle.plan.proofs.events.read_events.Statement.{statement}
 use Rattle.plan.proofs.events.read_events.Tie as tie
 
 abbrev Inv-loop : tie.InvT-loop
-Inv-loop rest p room ends₀ events₀ most left₀ at₀ count₀ going₀ ends events left at count going =
+Inv-loop rest p room ends₀ going₀ events₀ most left₀ at₀ count₀ ends going events left at count =
     Underway (eventsAt most p room 0 rest) rest p most ends₀ ends events left at count going
 
 abbrev μ-loop : tie.MeasureT-loop
-μ-loop rest p room ends₀ events₀ most left₀ at₀ count₀ going₀ ends events left at count going = remaining most count going
+μ-loop rest p room ends₀ going₀ events₀ most left₀ at₀ count₀ ends going events left at count = remaining most count going
 
 goes : {b going : Bool} {count most : ℕ} → b ≡ (going && ltb count most) → b ≡ true → (going ≡ true) × (count < most)
 goes e taken = let h = both-true _ _ (sym e ∙ taken) in (h .0, ltb-true _ _ (h .1))
@@ -38,27 +39,30 @@ module _ (c : tie.Then1 Inv-loop μ-loop) where
 
   within :
       let most = c .before .before .before .most-listed .result in
-      (most ≤ 2048) × (most < length (c .before .before .before .before .before .before .args .ends .now))
+      (most ≤ 2048) × (most < length (c .before .before .before .before .before .before .before .args .ends .now))
   within = most-within _ _ _ (c .before .before .before .most-listed .ensures) more
 
 -- what is known after it
 turn :
     (c : tie.After-next-event Inv-loop μ-loop) →
     let l = c .before .before .before .before .loop in
-    let a = c .before .before .before .before .before .before .before .before .args in
+    let a = c .before .before .before .before .before .before .before .before .before .args in
     let most = c .before .before .before .before .before .most-listed .result in
     Turned (eventsAt most (a .p) (a .room) 0 (a .rest .now)) (a .rest .now) (a .p) most (a .ends .now) (l .ends) (l .events) (l .left) (l .at) (l .count) (c .next-event .result)
 turn c =
     let l = c .before .before .before .before .loop in
-    let rest = c .before .before .before .before .before .before .before .before .args .rest .now in
+    let rest = c .before .before .before .before .before .before .before .before .before .args .rest .now in
     turned _ _ _ _ _ _ _ _ _ _ (rw (on (c .before .before)) at (l .inv)) (more (c .before .before)) (c .before .before .before .before .before .most-listed .ensures) _
     (c .next-event .ensures ∙ rw (behind-all rest (l .at)))
+
+progress-in-range-requires : tie.Need-progress-in-range-requires Inv-loop μ-loop
+progress-in-range-requires c κs = search needs
 
 most-listed-requires : tie.Need-most-listed-requires Inv-loop μ-loop
 most-listed-requires c κs = search needs
 
 loop-holds : tie.Need-loop-holds Inv-loop μ-loop
-loop-holds c = begins _ _ _ _ _
+loop-holds c = begins _ _ _ _ _ _ (c .before .progress-in-range .ensures)
 
 both-requires : tie.Need-both-requires Inv-loop μ-loop
 both-requires c κs = search needs
@@ -73,7 +77,7 @@ part-next-event-end : tie.Need-part-next-event-end Inv-loop μ-loop
 part-next-event-end c = search needs
 
 next-event-requires : tie.Need-next-event-requires Inv-loop μ-loop
-next-event-requires c κs = search needs
+next-event-requires c κs = c .before .before .before .loop .inv .ranged (on (c .before))
 
 mul-events : tie.Need-mul-events Inv-loop μ-loop
 mul-events c = record { fits = omega (arith, more (c .before .before), within (c .before .before) .0) }
@@ -82,7 +86,7 @@ array-set-from-events : tie.Need-array-set-from-events Inv-loop μ-loop
 array-set-from-events c = omega (arith, more (c .before .before), within (c .before .before) .0)
 
 add-at : tie.Need-add-at Inv-loop μ-loop
-add-at c = record { fits = omega (arith, turn c .then .within, c .before .before .before .before .before .before .before .before .good) }
+add-at c = record { fits = omega (arith, turn c .then .within, c .before .before .before .before .before .before .before .before .before .good) }
 
 sub-left : tie.Need-sub-left Inv-loop μ-loop
 sub-left c = turn (c .before) .size
@@ -93,6 +97,12 @@ counted-requires c κs = omega (arith, more (c .before .before .before), within 
 -- the count after it
 counted-few : (c : tie.After-counted Inv-loop μ-loop) → c .counted .result ≤ c .before .before .before .before .before .before .before .most-listed .result
 counted-few c = rw (c .counted .ensures) (turn (c .before .before) .then .few)
+
+-- it and the bytes so far fit 16 bits
+cast-ends : tie.Need-cast-ends Inv-loop μ-loop
+cast-ends c =
+    let then = turn (c .before .before) .then in
+    record { fits = omega (arith, then .short, then .few, within (c .before .before .before .before) .0) }
 
 mul-ends : tie.Need-mul-ends Inv-loop μ-loop
 mul-ends c = record { fits = omega (arith, counted-few c, within (c .before .before .before .before) .0) }
@@ -107,6 +117,11 @@ loop-less c =
 loop-again : tie.Need-loop-again Inv-loop μ-loop
 loop-again c = rw (c .counted .ensures) (turn (c .before .before) .then)
 
+cast-ends-2 : tie.Need-cast-ends-2 Inv-loop μ-loop
+cast-ends-2 c =
+    let l = c .before .before .before .loop in
+    record { fits = omega (arith, l .inv .few, c .before .before .before .before .most-listed .ensures, listed-within (length (c .before .before .before .before .before .before .before .before .args .ends .now)) .0) }
+
 slice-write-ends-2 : tie.Need-slice-write-ends-2 Inv-loop μ-loop
 slice-write-ends-2 c = search needs
 
@@ -114,7 +129,7 @@ slice-write-ends-2 c = search needs
 finished :
     (c : tie.Else1 Inv-loop μ-loop) →
     let l = c .before .before .loop in
-    let a = c .before .before .before .before .before .before .args in
+    let a = c .before .before .before .before .before .before .before .args in
     listing (l .events) (set (l .ends) 0 (l .count)) ≡ eventsReply (a .rest .now) (a .p) (a .room) (a .ends .now)
 finished c =
     let l = c .before .before .loop in
@@ -138,6 +153,7 @@ read-events-spec =
     (tie.spec
     Inv-loop
     μ-loop
+    progress-in-range-requires
     most-listed-requires
     loop-holds
     both-requires
@@ -150,10 +166,12 @@ read-events-spec =
     add-at
     sub-left
     counted-requires
+    cast-ends
     mul-ends
     slice-write-ends
     loop-less
     loop-again
+    cast-ends-2
     slice-write-ends-2
     same-length
     returns

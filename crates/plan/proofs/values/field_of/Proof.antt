@@ -11,41 +11,36 @@ byte-at-requires c κs = search needs
 value-at-requires : tie.Need-value-at-requires
 value-at-requires c κs = search needs
 
+returns : tie.Need-returns
+unfolding fieldOf
+returns c = rw (← c .before .before .byte-at .ensures, c .before .if1 .taken, ← c .value-at .ensures)
+
 value-at-requires-2 : tie.Need-value-at-requires-2
 value-at-requires-2 c κs = search needs
 
-returns : tie.Need-returns
-unfolding fieldOf
-returns c = rw (← c .before .before .before .byte-at .ensures, c .if1 .taken, ← c .before .before .value-at .ensures)
+value-at-requires-3 : tie.Need-value-at-requires-3
+value-at-requires-3 c κs = search needs
 
 returns-2 : tie.Need-returns-2
 unfolding fieldOf
-returns-2 c =
-    rw (
-      ← c .before .before .before .before .byte-at .ensures,
-      c .if2 .taken,
-      ← c .before .before .before .value-at .ensures,
-      ← c .before .before .value-at2 .ensures,
-    )
+returns-2 c = rw (← c .before .before .before .before .byte-at .ensures, c .before .before .if2 .taken, ← c .before .value-at2 .ensures, ← c .value-at3 .ensures)
 
 returns-3 : tie.Need-returns-3
 unfolding fieldOf
-returns-3 c = rw (← c .before .before .before .before .before .byte-at .ensures, c .if3 .taken)
+returns-3 c = rw (← c .before .before .before .byte-at .ensures, c .if3 .taken)
 
-event-of-requires : tie.Need-event-of-requires
-event-of-requires c κs = search needs
+event-in-requires : tie.Need-event-in-requires
+event-in-requires c κs = search needs
 
 returns-4 : tie.Need-returns-4
 unfolding fieldOf
 returns-4 c =
     rw (
-      ← c .before .before .before .before .before .before .byte-at .ensures,
+      c .event-in .ensures,
+      ← c .before .before .before .before .byte-at .ensures,
       ne-eqb _ 1 (c .before .before .before .if1 .left),
       ne-eqb _ 2 (c .before .before .if2 .left),
       ne-eqb _ 3 (c .before .if3 .left),
-      ← c .before .before .before .before .before .value-at .ensures,
-      ← c .before .before .before .before .value-at2 .ensures,
-      c .event-of .ensures,
     )
 
 pub field-of-spec : {M : Type 1} → statement M
@@ -54,9 +49,10 @@ field-of-spec =
     (tie.spec
     byte-at-requires
     value-at-requires
-    value-at-requires-2
     returns
+    value-at-requires-2
+    value-at-requires-3
     returns-2
     returns-3
-    event-of-requires
+    event-in-requires
     returns-4)

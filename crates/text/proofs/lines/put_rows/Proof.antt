@@ -42,7 +42,8 @@ shared-slice-read-put-row-2 : tie.Need-shared-slice-read-put-row-2 Inv-loop μ-l
 shared-slice-read-put-row-2 c = omega arith
 
 put-row-requires : tie.Need-put-row-requires Inv-loop μ-loop
-put-row-requires c κs = omega (arith, same-length-of (c .before .before .before .before .loop .inv .1), length-rowLines (c .before .before .before .before .before .before .before .args .rows .now) (c .before .before .before .before .loop .y))
+put-row-requires c κs =
+    omega (arith, same-length-of (c .before .before .before .before .loop .inv .1), length-rowLines (c .before .before .before .before .before .before .before .args .rows .now) (c .before .before .before .before .loop .y) (omega arith))
 
 add-y : tie.Need-add-y Inv-loop μ-loop
 add-y c = omega arith

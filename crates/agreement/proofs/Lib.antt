@@ -9,7 +9,7 @@ pub mod Forwards
 pub mod PortCong
 pub mod Direction
 pub mod Directions
-pub mod Told
+pub mod Informed
 pub mod RecordLaws
 pub mod InRange
 pub mod Outcomes

@@ -13,6 +13,8 @@ use crate::rows;
 use crate::sizes::ENDS;
 use crate::sizes::LIMITS;
 use distances::ready::both;
+use distances::sizes::MAX_COST;
+use distances::sizes::TABLE;
 ghost use mathlib.Core.Path.{_≡_};
 ghost use mathlib.Core.Bool.{_&&_, not};
 ghost use lib.Dec.{eqb, leb, ltb};
@@ -36,7 +38,7 @@ fn between_in_range(
     let limits = both(end < ENDS, both(LIMITS <= sent, LIMITS <= held));
     let rest = both(
         near != far,
-        both(cost <= 16777215, both(256 <= table, limits)),
+        both(cost <= MAX_COST, both(TABLE <= table, limits)),
     );
     both(
         2 <= bridges,

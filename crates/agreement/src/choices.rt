@@ -6,6 +6,8 @@ use crate::Forwarding;
 use crate::Port;
 use crate::ready::either;
 use distances::ready::both;
+use distances::sizes::MAX_COST;
+use distances::sizes::NONE;
 ghost use mathlib.Core.Path.{_≡_};
 ghost use mathlib.Core.Bool.{_&&_, not, cond};
 ghost use Prim.Native.Nat.{_+_};
@@ -13,8 +15,6 @@ ghost use lib.Dec.{eqb, leb};
 ghost use Rattle.distances.specs.View.{NONE};
 ghost use Rattle.agreement.specs.Call.{forwardingSays};
 ghost use Rattle.agreement.specs.Choice.{firstChoice, nextChoice, portBy, chosenSays, nextOutcome, choiceOutcome};
-
-const NONE: u32 = 4294967295;
 
 // The choice of a bridge at this distance from the destination, before any end.
 pub fn first_choice(distance: u32, is_destination: bool) -> Choice
@@ -92,7 +92,7 @@ pub fn next_choice(
 ) -> Chosen
     ensures { λ r. ⌜ chosenSays r ≡ nextOutcome old link cost far cut holding sent held ⌝ }
 {
-    if both(link < 32, cost <= 16777215) {
+    if both(link < 32, cost <= MAX_COST) {
         Chosen::So(choice_with(old, link, cost, far, cut, holding, sent, held))
     } else {
         Chosen::Refused

@@ -1,6 +1,7 @@
 // The rows of limits: one function rewrites a row, whatever becomes of it, and it is lent a row that starts inside the limit table.
 use crate::Rewrite;
 use crate::ready::opposite_end;
+use distances::sizes::NONE;
 ghost use mathlib.Core.Path.{_≡_};
 ghost use Prim.Native.Nat.{_*_, _≤_, _<_};
 ghost use lib.ListN.{length, getD};
@@ -10,8 +11,6 @@ ghost use Rattle.agreement.specs.Offer.{opposite};
 ghost use Rattle.agreement.specs.Limits.{withLimits, limitAfter, rowAfter, limitOf};
 ghost use Rattle.agreement.specs.Steps.{ViewReady};
 ghost use Rattle.agreement.specs.Call.{viewData, lentOffer};
-
-const NONE: u32 = 4294967295;
 
 pub(crate) fn limit_of(cost: u32, near: u32, far: u32) -> u32
     ensures { λ r. ⌜ r ≡ limitOf cost near far ⌝ }

@@ -22,15 +22,15 @@ use Rattle.bench.specs.declared.Disposition.the-variants.{Complete, Refu
 
 -- ---- one event is made, or nothing is changed
 
-pub record Made (b : Batch) : Type 0 where
+pub record EventMade (b : Batch) : Type 0 where
   pub one : b .made ≡ 1
   pub complete : b .disposition ≡ Complete
 
-pub record Unmade (s : State) (b : Batch) : Type 0 where
+pub record EventUnmade (s : State) (b : Batch) : Type 0 where
   pub none : b .made ≡ 0
   pub same : b ≡ batch 0 (b .disposition) s []
 
-pub made-or-not : (room : ℕ) (s : State) (e : Event) → Made (eventBatchIn room s e) ⊎ Unmade s (eventBatchIn room s e)
+pub made-or-not : (room : ℕ) (s : State) (e : Event) → EventMade (eventBatchIn room s e) ⊎ EventUnmade s (eventBatchIn room s e)
 unfolding eventBatchIn eventBatch
 made-or-not room s e = go (ltb room (answerSize (s .bench .bridges) e)) (eqb (replyOf s e) 0)
   where
@@ -38,7 +38,7 @@ made-or-not room s e = go (ltb room (answerSize (s .bench .bridges) e)) (eqb (re
         (full accepted : Bool) →
         let done : Batch = cond accepted (batch 1 Complete (stepBy s (callOf e)) (answersOf s e)) (batch 0 (Refused (replyOf s e)) s []) in
         let b : Batch = cond full (batch 0 Full s []) done in
-        Made b ⊎ Unmade s b
+        EventMade b ⊎ EventUnmade s b
     go true accepted = inr (record { none = refl; same = refl })
     go false true = inl (record { one = refl; complete = refl })
     go false false = inr (record { none = refl; same = refl })
@@ -157,7 +157,7 @@ module _
   so-far : all ≡ onto made pre (batchFrom (length lent) s (e ∷ drop (suc made) events))
   so-far = old .same ∙ rw (events-on, lent-long)
 
-  goes-on : Made b → Underway all events first next (made + m) (answered + n) (pre ++ after) true by
+  goes-on : EventMade b → Underway all events first next (made + m) (answered + n) (pre ++ after) true by
   unfolding batchFrom
   goes-on made-one =
       let one : m ≡ 1 = done .made ∙ made-one .one in
@@ -174,13 +174,13 @@ module _
         complete = λ z. done .disposition ∙ made-one .complete;
       }
 
-  runs-stop : Unmade s b → batchFrom (length lent) s (e ∷ drop (suc made) events) ≡ b
+  runs-stop : EventUnmade s b → batchFrom (length lent) s (e ∷ drop (suc made) events) ≡ b
   unfolding batchFrom
   runs-stop unmade =
       let later : Batch = batchFrom (length lent - length (b .answers)) (b .state) (drop (suc made) events) in
       ap (λ (k : ℕ). cond (eqb k 0) b (batch (suc (later .made)) (later .disposition) (later .state) (b .answers ++ later .answers))) (unmade .none)
 
-  stops : Unmade s b → Underway all events first next (made + m) (answered + n) (pre ++ after) false by
+  stops : EventUnmade s b → Underway all events first next (made + m) (answered + n) (pre ++ after) false by
   stops unmade =
       let zero : m ≡ 0 = done .made ∙ unmade .none in
       let silent : b .answers ≡ [] = ap (λ (x : Batch). x .answers) (unmade .same) in
@@ -201,7 +201,7 @@ module _
   pub turned : Underway all events first next (made + m) (answered + n) (pre ++ after) (eqb m 1) by
   turned = go (made-or-not (length lent) s e)
     where
-      go : Made b ⊎ Unmade s b → Underway all events first next (made + m) (answered + n) (pre ++ after) (eqb m 1) by
+      go : EventMade b ⊎ EventUnmade s b → Underway all events first next (made + m) (answered + n) (pre ++ after) (eqb m 1) by
       go (inl made-one) = rw (done .made, made-one .one) (rw (done .made, made-one .one) at (goes-on made-one))
       go (inr unmade) = rw (done .made, unmade .none) (rw (done .made, unmade .none) at (stops unmade))
 

@@ -19,7 +19,7 @@ use Rattle.agreement.proofs.Outcomes.{deliver-accepted}
 use Rattle.bench.specs.State.{State, state, lentView, messageFrom}
 use Rattle.bench.specs.Flights.{withCount}
 use Rattle.bench.specs.Deliveries.{arrivalEnd, deliveryOutcome, benchWithRecords, deliveryAt, deliveryReady, received}
-use Rattle.bench.specs.Effects.{receptionBench, Accepts, ReceptionTold, Takes, StandsIn}
+use Rattle.bench.specs.Effects.{receptionBench, Accepts, ReceptionFits, Takes, StandsIn}
 use Rattle.bench.specs.Steps.{IsFilled, TablesOf}
 use Rattle.bench.specs.declared.Bench.{Bench}
 use Rattle.bench.specs.declared.effects.EndState.{EndState}
@@ -140,6 +140,6 @@ pub reception-counted : (r : Reception) (b : Bench) (k n : ℕ) → Accepts r �
 reception-counted (Reception.Refused j) b k n none = absurd none
 reception-counted (Reception.Accepted a e after) b k n low = refl
 
-pub reception-told : (r : Reception) → Accepts r → ReceptionTold r
+pub reception-told : (r : Reception) → Accepts r → ReceptionFits r
 reception-told (Reception.Refused j) none = absurd none
 reception-told (Reception.Accepted a e after) low = low

@@ -21,7 +21,7 @@ use Rattle.bench.specs.Deliveries.{arrivalEnd, refusedBy, benchWithRecor
 use Rattle.bench.specs.declared.Bench.{Bench}
 use Rattle.bench.specs.declared.Disposition.the-variants.{Complete, Refused}
 use Rattle.bench.specs.declared.effects.Effect.{Effect}
-use Rattle.bench.specs.declared.effects.Queue.{Queue}
+use Rattle.bench.specs.declared.effects.Queueing.{Queueing}
 use Rattle.bench.specs.declared.effects.Reception.{Reception}
 use Rattle.bench.specs.declared.effects.Updating.{Updating}
 use Rattle.bench.specs.declared.effects.EventResult.{EventResult}
@@ -30,22 +30,22 @@ use Rattle.bench.specs.declared.Event.{Event}
 use Rattle.bench.specs.declared.Event.the-variants.{Update, Send, Deliver, Repeat, Lose, Cut, Restore, Report, Path}
 
 -- a send or a loss: its number, the bench, what becomes of it
-abbrev pub queueNumber : Queue → ℕ
-queueNumber (Queue.Refused k) = k
-queueNumber (Queue.Length n) = 0
+abbrev pub queueingNumber : Queueing → ℕ
+queueingNumber (Queueing.Refused k) = k
+queueingNumber (Queueing.Length n) = 0
 
-abbrev pub queueBench : Queue → Bench → Bench
-queueBench (Queue.Refused k) b = b
-queueBench (Queue.Length n) b = withCount b n
+abbrev pub queueingBench : Queueing → Bench → Bench
+queueingBench (Queueing.Refused k) b = b
+queueingBench (Queueing.Length n) b = withCount b n
 
-abbrev pub queueEffect : Queue → Effect
-queueEffect (Queue.Refused k) = Effect.Same
-queueEffect (Queue.Length n) = Effect.Flight n
+abbrev pub queueingEffect : Queueing → Effect
+queueingEffect (Queueing.Refused k) = Effect.Same
+queueingEffect (Queueing.Length n) = Effect.Flight n
 
 -- no refusal has the number 0
-abbrev pub QueueTold : Queue → Type 0
-QueueTold (Queue.Refused k) = 0 < k
-QueueTold (Queue.Length n) = Unit {0}
+abbrev pub QueueingFits : Queueing → Type 0
+QueueingFits (Queueing.Refused k) = 0 < k
+QueueingFits (Queueing.Length n) = Unit {0}
 
 -- a delivery or a repeat: what it says, the bench with so many messages in flight
 abbrev pub receptionSays : Reception → Response Answer
@@ -65,9 +65,9 @@ abbrev pub Accepts : Reception → Type 0
 Accepts (Reception.Refused k) = ⊥
 Accepts (Reception.Accepted a e r) = e < 64
 
-abbrev pub ReceptionTold : Reception → Type 0
-ReceptionTold (Reception.Refused k) = 0 < k
-ReceptionTold (Reception.Accepted a e r) = e < 64
+abbrev pub ReceptionFits : Reception → Type 0
+ReceptionFits (Reception.Refused k) = 0 < k
+ReceptionFits (Reception.Accepted a e r) = e < 64
 
 -- layer 2 takes what a message carries, at end e
 abbrev pub Takes : State → ℕ → Agreement → Type 0
@@ -142,10 +142,10 @@ pub record CanMove (b : Bench) (known : List Bool) (y t : ℕ) : Type 0 where
   pub number : getD (b .number) y 0 < 65535
   pub filled : getD known t false ≡ true
 
-abbrev pub UpdatingTold : Updating → Bench → List Bool → ℕ → ℕ → Type 0
-UpdatingTold (Updating.Refused k) b known y t = 0 < k
-UpdatingTold Updating.Stays b known y t = Unit {0}
-UpdatingTold Updating.Moves b known y t = CanMove b known y t
+abbrev pub UpdatingFits : Updating → Bench → List Bool → ℕ → ℕ → Type 0
+UpdatingFits (Updating.Refused k) b known y t = 0 < k
+UpdatingFits Updating.Stays b known y t = Unit {0}
+UpdatingFits Updating.Moves b known y t = CanMove b known y t
 
 -- what becomes of a state
 abbrev pub stateOf : State → ChangeOutcome → State
@@ -162,12 +162,12 @@ appliedTo (Effect.Received e r n) s = stateWith s (withCount (benchWithRecords (
 appliedTo (Effect.Moves y t) s = stateOf s (movedTo s y t)
 
 -- it can be carried out
-abbrev pub EffectTold : Effect → Bench → List Bool → Type 0
-EffectTold Effect.Same b known = Unit {0}
-EffectTold (Effect.Flight n) b known = Unit {0}
-EffectTold (Effect.Cut l so) b known = l < 32
-EffectTold (Effect.Received e r n) b known = e < 64
-EffectTold (Effect.Moves y t) b known = CanMove b known y t
+abbrev pub EffectFits : Effect → Bench → List Bool → Type 0
+EffectFits Effect.Same b known = Unit {0}
+EffectFits (Effect.Flight n) b known = Unit {0}
+EffectFits (Effect.Cut l so) b known = l < 32
+EffectFits (Effect.Received e r n) b known = e < 64
+EffectFits (Effect.Moves y t) b known = CanMove b known y t
 
 -- one event of a list, by the number k that its call replied
 abbrev pub eventResult : ℕ → ℕ → Effect → EventResult

@@ -8,7 +8,7 @@ use crate::answers;
 use crate::changes;
 use crate::effects::Effect;
 use crate::effects::EventResult;
-use crate::effects::Queue;
+use crate::effects::Queueing;
 use crate::effects::Reception;
 use crate::effects::Updating;
 use crate::messages::deliver_ready;
@@ -40,7 +40,7 @@ ghost use Rattle.bench.specs.Answers.{WayFits, waySays};
 ghost use Rattle.bench.specs.State.{state, networkOf};
 ghost use Rattle.bench.specs.Batches.{refusalIn, answerNumbers, wayNumbers, answeredNumbers, answerSize, eventBatchIn, batchFrom, batchOutcome, batchOutcomeOf, batchOf};
 ghost use Rattle.bench.specs.Chains.{Chained};
-ghost use Rattle.bench.specs.Effects.{queueNumber, queueEffect, receptionSays, receptionEffect, updatingNumber, updatingEffect, eventResult, appliedTo, EffectTold, LinkFits, HasRecord};
+ghost use Rattle.bench.specs.Effects.{queueingNumber, queueingEffect, receptionSays, receptionEffect, updatingNumber, updatingEffect, eventResult, appliedTo, EffectFits, LinkFits, HasRecord};
 ghost use Rattle.agreement.specs.Record.{freshRecord};
 ghost use Rattle.agreement.specs.declared.EndRecord.{EndRecord};
 ghost use Rattle.bench.specs.declared.Bench.{Bench};
@@ -100,12 +100,12 @@ fn event_result(number: u8, answered: usize, effect: Effect) -> EventResult
     }
 }
 
-fn queue_result(queue: Queue) -> EventResult
-    ensures { λ r. ⌜ r ≡ eventResult (queueNumber queue) 0 (queueEffect queue) ⌝ }
+fn queue_result(queue: Queueing) -> EventResult
+    ensures { λ r. ⌜ r ≡ eventResult (queueingNumber queue) 0 (queueingEffect queue) ⌝ }
 {
     match queue {
-        Queue::Refused(number) => event_result(number, 0, Effect::Same),
-        Queue::Length(count) => event_result(0, 0, Effect::Flight(count)),
+        Queueing::Refused(number) => event_result(number, 0, Effect::Same),
+        Queueing::Length(count) => event_result(0, 0, Effect::Flight(count)),
     }
 }
 
@@ -251,7 +251,7 @@ fn carry_out(
     requires { ⌜ deliveryReady (state bench (now costs) (now sent) (now held) (now flight)) ≡ true ⌝ }
     requires { ⌜ (bench .bridges ≤ 16) × Tables bench (now costs) (now tables) (now known) × Chained (bench .links) (bench .ends) (now chain) × HasRecord event bench (now flight) old ⌝ }
     ensures { λ r. ⌜ Leaves (eventBatchIn (length (now (answers .entry))) (state bench (now (costs .entry)) (now (sent .entry)) (now (held .entry)) (now (flight .entry))) event) (now (answers .entry)) (r .made) (r .disposition) (appliedTo (r .effect) (state bench (now (costs .entry)) (now (sent .exit)) (now (held .exit)) (now (flight .exit)))) (r .answered) (now (answers .exit)) ⌝ }
-    ensures { λ r. ⌜ EffectTold (r .effect) bench (now (known .exit)) × Tables bench (now (costs .entry)) (now (tables .exit)) (now (known .exit)) ⌝ }
+    ensures { λ r. ⌜ EffectFits (r .effect) bench (now (known .exit)) × Tables bench (now (costs .entry)) (now (tables .exit)) (now (known .exit)) ⌝ }
 {
     let size = answer_size(bench.bridges as u8, event);
     if answers.len() < size {

@@ -11,12 +11,13 @@ use crate::sizes::TABLES;
 use crate::tables::end_chains;
 use crate::tables::need_view;
 use crate::updates::moved;
+use distances::sizes::TABLE;
 ghost use mathlib.Core.Path.{_≡_};
 ghost use mathlib.Core.Bool.{true};
 ghost use mathlib.Core.List.{[]};
 ghost use Prim.Native.Nat.{_<_};
 ghost use Rattle.bench.specs.Changes.{number, NoZero, benchOutcome, benchWithCut, cutOf, restoreOf, changeOutcome, stateInRange, updateOf, freshOf};
-ghost use Rattle.bench.specs.Effects.{updatingTo, UpdatingTold};
+ghost use Rattle.bench.specs.Effects.{updatingTo, UpdatingFits};
 ghost use Rattle.bench.specs.State.{State, state};
 ghost use Rattle.bench.specs.Steps.{Ready, Tables};
 
@@ -110,7 +111,7 @@ pub(crate) fn update_ready(
 ) -> Updating
     requires { ⌜ Ready bench (now costs) × Tables bench (now costs) (now tables) (now known) ⌝ }
     ensures { λ r. ⌜ ((s : State) → s .bench ≡ bench → stateInRange s ≡ true → updatingTo r s bridge view ≡ updateOf s bridge view) ⌝ }
-    ensures { λ r. ⌜ UpdatingTold r bench (now (known .exit)) bridge view × Tables bench (now (costs .entry)) (now (tables .exit)) (now (known .exit)) ⌝ }
+    ensures { λ r. ⌜ UpdatingFits r bench (now (known .exit)) bridge view × Tables bench (now (costs .entry)) (now (tables .exit)) (now (known .exit)) ⌝ }
 {
     let at = bench.view;
     let numbers = bench.number;
@@ -144,7 +145,7 @@ pub fn fresh(bench: Bench, costs: &[u32], sent: &mut [u32], held: &mut [u32]) ->
     if !ready::plan_in_range(bench, costs, sent_size, held_size) {
         return refused(17, bench);
     }
-    let mut table = [0u32; 256];
+    let mut table = [0u32; TABLE];
     let ends = bench.ends;
     distances::distances(bench.bridges, bench.links, &ends, &costs[0..32], &mut table);
     initial::start_ends(bench, &costs[0..32], &table, sent, held);

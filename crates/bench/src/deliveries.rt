@@ -8,6 +8,7 @@ use agreement::EndRecord;
 use agreement::Reaction;
 use agreement::between::deliver_between;
 use agreement::ready::opposite_end;
+use distances::sizes::TABLE;
 ghost use mathlib.Core.Path.{_≡_};
 ghost use mathlib.Core.Bool.{true};
 ghost use mathlib.Core.List.{[]};
@@ -64,8 +65,8 @@ fn receive(
     let far = ends[other] as usize;
     let bridge = ends[end] as usize;
     let row = 32 * (view as usize);
-    let block = 256 * (view as usize);
-    let block_past = block + 256;
+    let block = TABLE * (view as usize);
+    let block_past = block + TABLE;
     let taken = deliver_between(
         bridges,
         bridge,

@@ -14,7 +14,7 @@ pub(crate) enum Effect {
 }
 
 // A send or a loss: how many messages are then in flight.
-pub(crate) enum Queue {
+pub(crate) enum Queueing {
     Refused(u8),
     Length(usize),
 }

@@ -6,7 +6,7 @@ use crate::Reaction;
 use crate::Reply;
 use crate::deliveries::arrival_state;
 use crate::deliveries::receive_at;
-use crate::effects::Queue;
+use crate::effects::Queueing;
 use crate::effects::Reception;
 use crate::queue;
 use crate::ready;
@@ -24,7 +24,7 @@ ghost use Rattle.bench.specs.State.{state};
 ghost use Rattle.bench.specs.Ranges.{benchInRange, messagesInRange};
 ghost use Rattle.bench.specs.Flights.{queueOutcome, sendOf, loseOf};
 ghost use Rattle.bench.specs.Deliveries.{reactionSays, deliveryOutcome, deliveryReady, deliverOf, repeatOf};
-ghost use Rattle.bench.specs.Effects.{queueNumber, queueBench, QueueTold, receptionSays, receptionBench, ReceptionTold, HasRecord};
+ghost use Rattle.bench.specs.Effects.{queueingNumber, queueingBench, QueueingFits, receptionSays, receptionBench, ReceptionFits, HasRecord};
 ghost use Rattle.bench.specs.declared.Event.the-variants.{Send, Deliver, Repeat};
 ghost use Rattle.bench.specs.Steps.{Tables};
 
@@ -52,13 +52,13 @@ pub fn send(bench: Bench, messages: &mut [u32], bridge: usize, link: usize) -> C
 }
 
 // The bench with so many messages in flight, or as it was.
-fn queued(bench: Bench, queue: Queue) -> Changed
-    requires { ⌜ QueueTold queue ⌝ }
-    ensures { λ r. ⌜ (benchOutcome (number (r .reply)) (r .bench) ≡ benchOutcome (queueNumber queue) (queueBench queue bench)) × NoZero (r .reply) ⌝ }
+fn queued(bench: Bench, queue: Queueing) -> Changed
+    requires { ⌜ QueueingFits queue ⌝ }
+    ensures { λ r. ⌜ (benchOutcome (number (r .reply)) (r .bench) ≡ benchOutcome (queueingNumber queue) (queueingBench queue bench)) × NoZero (r .reply) ⌝ }
 {
     match queue {
-        Queue::Refused(number) => refused(number, bench),
-        Queue::Length(count) => Changed {
+        Queueing::Refused(number) => refused(number, bench),
+        Queueing::Length(count) => Changed {
             reply: Reply::Done,
             bench: queue::with_count(bench, count),
         },
@@ -72,10 +72,10 @@ pub(crate) fn send_ready(
     messages: &mut [u32],
     bridge: usize,
     link: usize,
-) -> Queue
+) -> Queueing
     requires { ⌜ (benchInRange bench && messagesInRange bench (now messages)) ≡ true ⌝ }
     requires { ⌜ HasRecord (Send bridge link) bench (now messages) old ⌝ }
-    ensures { λ r. ⌜ (queueOutcome (queueNumber r) (queueBench r bench) (now (messages .exit)) ≡ sendOf bench (now (messages .entry)) bridge link) × QueueTold r × ((benchInRange (queueBench r bench) && messagesInRange (queueBench r bench) (now (messages .exit))) ≡ true) ⌝ }
+    ensures { λ r. ⌜ (queueOutcome (queueingNumber r) (queueingBench r bench) (now (messages .exit)) ≡ sendOf bench (now (messages .entry)) bridge link) × QueueingFits r × ((benchInRange (queueingBench r bench) && messagesInRange (queueingBench r bench) (now (messages .exit))) ≡ true) ⌝ }
 {
     let ends = bench.ends;
     let cut = bench.cut;
@@ -90,7 +90,7 @@ pub(crate) fn send_ready(
         link,
     );
     if refusal != 0 {
-        return Queue::Refused(refusal);
+        return Queueing::Refused(refusal);
     }
     let view = bench.view;
     let number = bench.number;
@@ -100,7 +100,7 @@ pub(crate) fn send_ready(
         number[bridge],
         old,
     ) else {
-        return Queue::Refused(17);
+        return Queueing::Refused(17);
     };
     let end = queue::end_of(&ends, bridge, link);
     queue::put(
@@ -112,7 +112,7 @@ pub(crate) fn send_ready(
         carried.number as u32,
         carried.discarded as u32,
     );
-    Queue::Length(count + 1)
+    Queueing::Length(count + 1)
 }
 
 // Takes a message out; later ones move up by one.
@@ -126,17 +126,17 @@ pub fn lose(bench: Bench, messages: &mut [u32], place: usize) -> Changed
 }
 
 // `lose` of what is in range.
-pub(crate) fn lose_ready(bench: Bench, messages: &mut [u32], place: usize) -> Queue
+pub(crate) fn lose_ready(bench: Bench, messages: &mut [u32], place: usize) -> Queueing
     requires { ⌜ (benchInRange bench && messagesInRange bench (now messages)) ≡ true ⌝ }
-    ensures { λ r. ⌜ (queueOutcome (queueNumber r) (queueBench r bench) (now (messages .exit)) ≡ loseOf bench (now (messages .entry)) place) × QueueTold r ⌝ }
+    ensures { λ r. ⌜ (queueOutcome (queueingNumber r) (queueingBench r bench) (now (messages .exit)) ≡ loseOf bench (now (messages .entry)) place) × QueueingFits r ⌝ }
 {
     let count = bench.messages;
     let refusal = refusals::lose_refusal(count, place);
     if refusal != 0 {
-        return Queue::Refused(refusal);
+        return Queueing::Refused(refusal);
     }
     queue::take_out(messages, count, place);
-    Queue::Length(count - 1)
+    Queueing::Length(count - 1)
 }
 
 // One message less, if there is one.
@@ -148,7 +148,7 @@ pub(crate) fn taken_count(count: usize) -> usize
 
 // The bench with the end's record and so many messages in flight, or as it was.
 fn taken(bench: Bench, reception: Reception, count: usize) -> Delivered
-    requires { ⌜ ReceptionTold reception ⌝ }
+    requires { ⌜ ReceptionFits reception ⌝ }
     ensures { λ r. ⌜ (reactionSays (r .reply) ≡ receptionSays reception) × (r .bench ≡ receptionBench reception bench count) ⌝ }
 {
     match reception {
@@ -212,7 +212,7 @@ pub(crate) fn deliver_ready(
 ) -> Reception
     requires { ⌜ deliveryReady (state bench (now costs) (now sent) (now held) (now messages)) ≡ true ⌝ }
     requires { ⌜ Tables bench (now costs) (now tables) (now known) × HasRecord (Deliver place) bench (now messages) old ⌝ }
-    ensures { λ r. ⌜ (deliveryOutcome (receptionSays r) (receptionBench r bench (bench .messages - 1)) (now (sent .exit)) (now (held .exit)) (now (messages .exit)) ≡ deliverOf (state bench (now (costs .entry)) (now (sent .entry)) (now (held .entry)) (now (messages .entry))) place) × ReceptionTold r ⌝ }
+    ensures { λ r. ⌜ (deliveryOutcome (receptionSays r) (receptionBench r bench (bench .messages - 1)) (now (sent .exit)) (now (held .exit)) (now (messages .exit)) ≡ deliverOf (state bench (now (costs .entry)) (now (sent .entry)) (now (held .entry)) (now (messages .entry))) place) × ReceptionFits r ⌝ }
     ensures { λ r. ⌜ Tables bench (now (costs .entry)) (now (tables .exit)) (now (known .exit)) ⌝ }
 {
     let count = bench.messages;
@@ -290,7 +290,7 @@ pub(crate) fn repeat_ready(
 ) -> Reception
     requires { ⌜ deliveryReady (state bench (now costs) (now sent) (now held) (now messages)) ≡ true ⌝ }
     requires { ⌜ Tables bench (now costs) (now tables) (now known) × HasRecord (Repeat place) bench (now messages) old ⌝ }
-    ensures { λ r. ⌜ (deliveryOutcome (receptionSays r) (receptionBench r bench (bench .messages)) (now (sent .exit)) (now (held .exit)) (now (messages .entry)) ≡ repeatOf (state bench (now (costs .entry)) (now (sent .entry)) (now (held .entry)) (now (messages .entry))) place) × ReceptionTold r ⌝ }
+    ensures { λ r. ⌜ (deliveryOutcome (receptionSays r) (receptionBench r bench (bench .messages)) (now (sent .exit)) (now (held .exit)) (now (messages .entry)) ≡ repeatOf (state bench (now (costs .entry)) (now (sent .entry)) (now (held .entry)) (now (messages .entry))) place) × ReceptionFits r ⌝ }
     ensures { λ r. ⌜ Tables bench (now (costs .entry)) (now (tables .exit)) (now (known .exit)) ⌝ }
 {
     let count = bench.messages;

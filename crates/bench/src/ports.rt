@@ -11,6 +11,8 @@ use agreement::choices::first_choice;
 use agreement::choices::next_choice;
 use agreement::choices::port_by;
 use agreement::ready::opposite_end;
+use distances::sizes::NONE;
+use distances::sizes::TABLE;
 ghost use mathlib.Core.Path.{_≡_};
 ghost use mathlib.Core.List.{List, []};
 ghost use Prim.Native.Nat.{ℕ, _+_, _*_, _≤_, _<_, _-_};
@@ -76,7 +78,7 @@ fn port_at(
     ensures { λ r. ⌜ r ≡ portIn (state bench (now (costs .entry)) (now (sent .entry)) (now (held .entry)) []) bridge dest ⌝ }
 {
     let view = bench.view[bridge] as usize;
-    let mut choice = first_choice(tables[256 * view + 16 * bridge + dest], bridge == dest);
+    let mut choice = first_choice(tables[TABLE * view + 16 * bridge + dest], bridge == dest);
     let mut e = chain[64 + bridge] as usize;
     while e < 2 * bench.links {
         let other = opposite_end(e);
@@ -85,7 +87,7 @@ fn port_at(
             choice,
             e / 2,
             costs[32 * view + e / 2],
-            tables[256 * view + 16 * far + dest],
+            tables[TABLE * view + 16 * far + dest],
             bench.cut[e / 2],
             bench.records[e].holding,
             sent[16 * e + dest],
@@ -131,7 +133,7 @@ fn link_number(port: Port) -> u32
     ensures { λ r. ⌜ r ≡ linkNumber port ⌝ }
 {
     match port {
-        Port::Closed => 4294967295,
+        Port::Closed => NONE,
         Port::Open(link) => link as u32,
     }
 }
@@ -146,7 +148,7 @@ fn first_choices(bench: Bench, tables: &[u32], dest: usize) -> [Choice; 16]
     let mut y = 0;
     while y < bench.bridges {
         let view = bench.view[y] as usize;
-        choices[y] = first_choice(tables[256 * view + 16 * y + dest], y == dest);
+        choices[y] = first_choice(tables[TABLE * view + 16 * y + dest], y == dest);
         y += 1;
     }
     choices
@@ -176,7 +178,7 @@ fn all_choices(
             choices[y],
             e / 2,
             costs[32 * view + e / 2],
-            tables[256 * view + 16 * far + dest],
+            tables[TABLE * view + 16 * far + dest],
             bench.cut[e / 2],
             bench.records[e].holding,
             sent[16 * e + dest],

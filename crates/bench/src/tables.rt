@@ -2,6 +2,7 @@
 // at its first use, and `known` says which are there. And the ends of each bridge, one behind the other.
 use crate::Bench;
 use crate::sizes::CHAIN;
+use distances::sizes::TABLE;
 ghost use mathlib.Core.Path.{_≡_};
 ghost use mathlib.Core.Bool.{true, false};
 ghost use Prim.Native.Nat.{ℕ, _*_, _≤_, _<_};
@@ -22,8 +23,8 @@ fn fill_view(
 {
     let row = 32 * view;
     let row_past = row + 32;
-    let block = 256 * view;
-    let block_past = block + 256;
+    let block = TABLE * view;
+    let block_past = block + TABLE;
     distances::distances(
         bridges,
         links,

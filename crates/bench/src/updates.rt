@@ -3,6 +3,7 @@ use crate::Bench;
 use agreement::EndRecord;
 use agreement::between::update_between;
 use agreement::ready::opposite_end;
+use distances::sizes::TABLE;
 ghost use mathlib.Core.Path.{_≡_};
 ghost use mathlib.Core.Bool.{true};
 ghost use Prim.Native.Nat.{ℕ, _*_, _≤_, _<_};
@@ -72,8 +73,8 @@ pub(crate) fn moved(
 {
     let row = 32 * view;
     let row_past = row + 32;
-    let block = 256 * view;
-    let block_past = block + 256;
+    let block = TABLE * view;
+    let block_past = block + TABLE;
     let t = view as u8;
     let records = move_ends(
         bench,

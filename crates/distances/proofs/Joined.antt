@@ -147,10 +147,10 @@ module _ (g : Graph) (c : Costs) where
       J : ℕ
       J = joinedBelow g c unjoined m i j
 
-      Told : ℕ → Type 0
-      Told x = ((i ≡ j) × (x ≡ 0)) ⊎ ((l : ℕ) × Joins g c l i j × (x ≡ c l))
+      JoinedBy : ℕ → Type 0
+      JoinedBy x = ((i ≡ j) × (x ≡ 0)) ⊎ ((l : ℕ) × Joins g c l i j × (x ≡ c l))
 
-      go : Dec (J ≤ crossing g c m i j) → ((J ≡ NONE → ⊥) → Told J) → Told (min J (crossing g c m i j))
+      go : Dec (J ≤ crossing g c m i j) → ((J ≡ NONE → ⊥) → JoinedBy J) → JoinedBy (min J (crossing g c m i j))
       go (yes l) rec = rw (min-eq-left l) (rec (λ e. n (omega arith)))
       go (no l) rec =
           let most : J ≤ NONE = omega (arith, joined-le m i j, unjoined-le i j) in

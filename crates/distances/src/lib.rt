@@ -1,6 +1,7 @@
 // Layer 1: the distances of all pairs of bridges in one view, in a table that the caller lends.
 pub mod ready;
 mod relax;
+pub mod sizes;
 mod start;
 
 ghost use mathlib.Core.Path.{_≡_};

@@ -1,5 +1,7 @@
 // The call's entry check: document 01's ranges, and lent buffers that are long enough. Ends and costs are tested in loops of their own,
 // each over numbers of one width, which the compiler makes vector code of.
+use crate::sizes::MAX_COST;
+use crate::sizes::TABLE;
 ghost use mathlib.Core.Path.{_≡_};
 ghost use mathlib.Core.Bool.{_&&_, not};
 ghost use Prim.Native.Nat.{_+_, _*_, _≤_};
@@ -79,7 +81,7 @@ fn each_cost_passes(links: usize, costs: &[u32]) -> bool
         joined = joined | costs[l];
         l += 1;
     }
-    joined <= 16777215
+    joined <= MAX_COST
 }
 
 // Is there a cost for each of so many links, in the range?
@@ -96,7 +98,7 @@ pub fn in_range(bridges: usize, links: usize, ends: &[u8], costs: &[u32], size: 
     ensures { λ r. ⌜ r ≡ inRange bridges links (now (ends .entry)) (now (costs .entry)) size ⌝ }
 {
     if graph_passes(bridges, links, ends) {
-        both(costs_pass(links, costs), 256 <= size)
+        both(costs_pass(links, costs), TABLE <= size)
     } else {
         false
     }

@@ -1,4 +1,5 @@
 // The table before the first pass: 0 from a bridge to itself, the cheapest link between two bridges, NONE elsewhere.
+use crate::sizes::NONE;
 ghost use mathlib.Core.Path.{_≡_};
 ghost use mathlib.Core.Bool.{cond};
 ghost use Prim.Native.Nat.{ℕ, _+_, _*_, _/_, _%_, _≤_, _<_, min};
@@ -6,8 +7,6 @@ ghost use lib.ListN.{length, getD};
 ghost use Rattle.distances.specs.Distance.{unjoined};
 ghost use Rattle.distances.specs.Table.{isPair, withPairs};
 ghost use Rattle.distances.specs.Steps.{weight, lowered, withLink, withLinks};
-
-const NONE: u32 = 4294967295;
 
 fn cleared(bridges: usize, p: usize, old: u32) -> u32
     ensures { λ r. ⌜ r ≡ cond (isPair bridges p) (unjoined (p / 16) (p % 16)) old ⌝ }

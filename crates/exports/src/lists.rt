@@ -16,17 +16,17 @@ ghost use Rattle.exports.specs.Lists.{withMade, countsOf, netRunReply};
 const EVENT_ENDS: usize = 2049;
 
 // The new bench goes to `numbers` where an event was made, and the counts to `out`.
-fn settle_list(ran: BatchResult, used: usize, numbers: &mut [u32], out: &mut [u32]) -> u8
+fn settle_list(batch: BatchResult, used: usize, numbers: &mut [u32], out: &mut [u32]) -> u8
     requires { ⌜ (388 ≤ length (now numbers)) × (3 ≤ length (now out)) ⌝ }
-    ensures { λ r. ⌜ (r ≡ refusalIn (ran .disposition)) × (now (numbers .exit) ≡ withMade (ran .made) (ran .bench) (now (numbers .entry))) × (now (out .exit) ≡ sets (now (out .entry)) 0 (countsOf (ran .made) used (ran .answered))) ⌝ }
+    ensures { λ r. ⌜ (r ≡ refusalIn (batch .disposition)) × (now (numbers .exit) ≡ withMade (batch .made) (batch .bench) (now (numbers .entry))) × (now (out .exit) ≡ sets (now (out .entry)) 0 (countsOf (batch .made) used (batch .answered))) ⌝ }
 {
-    let how = ran.disposition;
-    let bench = ran.bench;
-    let made = benches::low_of(ran.made);
+    let how = batch.disposition;
+    let bench = batch.bench;
+    let made = benches::low_of(batch.made);
     let bytes = benches::low_of(used);
-    let answered = benches::low_of(ran.answered);
+    let answered = benches::low_of(batch.answered);
     put_three(made, bytes, answered, out);
-    if ran.made == 0 {
+    if batch.made == 0 {
         return refusal_in(how);
     }
     benches::store(bench, numbers);
@@ -60,7 +60,7 @@ pub extern "C" fn bench_net_run(
     let progress = plan::events::list_progress(old);
     let events = plan::events::read_events(rest, progress, answers.len(), &mut ends);
     let count = ends[0] as usize;
-    let ran = bench::batches::run(old, costs, sent, held, messages, events, count, answers);
-    let used = plan::events::bytes_of(&ends, ran.made);
-    settle_list(ran, used, bench, out)
+    let batch = bench::batches::run(old, costs, sent, held, messages, events, count, answers);
+    let used = plan::events::bytes_of(&ends, batch.made);
+    settle_list(batch, used, bench, out)
 }

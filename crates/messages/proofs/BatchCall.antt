@@ -4,12 +4,12 @@
 --     Answer           a result, with the last lists of the limit tables and of the answers
 --     Runs, runs-as    what a list's contract says of an answer and of the messages' numbers, m before and z after; the same of equal numbers
 --     Toks, AllToks                the four tokens; these and [κ]_q, the messages'        tokens, all-tokens     the one from the other
---     Handed, Said, Left           what is given up for the call, with the tokens and the costs; the last lists; these and the tokens
+--     Handed, LastLists, Left           what is given up for the call, with the tokens and the costs; the last lists; these and the tokens
 --     Passed, Last     the parameters at entry and at exit: M is what is had of the messages, and O what is passed after the answers
 --     enters           Toks ∗ Passed  ⊢  Handed ∗ M
 --     hands            M ∗ [κ]_q ∗ Handed  ⊢  AllToks ∗ Passed ∗ what is asked ∗ the costs
 --     gets             what the callee says of last values ∗ AllToks ∗ its result  ⊢  ⌜what is learned⌝ ∗ the messages' last list ∗ [κ]_q ∗ Left
---     leaves           Said ∗ the costs ∗ M  ⊢  Last
+--     leaves           LastLists ∗ the costs ∗ M  ⊢  Last
 -- Assumes `Given`.
 use mathlib.Core.Path.{_≡_, refl, _∙_, ap}
 use Prim.Native.Nat.{ℕ, _<_, _^_}
@@ -92,11 +92,11 @@ module _ {M : Type 1} (𝓤 : URA M) (H : Heap 𝓤) (A : Atoms 𝓤) (κs : Lft
   abbrev pub Handed : Item 𝓤
   Handed = Limits ⊛ ‵ (flft κₐ qₐ) ⊛ ‵ (Writes κₐ a)
 
-  abbrev pub Said : Answer → Item 𝓤
-  Said y = limits.Said 𝓤 H A κs qs c s e (y .1 .0) (y .1 .1 .0) ⊛ ‵ (finally u32 (a .name) (y .1 .1 .1))
+  abbrev pub LastLists : Answer → Item 𝓤
+  LastLists y = limits.LastLists 𝓤 H A κs qs c s e (y .1 .0) (y .1 .1 .0) ⊛ ‵ (finally u32 (a .name) (y .1 .1 .1))
 
   abbrev pub Left : Answer → Item 𝓤
-  Left y = Toks ⊛ Said y
+  Left y = Toks ⊛ LastLists y
 
   abbrev pub SameLengths : Answer → Type 0
   SameLengths y = limits.SameLengths 𝓤 H A κs qs c s e (y .1 .0) (y .1 .1 .0) × (length (y .1 .1 .1) ≡ length (a .now))
@@ -132,7 +132,7 @@ module _ {M : Type 1} (𝓤 : URA M) (H : Heap 𝓤) (A : Atoms 𝓤) (κs : Lft
         (guard 𝓤 (Returned y w) (sep 𝓤 (sem 𝓤 H A (finally R (x .name) ms)) (sep 𝓤 (A .lft κ q) (mean 𝓤 H A (Left y)))))
     gets R x κ q y w ms O =
         qed W (‵ (Lasts R x y ms O) ∷ AllToks κ q ∷ ‵ (Q.the-row .own (y .0) (w ∷ [])) ∷ []) ∵
-        use1 W (given (limits.SameLengths 𝓤 H A κs qs c s e (y .1 .0) (y .1 .1 .0)) (limits.Said 𝓤 H A κs qs c s e (y .1 .0) (y .1 .1 .0) ⊛ ‵ (Rests R x y ms O)))
+        use1 W (given (limits.SameLengths 𝓤 H A κs qs c s e (y .1 .0) (y .1 .1 .0)) (limits.LastLists 𝓤 H A κs qs c s e (y .1 .0) (y .1 .1 .0) ⊛ ‵ (Rests R x y ms O)))
         (limits.told 𝓤 H A κs qs c s e W (y .1 .0) (y .1 .1 .0) (Rests R x y ms O)) $ learn ! (λ k.
         split ! $ move ! (1 ∷ []) $ fsplit ! $ fsplit ! $ move ! (2 ∷ []) $ fsplit ! $ drop ! $ fsplit ! $ drop ! $ fsplit ! $ fsplit ! $ move ! (1 ∷ []) $ feqL ! (λ l.
         -- [the last answers; O; the last messages; their length; the last limits; the tokens; the result]
@@ -183,8 +183,8 @@ module _ {M : Type 1} (𝓤 : URA M) (H : Heap 𝓤) (A : Atoms 𝓤) (κs : Lft
           use0 W (raw Asked) asked $ move ! (1 ∷ 0 ∷ []) $ join ! $ frame ! $ done !
 
       pub leaves :
-          (y : Answer) (M : Fml) → ent 𝓤 (sep 𝓤 (mean 𝓤 H A (Said y)) (sep 𝓤 (mean 𝓤 H A Kept) (sem 𝓤 H A M))) (sem 𝓤 H A (Last y M))
+          (y : Answer) (M : Fml) → ent 𝓤 (sep 𝓤 (mean 𝓤 H A (LastLists y)) (sep 𝓤 (mean 𝓤 H A Kept) (sem 𝓤 H A M))) (sem 𝓤 H A (Last y M))
       leaves y M =
-          qed W (Said y ∷ Kept ∷ ‵ M ∷ []) ∵ split ! $ nothing ! $ move ! (2 ∷ 0 ∷ []) $ use2 W (‵ (Rest (finally u32 (a .name) (y .1 .1 .1)) ftrue)) (rest (finally u32 (a .name) (y .1 .1 .1)) ftrue) $
+          qed W (LastLists y ∷ Kept ∷ ‵ M ∷ []) ∵ split ! $ nothing ! $ move ! (2 ∷ 0 ∷ []) $ use2 W (‵ (Rest (finally u32 (a .name) (y .1 .1 .1)) ftrue)) (rest (finally u32 (a .name) (y .1 .1 .1)) ftrue) $
           -- [the rest; the last limits; Kept; M]
           move ! (3 ∷ 0 ∷ []) $ fjoin ! $ move ! (1 ∷ 2 ∷ 0 ∷ []) $ use3 W (‵ (Last y M)) (limits.puts 𝓤 H A κs qs c s e W h hv h-is (y .1 .0) (y .1 .1 .0) (fsep M (Rest (finally u32 (a .name) (y .1 .1 .1)) ftrue))) $ done !

@@ -1,13 +1,13 @@
 -- A call that is handed the costs as a `&[u32]` and both limit tables as `&mut [u32]`, at the caller's own lifetimes: deliver and repeat, with
 -- the messages lent or in a local. The limit tables are given up for it; of the costs a copy is kept.
 --     Toks, AllToks                the three tokens; these and [κ]_q, the messages'        tokens, all-tokens     the one from the other
---     Kept, Handed, Said           the costs; these, the tokens and the limit tables; the limit tables' last lists
+--     Kept, Handed, LastLists           the costs; these, the tokens and the limit tables; the limit tables' last lists
 --     Params, All                  the parameters, where O is the rest of them, and where O is what is had of the messages, or of the numbers in their place
 --     takes, enters    Toks ∗ Params  ⊢  Handed ∗ O, and the same of All
 --     hands            Handed ∗ O  ⊢  Toks ∗ Params ∗ Kept
 --     hands-numbers, hands-messages      the same, as what a decision asks, and as what a call over the slice asks
---     told             what the callee says of last values  ⊢  ⌜the tables' lengths⌝ ∗ Said ∗ what it says of the rest
---     puts, leaves     Said ∗ Kept ∗ O  ⊢  Params, as at exit, and the same of All
+--     told             what the callee says of last values  ⊢  ⌜the tables' lengths⌝ ∗ LastLists ∗ what it says of the rest
+--     puts, leaves     LastLists ∗ Kept ∗ O  ⊢  Params, as at exit, and the same of All
 -- Assumes `Given`.
 use mathlib.Core.Path.{_≡_, refl}
 use Prim.Native.Nat.{ℕ, _<_, _^_}
@@ -79,8 +79,8 @@ module _ {M : Type 1} (𝓤 : URA M) (H : Heap 𝓤) (A : Atoms 𝓤) (κs : Lft
   abbrev pub Handed : Item 𝓤
   Handed = Toks ⊛ Kept ⊛ ‵ (Writes κ₁ s) ⊛ ‵ (Writes κ₂ e)
 
-  abbrev pub Said : List ℕ → List ℕ → Item 𝓤
-  Said ss es = ‵ (finally u32 (s .name) ss) ⊛ ‵ (finally u32 (e .name) es)
+  abbrev pub LastLists : List ℕ → List ℕ → Item 𝓤
+  LastLists ss es = ‵ (finally u32 (s .name) ss) ⊛ ‵ (finally u32 (e .name) es)
 
   abbrev pub SameLengths : List ℕ → List ℕ → Type 0
   SameLengths ss es = (length ss ≡ length (s .now)) × (length es ≡ length (e .now))
@@ -103,7 +103,7 @@ module _ {M : Type 1} (𝓤 : URA M) (H : Heap 𝓤) (A : Atoms 𝓤) (κs : Lft
           -- [κ₂; true; κ₁; κ₀; κ]
           move ! (4 ∷ 1 ∷ []) $ join ! $ move ! (1 ∷ 0 ∷ []) $ join ! $ move ! (1 ∷ 0 ∷ []) $ join ! $ move ! (1 ∷ 0 ∷ []) $ done !
 
-    pub told : (ss es : List ℕ) (O : Fml) → ent 𝓤 (sem 𝓤 H A (Lasts ss es O)) (guard 𝓤 (SameLengths ss es) (sep 𝓤 (mean 𝓤 H A (Said ss es)) (sem 𝓤 H A O)))
+    pub told : (ss es : List ℕ) (O : Fml) → ent 𝓤 (sem 𝓤 H A (Lasts ss es O)) (guard 𝓤 (SameLengths ss es) (sep 𝓤 (mean 𝓤 H A (LastLists ss es)) (sem 𝓤 H A O)))
     told ss es O =
         qed W (‵ (Lasts ss es O) ∷ []) ∵ fsplit ! $ drop ! $ fsplit ! $ drop ! $ fsplit ! $ fsplit ! $ move ! (1 ∷ []) $ feqL ! (λ m.
         move ! (1 ∷ []) $ fsplit ! $ fsplit ! $ move ! (1 ∷ []) $ feqL ! (λ n.
@@ -134,9 +134,9 @@ module _ {M : Type 1} (𝓤 : URA M) (H : Heap 𝓤) (A : Atoms 𝓤) (κs : Lft
 
       pub puts :
           (ss es : List ℕ) (O : Fml) →
-          ent 𝓤 (sep 𝓤 (mean 𝓤 H A (Said ss es)) (sep 𝓤 (mean 𝓤 H A Kept) (sem 𝓤 H A O))) (sem 𝓤 H A (Params (finally u32 (s .name) ss) (finally u32 (e .name) es) O))
+          ent 𝓤 (sep 𝓤 (mean 𝓤 H A (LastLists ss es)) (sep 𝓤 (mean 𝓤 H A Kept) (sem 𝓤 H A O))) (sem 𝓤 H A (Params (finally u32 (s .name) ss) (finally u32 (e .name) es) O))
       puts ss es O =
-          qed W (Said ss es ∷ Kept ∷ ‵ O ∷ []) ∵ split ! $ move ! (1 ∷ 3 ∷ []) $ fjoin ! $ move ! (1 ∷ 0 ∷ []) $ fjoin ! $ move ! (1 ∷ 0 ∷ []) $ fjoin ! $
+          qed W (LastLists ss es ∷ Kept ∷ ‵ O ∷ []) ∵ split ! $ move ! (1 ∷ 3 ∷ []) $ fjoin ! $ move ! (1 ∷ 0 ∷ []) $ fjoin ! $ move ! (1 ∷ 0 ∷ []) $ fjoin ! $
           owned ! B.the-row (Is B.the-row) (LL.makes B.the-type B′.the-plain 𝓤 H A) h _ h-is $ fjoin ! $ done !
 
       module _ (p : ℕ) (p-fits : p < 2 ^ 64) where
@@ -182,7 +182,7 @@ module _ {M : Type 1} (𝓤 : URA M) (H : Heap 𝓤) (A : Atoms 𝓤) (κs : Lft
 
         pub leaves :
             (ss es : List ℕ) (O : Fml) →
-            ent 𝓤 (sep 𝓤 (mean 𝓤 H A (Said ss es)) (sep 𝓤 (mean 𝓤 H A Kept) (sem 𝓤 H A O))) (sem 𝓤 H A (All (finally u32 (s .name) ss) (finally u32 (e .name) es) O))
+            ent 𝓤 (sep 𝓤 (mean 𝓤 H A (LastLists ss es)) (sep 𝓤 (mean 𝓤 H A Kept) (sem 𝓤 H A O))) (sem 𝓤 H A (All (finally u32 (s .name) ss) (finally u32 (e .name) es) O))
         leaves ss es O =
-            qed W (Said ss es ∷ Kept ∷ ‵ O ∷ []) ∵ nothing ! $ owned ! usize (Is usize) (uint-makes 𝓤 H A W w64) p _ (refl, p-fits) $ fjoin ! $ move ! (3 ∷ 0 ∷ []) $ fjoin ! $ move ! (1 ∷ 2 ∷ 0 ∷ []) $
+            qed W (LastLists ss es ∷ Kept ∷ ‵ O ∷ []) ∵ nothing ! $ owned ! usize (Is usize) (uint-makes 𝓤 H A W w64) p _ (refl, p-fits) $ fjoin ! $ move ! (3 ∷ 0 ∷ []) $ fjoin ! $ move ! (1 ∷ 2 ∷ 0 ∷ []) $
             use3 W (‵ (All (finally u32 (s .name) ss) (finally u32 (e .name) es) O)) (puts ss es (Rest O)) $ done !

@@ -18,8 +18,8 @@ ghost use Rattle.messages.specs.Slices.{numbersIn, flight};
 ghost use Rattle.messages.specs.Steps.{took};
 
 // A list that was run, beside the messages that are then in flight.
-pub struct RanMessages {
-    pub ran: BatchResult,
+pub struct MessageBatchResult {
+    pub batch: BatchResult,
     pub messages: [Message; MOST_MESSAGES],
 }
 
@@ -65,7 +65,7 @@ pub fn run(
 {
     let mut numbers = numbers_in(ms);
     let len = ms.len();
-    let ran = run_numbers(
+    let batch = run_numbers(
         bench,
         costs,
         sent,
@@ -77,7 +77,7 @@ pub fn run(
         len,
     );
     copies::append(ms, &numbers, 0, room(len));
-    ran
+    batch
 }
 
 // The list for whoever keeps the messages by value, and lends no slice of structs itself.
@@ -90,10 +90,13 @@ pub fn run_by_value(
     events: [Event; MOST_EVENTS],
     count: usize,
     answers: &mut [u32],
-) -> RanMessages
-    ensures { λ r. ⌜ batchOutcome (r .ran .made) (r .ran .answered) (r .ran .disposition) (state (r .ran .bench) (now (costs .entry)) (now (sent .exit)) (now (held .exit)) (numbersIn (r .messages))) (now (answers .exit)) ≡ batchOf (state bench (now (costs .entry)) (now (sent .entry)) (now (held .entry)) (numbersIn messages)) events count (now (answers .entry)) ⌝ }
+) -> MessageBatchResult
+    ensures { λ r. ⌜ batchOutcome (r .batch .made) (r .batch .answered) (r .batch .disposition) (state (r .batch .bench) (now (costs .entry)) (now (sent .exit)) (now (held .exit)) (numbersIn (r .messages))) (now (answers .exit)) ≡ batchOf (state bench (now (costs .entry)) (now (sent .entry)) (now (held .entry)) (numbersIn messages)) events count (now (answers .entry)) ⌝ }
 {
     let mut ms = messages;
-    let ran = run(bench, costs, sent, held, &mut ms, events, count, answers);
-    RanMessages { ran, messages: ms }
+    let batch = run(bench, costs, sent, held, &mut ms, events, count, answers);
+    MessageBatchResult {
+        batch,
+        messages: ms,
+    }
 }

@@ -213,7 +213,7 @@ listed-within lent = go (leb lent mostEvents) refl
     go true q = let h = leb-true lent mostEvents q in (omega arith, omega arith)
     go false q = let h = leb-false lent mostEvents q in (omega arith, omega arith)
 
-pub record Listed (xs : List Placed) (events : List Event) (ends : List ℕ) : Type 0 where
+pub record InBuffers (xs : List Placed) (events : List Event) (ends : List ℕ) : Type 0 where
   pub few : length xs ≤ mostEvents
   pub head : take (length xs) events ≡ eventsOf xs
   pub count : getD ends 0 0 ≡ length xs
@@ -244,7 +244,7 @@ count-in xs (f ∷ fs) h = number-at xs (f ∷ fs) (omega arith) 0 (omega arith)
 pub listed :
     (rest : List ℕ) (p : Progress) (room : ℕ) (first : List ℕ) {events : List Event} {ends : List ℕ} →
     listing events ends ≡ eventsReply rest p room first →
-    Listed (eventsAt (mostListed (length first)) p room 0 rest) events ends
+    InBuffers (eventsAt (mostListed (length first)) p room 0 rest) events ends
 unfolding eventsReply
 listed rest p room first is =
     let xs : List Placed = eventsAt (mostListed (length first)) p room 0 rest in

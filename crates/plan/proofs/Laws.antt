@@ -44,11 +44,11 @@ pub record ViewRead (rest : List ℕ) (p : Progress) : Type 0 where
   pub room : p .views < mostViews
   pub costs : (l : ℕ) → l < p .links → costIn rest l ≤ maxCost
 
-abbrev pub Told : List ℕ → Progress → Field → Type 0
-Told rest p (Field.Bridges n) = BridgesRead p n
-Told rest p (Field.Link a b) = LinkRead p a b
-Told rest p Field.View = ViewRead rest p
-Told rest p (Field.Event v) = 2 ≤ p .stage
+abbrev pub FieldRead : List ℕ → Progress → Field → Type 0
+FieldRead rest p (Field.Bridges n) = BridgesRead p n
+FieldRead rest p (Field.Link a b) = LinkRead p a b
+FieldRead rest p Field.View = ViewRead rest p
+FieldRead rest p (Field.Event v) = 2 ≤ p .stage
 
 -- the tests of all costs, as the tests below a bound
 fits-below : (rest : List ℕ) (k : ℕ) → costsFit rest k ≡ allBelow k (λ l. leb (costIn rest l) maxCost)
@@ -154,13 +154,13 @@ module _ (rest : List ℕ) (p : Progress) where
       }
 
   -- by the tag
-  value-told : p .links ≤ mostLinks → inOrder (tag rest) (p .stage) ≡ true → refusal (valueChecks rest p) ≡ 0 → Told rest p (fieldOf rest)
+  value-told : p .links ≤ mostLinks → inOrder (tag rest) (p .stage) ≡ true → refusal (valueChecks rest p) ≡ 0 → FieldRead rest p (fieldOf rest)
   unfolding valueChecks fieldOf
   value-told listed order = go (eqb (tag rest) 1) (eqb (tag rest) 2) (eqb (tag rest) 3) refl refl refl
     where
       go : (a b c : Bool) → eqb (tag rest) 1 ≡ a → eqb (tag rest) 2 ≡ b → eqb (tag rest) 3 ≡ c →
           refusal (cond a (bridgeChecks rest p) (cond b (linkChecks rest p) (cond c (viewChecks rest p) []))) ≡ 0 →
-          Told rest p (cond a (Field.Bridges (value rest 0)) (cond b (Field.Link (value rest 0) (value rest 1)) (cond c Field.View (Field.Event (eventBy (tag rest) (value rest 0) (value rest 1))))))
+          FieldRead rest p (cond a (Field.Bridges (value rest 0)) (cond b (Field.Link (value rest 0) (value rest 1)) (cond c Field.View (Field.Event (eventBy (tag rest) (value rest 0) (value rest 1))))))
       go true b c one two three e = bridges-told (eqb-true (tag rest) 1 one) order e
       go false true c one two three e = link-told (eqb-true (tag rest) 2 two) order e
       go false false true one two three e = view-told (eqb-true (tag rest) 3 three) listed order e
@@ -283,7 +283,7 @@ field-bridges rest p {f} {k} = go (progressInRange p) refl
     go true l e = in-range-bridges p l
     go false l e = absurd (stops e)
 
-pub field-told : (rest : List ℕ) (p : Progress) {f : Field} {k : ℕ} → readReply rest p ≡ Read.Field f k → Told rest p f
-field-told rest p e =
+pub field-read : (rest : List ℕ) (p : Progress) {f : Field} {k : ℕ} → readReply rest p ≡ Read.Field f k → FieldRead rest p f
+field-read rest p e =
     let t = none-applies rest p e in
-    subst (Told rest p) (t .field) (value-told rest p (t .listed) (header-told rest p (t .header) .order) (t .value))
+    subst (FieldRead rest p) (t .field) (value-told rest p (t .listed) (header-told rest p (t .header) .order) (t .value))

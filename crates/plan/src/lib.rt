@@ -5,7 +5,7 @@ mod bytes;
 pub mod events;
 pub mod fields;
 mod header;
-mod sizes;
+pub mod sizes;
 mod tags;
 mod values;
 

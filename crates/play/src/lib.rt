@@ -4,6 +4,7 @@ use agreement::sizes::LIMITS;
 use bench::sizes::COSTS;
 use libc::STDOUT_FILENO;
 use runner::sizes::LONGEST_PLAN;
+use runner::sizes::MOST_COUNTED;
 use text::Written;
 ghost use mathlib.Core.Path.{_≡_};
 ghost use mathlib.Core.Bool.{false};
@@ -83,7 +84,7 @@ fn too_long(out: &mut [u8]) -> Reply
     ensures { λ r. ⌜ Handed r (refusedText 18 61440) ⌝ }
     ensures { λ _. ⌜ now (out .exit) ≡ sets (now (out .entry)) 0 (refusedText 18 61440) ⌝ }
 {
-    let text = text::lines::refused(out, 18, 61440);
+    let text = text::lines::refused(out, 18, MOST_COUNTED);
     // the text has room, so this is never taken
     let Written::Bytes(written) = text else {
         return Reply::Unread;

@@ -17,12 +17,12 @@ use Rattle.agreement.proofs.Forwards.{chosen-exists, chosen-is, link-reaches, f
 use Rattle.protocol.specs.Net.{Network, distanceIn}
 use Rattle.protocol.specs.Ports.{crosses, hopBy, hop, forwardingPort}
 use Rattle.protocol.proofs.Links.{across-far}
-use Rattle.protocol.proofs.Deliveries.{ToldAt, ClearedAt, OneView}
+use Rattle.protocol.proofs.Deliveries.{InformedAt, ClearedAt, OneView}
 
 pub record Ready (n : Network) (t : ℕ) : Type 0 where
   pub oneView : OneView n t
   pub cutAbsent : (l : ℕ) → l < n .plan .graph .links → n .records .cut l ≡ true → n .plan .costs t l ≡ 0
-  pub told : (e : ℕ) → e < 2 * n .plan .graph .links → n .records .cut (linkOf e) ≡ false → ToldAt n t e
+  pub told : (e : ℕ) → e < 2 * n .plan .graph .links → n .records .cut (linkOf e) ≡ false → InformedAt n t e
   pub cleared : (e : ℕ) → e < 2 * n .plan .graph .links → n .records .cut (linkOf e) ≡ false → ClearedAt n t e
 
 -- bridge y forwards for d over the link of end e, by what t says
@@ -49,7 +49,7 @@ module _ (n : Network) (t : ℕ) (ready : Ready n t) (y d : ℕ) (near : distanc
       let g : Graph = n .plan .graph in
       let c : Costs = n .plan .costs t in
       let f : ℕ → ℕ → ℕ = distanceIn (n .plan) t in
-      let told : ToldAt n t e = ready .told e h (link-up e h r) in
+      let told : InformedAt n t e = ready .told e h (link-up e h r) in
       let cost : c (linkOf (opposite e)) ≡ 0 → ⊥ = rw linkOf-opposite (r .present) in
       let back : farBridge g (opposite e) ≡ y = ap (g .bridgeAt) (opposite-opposite e) ∙ r .own in
       let nearer : f (g .bridgeAt (opposite e)) d < f (farBridge g (opposite e)) d = rw back (omega (arith, r .sum, r .present)) in

@@ -10,7 +10,7 @@ use lib.Dec.{eqb}
 use borrow.Author.Tests.{eqb-true, eq-eqb}
 use Rattle.distances.specs.View.{InRange}
 use Rattle.agreement.specs.Offer.{opposite}
-use Rattle.agreement.proofs.Told.{Told, told-by, told-still, cleared-by, cleared-still}
+use Rattle.agreement.proofs.Informed.{Informed, informed-by, informed-still, cleared-by, cleared-still}
 use Rattle.agreement.proofs.Ends.{opposite-below, bridge-in-range}
 use Rattle.protocol.specs.Net.{Network, Plan, Message, sender, offerIn}
 use Rattle.protocol.specs.Calls.{messageAt, withMessages, afterDelivery, receivedAt}
@@ -18,8 +18,8 @@ use Rattle.protocol.proofs.Invariant.{Invariant, InvariantBy, far}
 use Rattle.protocol.proofs.Runs.{AllowedStep, moves, delivers}
 
 -- end e has received the far bridge's present number and holds its offers in t; its sent limits are the offers in t
-abbrev pub ToldAt : Network → ℕ → ℕ → Type 0
-ToldAt n t e = Told (n .number (far n e)) (n .records .ends e) (n .records .held e) (offerIn (n .plan) t (opposite e))
+abbrev pub InformedAt : Network → ℕ → ℕ → Type 0
+InformedAt n t e = Informed (n .number (far n e)) (n .records .ends e) (n .records .held e) (offerIn (n .plan) t (opposite e))
 
 abbrev pub ClearedAt : Network → ℕ → ℕ → Type 0
 ClearedAt n t e = (d : ℕ) → n .records .sent e d ≡ offerIn (n .plan) t e d
@@ -67,11 +67,11 @@ module _ (n : Network) (t : ℕ) (oneView : OneView n t) where
 
   -- a delivery to end e itself
   module _ (e : ℕ) (there : e < 2 * n .plan .graph .links) (x : Message) where
-    told-here : x .agreement .number ≤ n .number (far n e) → (x .agreement .number ≡ n .number (far n e) → x .agreement .view ≡ t) → ToldAt n t e → ToldAt (receivedAt n e x) t e
+    told-here : x .agreement .number ≤ n .number (far n e) → (x .agreement .number ≡ n .number (far n e) → x .agreement .view ≡ t) → InformedAt n t e → InformedAt (receivedAt n e x) t e
     unfolding receivedAt
     told-here most view told =
         rw (eq-eqb e e refl, view-at e there)
-        (told-still t (n .records .ends e) (x .agreement) (n .records .held e) (offerIn (n .plan) t (opposite e)) (n .number (far n e)) most view told)
+        (informed-still t (n .records .ends e) (x .agreement) (n .records .held e) (offerIn (n .plan) t (opposite e)) (n .number (far n e)) most view told)
 
     cleared-here : ClearedAt n t e → ClearedAt (receivedAt n e x) t e
     unfolding receivedAt
@@ -80,11 +80,11 @@ module _ (n : Network) (t : ℕ) (oneView : OneView n t) where
         (cleared-still (n .number (n .plan .graph .bridgeAt e)) (n .records .ends e) (x .agreement) (offerIn (n .plan) t e) (n .records .sent e) cleared d)
 
     module _ (W : Type 0) (c : Current (n .plan) (n .number) t e W x) where
-      newly-told : ToldAt (receivedAt n e x) t e
+      newly-told : InformedAt (receivedAt n e x) t e
       unfolding receivedAt
       newly-told =
           rw (eq-eqb e e refl, view-at e there)
-          (told-by t (n .records .ends e) (x .agreement) (n .records .held e) (offerIn (n .plan) t (opposite e)) (n .number (far n e)) (c .present) (c .view)
+          (informed-by t (n .records .ends e) (x .agreement) (n .records .held e) (offerIn (n .plan) t (opposite e)) (n .number (far n e)) (c .present) (c .view)
           (oneView .invariant .1 .direction e there .received))
 
       newly-cleared : W → ClearedAt (receivedAt n e x) t e
@@ -94,10 +94,10 @@ module _ (n : Network) (t : ℕ) (oneView : OneView n t) where
           (cleared-by (n .number (n .plan .graph .bridgeAt e)) (n .records .ends e) (x .agreement) (offerIn (n .plan) t e) (n .records .sent e)
           (omega (arith, oneView .invariant .1 .direction e there .received, c .present)) (c .discarded w) d)
 
-      pub told-now : (ms : List Message) → ToldAt (withMessages (afterDelivery n x) ms) t e × (W → ClearedAt (withMessages (afterDelivery n x) ms) t e)
+      pub told-now : (ms : List Message) → InformedAt (withMessages (afterDelivery n x) ms) t e × (W → ClearedAt (withMessages (afterDelivery n x) ms) t e)
       told-now ms =
           let here : afterDelivery n x ≡ receivedAt n e x = delivered-at n x e (omega (arith, c .from)) in (
-            subst (λ (m : Network). ToldAt m t e) (sym here) newly-told,
+            subst (λ (m : Network). InformedAt m t e) (sym here) newly-told,
             λ w. subst (λ (m : Network). ClearedAt m t e) (sym here) (newly-cleared w),
           )
 
@@ -112,11 +112,11 @@ module _ (n : Network) (t : ℕ) (oneView : OneView n t) where
           (here (rw (← at) (opposite-below (sender (messageAt n p)) (n .plan .graph .links) (sender-there p h))) (omega arith))
       go false q = other q
 
-  pub told-kept : {m : Network} (e : ℕ) → AllowedStep n m → ToldAt n t e → ToldAt m t e
+  pub told-kept : {m : Network} (e : ℕ) → AllowedStep n m → InformedAt n t e → InformedAt m t e
   unfolding afterDelivery receivedAt
   told-kept e (moves ms) told = told
   told-kept e (delivers p ms h) told =
-      by-end (λ m. ToldAt m t e) p e h
+      by-end (λ m. InformedAt m t e) p e h
       (λ there from. told-here e there (messageAt n p) (rw from at (number-most p h)) (rw from at (view-of p h)) told)
       (λ q. rw q told)
 

@@ -23,14 +23,14 @@ use Rattle.protocol.proofs.Steps.{invariant-step}
 use Rattle.protocol.proofs.Runs.{Allowed, allowed-step, first-allowed, rest-allowed, kept-run, fixed-step}
 use Rattle.protocol.proofs.Places.{Stands, stands-new}
 use Rattle.protocol.proofs.Fates.{stands-step, taken-step}
-use Rattle.protocol.proofs.Deliveries.{ToldAt, ClearedAt, OneView, Current, told-now, told-kept, cleared-kept}
+use Rattle.protocol.proofs.Deliveries.{InformedAt, ClearedAt, OneView, Current, told-now, told-kept, cleared-kept}
 
 module _ (t e : ℕ) (W : Type 0) where
   -- a message sent to end e is at the last place, and it is current
   abbrev Sent : Network → Network → Type 0
   Sent n m = (x : Message) × Stands x (m .messages) (length (n .messages)) × Current (n .plan) (n .number) t e W x
 
-  sent : (n : Network) (c : Call) → OneView n t → e < 2 * n .plan .graph .links → (W → ToldAt n t (opposite e)) → isSendFrom n (opposite e) c ≡ true → Sent n (step n c)
+  sent : (n : Network) (c : Call) → OneView n t → e < 2 * n .plan .graph .links → (W → InformedAt n t (opposite e)) → isSendFrom n (opposite e) c ≡ true → Sent n (step n c)
   unfolding isSendFrom step act sentOver messageOf
   sent n (change x) oneView there told q = absurd (false≢true q)
   sent n (send b l) oneView there told q =
@@ -58,7 +58,7 @@ module _ (t e : ℕ) (W : Type 0) where
 
   -- end e is told; wherever W holds it is cleared
   abbrev Heard : Network → Type 0
-  Heard n = ToldAt n t e × (W → ClearedAt n t e)
+  Heard n = InformedAt n t e × (W → ClearedAt n t e)
 
 module _ (t : ℕ) where
   oneView-step : (n : Network) (c : Call) → Allowed n c → OneView n t → OneView (step n c) t
@@ -102,7 +102,7 @@ module _ (t : ℕ) where
             (fixed-step (λ p v k cut. Current p k t e W x) (allowed-step n c allowed) current) q
 
     -- a message that is sent and delivered in the list
-    heard : (n : Network) (cs : List Call) → hasNoChange n cs ≡ true → OneView n t → e < 2 * n .plan .graph .links → (W → ToldAt n t (opposite e)) → isSentAndDelivered n cs (opposite e) ≡ true → Heard t e W (run n cs)
+    heard : (n : Network) (cs : List Call) → hasNoChange n cs ≡ true → OneView n t → e < 2 * n .plan .graph .links → (W → InformedAt n t (opposite e)) → isSentAndDelivered n cs (opposite e) ≡ true → Heard t e W (run n cs)
     unfolding isSentAndDelivered run
     heard n [] h oneView there told q = absurd (false≢true q)
     heard n (c ∷ cs) h oneView there told q =
@@ -112,7 +112,7 @@ module _ (t : ℕ) where
         allowed = first-allowed n c cs h
 
         Later : Type 0
-        Later = hasNoChange (step n c) cs ≡ true → OneView (step n c) t → e < 2 * step n c .plan .graph .links → (W → ToldAt (step n c) t (opposite e)) → isSentAndDelivered (step n c) cs (opposite e) ≡ true → Heard t e W (run (step n c) cs)
+        Later = hasNoChange (step n c) cs ≡ true → OneView (step n c) t → e < 2 * step n c .plan .graph .links → (W → InformedAt (step n c) t (opposite e)) → isSentAndDelivered (step n c) cs (opposite e) ≡ true → Heard t e W (run (step n c) cs)
 
         go : ((isSendFrom n (opposite e) c && isDelivered (step n c) cs (length (n .messages))) ≡ true) ⊎ (isSentAndDelivered (step n c) cs (opposite e) ≡ true) → Later → Heard t e W (run (step n c) cs)
         go (inl q) later =
@@ -139,7 +139,7 @@ module _ (t : ℕ) where
           (λ up. heard (rw first at up) .0, λ up. heard (rw second at up) .1)
 
   -- a round: every end of an uncut link is told, and cleared if the other end was told before
-  pub round-told : (n : Network) (cs : List Call) (e : ℕ) → hasNoChange n cs ≡ true → OneView n t → hasRound n cs ≡ true → e < 2 * n .plan .graph .links → n .records .cut (linkOf e) ≡ false → Heard t e (ToldAt n t (opposite e)) (run n cs)
+  pub round-told : (n : Network) (cs : List Call) (e : ℕ) → hasNoChange n cs ≡ true → OneView n t → hasRound n cs ≡ true → e < 2 * n .plan .graph .links → n .records .cut (linkOf e) ≡ false → Heard t e (InformedAt n t (opposite e)) (run n cs)
   round-told n cs e h oneView round there up =
-      heard e (ToldAt n t (opposite e)) n cs h oneView there (λ w. w)
+      heard e (InformedAt n t (opposite e)) n cs h oneView there (λ w. w)
       (end-heard n cs (opposite e) round (opposite-below e (n .plan .graph .links) there) (rw linkOf-opposite up))

@@ -23,7 +23,7 @@ use Rattle.protocol.proofs.Invariant.{Invariant}
 use Rattle.protocol.proofs.Runs.{run-append, plan-run, parts-allowed, fixed-run}
 use Rattle.protocol.proofs.Steps.{invariant-run}
 use Rattle.protocol.proofs.PathEnds.{path-ends}
-use Rattle.protocol.proofs.Deliveries.{ToldAt, ClearedAt, OneView}
+use Rattle.protocol.proofs.Deliveries.{InformedAt, ClearedAt, OneView}
 use Rattle.protocol.proofs.RoundLaws.{oneView-run, round-told}
 use Rattle.protocol.proofs.AfterRounds.{Ready, ForwardsOver, chosenIn, forwards}
 
@@ -54,12 +54,12 @@ module _ (n : Network) (t : ℕ) (xs ys : List Call) (invariant : Invariant n) (
   oneView : OneView n t
   oneView = record { invariant = invariant; onView = s .onView }
 
-  told-first : (e : ℕ) → Uncut (run n xs) e → ToldAt (run n xs) t e
+  told-first : (e : ℕ) → Uncut (run n xs) e → InformedAt (run n xs) t e
   told-first e u =
       let v : Uncut n e = uncut-before n xs first e u in
       round-told t n xs e first oneView (s .firstRound) (v .0) (v .1) .0
 
-  heard-second : (e : ℕ) → Uncut (run (run n xs) ys) e → ToldAt (run (run n xs) ys) t e × ClearedAt (run (run n xs) ys) t e
+  heard-second : (e : ℕ) → Uncut (run (run n xs) ys) e → InformedAt (run (run n xs) ys) t e × ClearedAt (run (run n xs) ys) t e
   heard-second e u =
       let v : Uncut (run n xs) e = uncut-before (run n xs) ys second e u in
       let done = round-told t (run n xs) ys e second (oneView-run t n xs first oneView) (s .secondRound) (v .0) (v .1) in

@@ -19,7 +19,7 @@ use Rattle.bench.specs.declared.Event.the-variants.{Lose}
 use Rattle.bench.proofs.BatchRuns.{batches-are-runs, answers-within, runs-few, runs-unchanged, batch-first}
 use Rattle.plan.specs.Events.{Placed, eventsAt, eventsOf, mostListed, Listing, listing, eventsReply, listProgress, bytesBy}
 use Rattle.plan.proofs.Laws.{field-bridges}
-use Rattle.plan.proofs.EventLaws.{ReadAs, reads-as, first-fits, lastEnd, end-within, length-events, Listed, listed}
+use Rattle.plan.proofs.EventLaws.{ReadAs, reads-as, first-fits, lastEnd, end-within, length-events, InBuffers, listed}
 use Rattle.runner.specs.Buffers.{Buffers, buffers, buffersLong}
 use Rattle.runner.specs.Turns.{StepOutcome, stepOutcome}
 use Rattle.runner.specs.Fills.{stepsOn, fills}
@@ -115,7 +115,7 @@ module _
   abbrev xs : List Placed
   xs = eventsAt (mostListed (length first)) (listProgress (done .runner .bench)) numbers 0 behind
 
-  is-listed : Listed xs events ends
+  is-listed : InBuffers xs events ends
   is-listed = listed behind (listProgress (done .runner .bench)) numbers first (rw (rest-lent rest (done .used)) at read)
 
   every : length events ≡ 2048

@@ -15,7 +15,7 @@ use Rattle.plan.specs.Reading.{readReply}
 use Rattle.bench.specs.declared.Event.{Event}
 use Rattle.plan.specs.declared.Field.{Field}
 use Rattle.plan.specs.declared.Read.{Read}
-use Rattle.plan.proofs.Laws.{Told, field-told}
+use Rattle.plan.proofs.Laws.{FieldRead, field-read}
 use Rattle.runner.specs.Buffers.{Buffers, stateOn, progressOf}
 use Rattle.runner.specs.Turns.{StepOutcome, lastStep, eventStep, fieldStep, stepOf}
 use Rattle.runner.specs.Whole.{Position, position, stateAt, callRead, calls, leaves}
@@ -23,7 +23,7 @@ use Rattle.runner.specs.declared.Runner.{Runner}
 use Rattle.runner.proofs.RunSteps.{Step, refused, ended, carried, step-is}
 
 -- the calls make of the state s the state at the end, and an event came
-pub record Ran (s : State) (end : Position) (cs : List Call) : Type 0 where
+pub record RunsTo (s : State) (end : Position) (cs : List Call) : Type 0 where
   pub state : stateAt end ≡ runBy s cs
   pub stage : end .runner .stage ≡ 3
 
@@ -36,7 +36,7 @@ endAfter fuel rest t = cond (t .going) (leaves fuel (t .runner) (t .buffers) (dr
 
 -- events from now on
 abbrev pub Follows : ℕ → Type 0
-Follows fuel = (r : Runner) (k : Buffers) (rest : List ℕ) → r .stage ≡ 3 → Ran (stateOn (r .bench) k) (leaves fuel r k rest) (calls fuel r k rest)
+Follows fuel = (r : Runner) (k : Buffers) (rest : List ℕ) → r .stage ≡ 3 → RunsTo (stateOn (r .bench) k) (leaves fuel r k rest) (calls fuel r k rest)
 
 -- an event is carried out, or ends the plan
 abbrev pub accepts : Runner → Buffers → Event → Bool
@@ -49,7 +49,7 @@ module _ (fuel : ℕ) (e : Event) (used : ℕ) (r : Runner) (k : Buffers) (rest 
   abbrev pub made : List Call
   made = callsAfter fuel rest (callOf e ∷ []) (eventStep e used r k)
 
-  pub event-ran : Follows fuel → accepts r k e ≡ true → Ran (stateOn (r .bench) k) end made
+  pub event-ran : Follows fuel → accepts r k e ≡ true → RunsTo (stateOn (r .bench) k) end made
   unfolding eventStep
   event-ran follows q =
       let n = follows _ _ (drop used rest) refl in
@@ -65,19 +65,19 @@ unfolding calls leaves lastStep fieldStep
 follows zero r k rest h = record { state = sym (run-none (stateOn (r .bench) k)); stage = h }
 follows (suc fuel) r k rest h = go (follows fuel) (step-is r k rest)
   where
-    go : Follows fuel → Step r k rest → Ran (stateOn (r .bench) k) (endAfter fuel rest (stepOf r k rest)) (callsAfter fuel rest (callRead (readReply rest (progressOf r))) (stepOf r k rest))
+    go : Follows fuel → Step r k rest → RunsTo (stateOn (r .bench) k) (endAfter fuel rest (stepOf r k rest)) (callsAfter fuel rest (callRead (readReply rest (progressOf r))) (stepOf r k rest))
     go next (refused e) = rw e (record { state = sym (run-none (stateOn (r .bench) k)); stage = h })
     go next (ended number d e) = rw e (record { state = sym (run-none (stateOn (r .bench) k)); stage = h })
-    go next (carried f used long d e) = field f d e (field-told rest (progressOf r) d)
+    go next (carried f used long d e) = field f d e (field-read rest (progressOf r) d)
       where
-        field : (f : Field) → readReply rest (progressOf r) ≡ Read.Field f used → stepOf r k rest ≡ fieldStep rest f used r k → Told rest (progressOf r) f →
-            Ran (stateOn (r .bench) k) (endAfter fuel rest (stepOf r k rest)) (callsAfter fuel rest (callRead (readReply rest (progressOf r))) (stepOf r k rest))
+        field : (f : Field) → readReply rest (progressOf r) ≡ Read.Field f used → stepOf r k rest ≡ fieldStep rest f used r k → FieldRead rest (progressOf r) f →
+            RunsTo (stateOn (r .bench) k) (endAfter fuel rest (stepOf r k rest)) (callsAfter fuel rest (callRead (readReply rest (progressOf r))) (stepOf r k rest))
         field (Field.Bridges n) d e told = absurd (omega arith)
         field (Field.Link x y) d e told = absurd (omega arith)
         field Field.View d e told = absurd (omega arith)
         field (Field.Event v) d e told = rw (e, d) (event v (accepts r k v) refl)
           where
-            event : (v : Event) (b : Bool) → accepts r k v ≡ b → Ran (stateOn (r .bench) k) (end fuel v used r k rest) (made fuel v used r k rest)
+            event : (v : Event) (b : Bool) → accepts r k v ≡ b → RunsTo (stateOn (r .bench) k) (end fuel v used r k rest) (made fuel v used r k rest)
             event v true q = event-ran fuel v used r k rest next q
             event v false q =
                 let left = event-stopped fuel v used r k rest q in

@@ -21,7 +21,7 @@ use Rattle.plan.specs.Reading.{readReply}
 use Rattle.bench.specs.declared.Event.{Event}
 use Rattle.plan.specs.declared.Field.{Field}
 use Rattle.plan.specs.declared.Read.{Read}
-use Rattle.plan.proofs.Laws.{Told, field-told}
+use Rattle.plan.proofs.Laws.{FieldRead, field-read}
 use Rattle.runner.specs.Buffers.{Buffers, buffersLong, stateOn, progressOf}
 use Rattle.runner.specs.Turns.{lastStep, setupStep, withView, withRow, fieldStep, stepOf}
 use Rattle.runner.specs.Plans.{firstRunner, firstBuffers}
@@ -101,13 +101,13 @@ set-up (suc fuel) r k rest s = go (set-up fuel) (step-is r k rest)
         Outcome (setsUp (suc fuel) r k rest) (leaves (suc fuel) r k rest) (calls (suc fuel) r k rest)
     go next (refused e) = inl (rw e (record { stage = omega (arith, s .begun .early); none = refl }))
     go next (ended number d e) = inl (rw e (record { stage = omega (arith, s .begun .early); none = refl }))
-    go next (carried f used long d e) = field f d e (field-told rest (progressOf r) d)
+    go next (carried f used long d e) = field f d e (field-read rest (progressOf r) d)
       where
         -- before the first view
         early : {b : Bench} → Begun 1 b (k .costs) → Standing 1 b (k .costs) (k .sent) (k .held)
         early now = record { begun = now; stood = λ h. absurd (omega arith) }
 
-        field : (f : Field) → readReply rest (progressOf r) ≡ Read.Field f used → stepOf r k rest ≡ fieldStep rest f used r k → Told rest (progressOf r) f →
+        field : (f : Field) → readReply rest (progressOf r) ≡ Read.Field f used → stepOf r k rest ≡ fieldStep rest f used r k → FieldRead rest (progressOf r) f →
             Outcome (setsUp (suc fuel) r k rest) (leaves (suc fuel) r k rest) (calls (suc fuel) r k rest)
         field (Field.Bridges n) d e told = rw (e, d) (next _ _ (drop used rest) (early (bridges-begun _ _ _ (s .begun) n (told .opening) (told .least) (told .most))))
         field (Field.Link x y) d e told =

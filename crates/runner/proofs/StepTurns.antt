@@ -16,7 +16,7 @@ use Rattle.plan.specs.Reading.{readReply}
 use Rattle.bench.specs.declared.Event.{Event}
 use Rattle.plan.specs.declared.Field.{Field}
 use Rattle.plan.specs.declared.Read.{Read}
-use Rattle.plan.proofs.Laws.{Told, field-size, field-told}
+use Rattle.plan.proofs.Laws.{FieldRead, field-size, field-read}
 use Rattle.runner.specs.Buffers.{Buffers, buffers, buffersLong, stateOn, progressOf}
 use Rattle.runner.specs.Events.{textOf, stateAfter, Line, line, lineOf}
 use Rattle.runner.specs.Turns.{StepOutcome, stepOutcome, lastStep, lastText, setupStep, eventStep, fieldStep, readStep, stepOf, stopNumber, runnerInRange, fieldFits}
@@ -107,7 +107,7 @@ step-told r k ok =
     }
 
 -- what the reader tells of a field
-told-fits : (rest : List ℕ) (r : Runner) (f : Field) → Told rest (progressOf r) f → fieldFits rest (r .bench) f
+told-fits : (rest : List ℕ) (r : Runner) (f : Field) → FieldRead rest (progressOf r) f → fieldFits rest (r .bench) f
 told-fits rest r (Field.Bridges n) h = tt
 told-fits rest r (Field.Link x y) h = h .room
 told-fits rest r Field.View h = record { room = h .room; listed = h .listed; costs = h .costs }
@@ -115,7 +115,7 @@ told-fits rest r (Field.Event e) h = tt
 
 module _ (rest : List ℕ) (r : Runner) {f : Field} {used : ℕ} (read : readReply rest (progressOf r) ≡ Read.Field f used) where
   pub field-fits : fieldFits rest (r .bench) f
-  field-fits = told-fits rest r f (field-told rest (progressOf r) read)
+  field-fits = told-fits rest r f (field-read rest (progressOf r) read)
 
   -- a field of a header and two bytes' worth of value
   pub field-used : byte rest 1 < 256 → byte rest 2 < 256 → used ≤ 65538

@@ -65,10 +65,10 @@ endedOn Disposition.Full t = t
 
 -- the events that were made, with their lines, and the refusal of the next one if it was refused
 unfoldable pub listedOn : Stepped → BatchResult → List Event → List ℕ → List ℕ → List ℕ → StepOutcome
-listedOn done ran events ends answers out =
-    let texts : List ℕ = textsOf (done .runner .bench .bridges) (take (ran .made) events) answers in
-    endedOn (ran .disposition)
-    (turned (madeOn done [] (ran .bench) (ran .made) (bytesBy ends (ran .made)) (done .written + length texts))
+listedOn done batch events ends answers out =
+    let texts : List ℕ = textsOf (done .runner .bench .bridges) (take (batch .made) events) answers in
+    endedOn (batch .disposition)
+    (turned (madeOn done [] (batch .bench) (batch .made) (bytesBy ends (batch .made)) (done .written + length texts))
     (sets out (done .written) texts))
 
 -- a refusal has a number
@@ -78,16 +78,16 @@ SomeNumber (Disposition.Refused k) = 0 < k
 SomeNumber Disposition.Full = Unit {0}
 
 -- all of it has room and stays in range
-pub record ResultFits (done : Stepped) (ran : BatchResult) (events : List Event) (ends answers : List ℕ) (out : ℕ) : Type 0 where
+pub record ResultFits (done : Stepped) (batch : BatchResult) (events : List Event) (ends answers : List ℕ) (out : ℕ) : Type 0 where
   pub most : done .runner .bench .bridges ≤ 16
-  pub few : ran .made ≤ 2048
-  pub ended : ran .made < length ends
-  pub sizes : answerSizes (done .runner .bench .bridges) (take (ran .made) events) ≤ length answers
-  pub room : done .written + length (textsOf (done .runner .bench .bridges) (take (ran .made) events) answers) + longestText ≤ out
-  pub counted : done .runner .events + ran .made ≤ longestPlan
-  pub offset : done .runner .offset + bytesBy ends (ran .made) ≤ longestPlan
-  pub used : done .used + bytesBy ends (ran .made) < 2 ^ 64
-  pub number : SomeNumber (ran .disposition)
+  pub few : batch .made ≤ 2048
+  pub ended : batch .made < length ends
+  pub sizes : answerSizes (done .runner .bench .bridges) (take (batch .made) events) ≤ length answers
+  pub room : done .written + length (textsOf (done .runner .bench .bridges) (take (batch .made) events) answers) + longestText ≤ out
+  pub counted : done .runner .events + batch .made ≤ longestPlan
+  pub offset : done .runner .offset + bytesBy ends (batch .made) ≤ longestPlan
+  pub used : done .used + bytesBy ends (batch .made) < 2 ^ 64
+  pub number : SomeNumber (batch .disposition)
 
 -- one step on, or more
 pub record StepsMade (from : StepOutcome) (rest : List ℕ) (t : StepOutcome) : Type 0 where

@@ -15,7 +15,7 @@ use bench::sizes::MOST_EVENTS;
 use bench::sizes::MOST_MESSAGES;
 use distances::ready::both;
 use messages::Message;
-use messages::batches::RanMessages;
+use messages::batches::MessageBatchResult;
 use text::LONGEST;
 ghost use mathlib.Core.Path.{_≡_};
 ghost use mathlib.Core.Bool.{true, _&&_};
@@ -83,12 +83,12 @@ fn put_texts(
 }
 
 // Nothing was made, and nothing refused.
-pub(crate) fn nothing_made(listed: RanMessages) -> bool
-    ensures { λ b. ⌜ b ≡ (eqb (listed .ran .made) 0 && eqb (refusalIn (listed .ran .disposition)) 0) ⌝ }
+pub(crate) fn nothing_made(listed: MessageBatchResult) -> bool
+    ensures { λ b. ⌜ b ≡ (eqb (listed .batch .made) 0 && eqb (refusalIn (listed .batch .disposition)) 0) ⌝ }
 {
-    let ran = listed.ran;
-    let how = ran.disposition;
-    both(ran.made == 0, refusal_in(how) == 0)
+    let batch = listed.batch;
+    let how = batch.disposition;
+    both(batch.made == 0, refusal_in(how) == 0)
 }
 
 // With so many events of so many bytes made, and their texts up to `end`.
@@ -143,23 +143,23 @@ fn refused_on(done: Stepped, number: u8, out: &mut [u8]) -> Stepped
 // The events that were made, with their lines, and the refusal of the next one if it was refused.
 pub(crate) fn listed_on(
     done: Stepped,
-    listed: RanMessages,
+    listed: MessageBatchResult,
     events: [Event; MOST_EVENTS],
     ends: &[u16],
     answers: &[u32],
     out: &mut [u8],
 ) -> Stepped
-    requires { ⌜ ResultFits done (listed .ran) events (now ends) (now answers) (length (now out)) ⌝ }
-    ensures { λ s. ⌜ turned s (now (out .exit)) ≡ listedOn done (listed .ran) events (now (ends .entry)) (now (answers .entry)) (now (out .entry)) ⌝ }
+    requires { ⌜ ResultFits done (listed .batch) events (now ends) (now answers) (length (now out)) ⌝ }
+    ensures { λ s. ⌜ turned s (now (out .exit)) ≡ listedOn done (listed .batch) events (now (ends .entry)) (now (answers .entry)) (now (out .entry)) ⌝ }
     ensures { λ s. ⌜ s .messages ≡ listed .messages ⌝ }
 {
     let r = done.runner;
     let old = r.bench;
-    let ran = listed.ran;
+    let batch = listed.batch;
     let left = listed.messages;
-    let made = ran.made;
-    let after = ran.bench;
-    let how = ran.disposition;
+    let made = batch.made;
+    let after = batch.bench;
+    let how = batch.disposition;
     let number = refusal_in(how);
     let end = put_texts(done.written, old.bridges, events, made, answers, out);
     let next = made_on(

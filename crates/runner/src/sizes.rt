@@ -3,7 +3,7 @@
 // The longest plan, in bytes; neither its events nor its bytes are more.
 pub const LONGEST_PLAN: usize = 61440;
 
-pub(crate) const MOST_COUNTED: u32 = 61440;
+pub const MOST_COUNTED: u32 = 61440;
 
 // So many events may be counted where a list of 2,048 comes.
 pub(crate) const MOST_BEFORE_A_LIST: u32 = 59392;
@@ -12,6 +12,3 @@ pub(crate) const MOST_BEFORE_A_LIST: u32 = 59392;
 pub(crate) const ANSWERS: usize = 2048;
 
 pub(crate) const BYTES_FOR_A_NUMBER: usize = 15;
-
-// Where each event of a list ends, behind how many there are.
-pub(crate) const EVENT_ENDS: usize = 2049;

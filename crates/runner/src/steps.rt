@@ -154,16 +154,16 @@ fn event_step(
     let events = [event; MOST_EVENTS];
     let mut answers = [0u32; 32];
     let listed = run_by_value(bench, costs, sent, held, messages, events, 1, &mut answers);
-    let ran = listed.ran;
+    let batch = listed.batch;
     let left = listed.messages;
-    let how = ran.disposition;
+    let how = batch.disposition;
     let number = refusal_in(how);
     if number != 0 {
         return ended(r, left, number, out);
     }
-    let size = ran.answered;
+    let size = batch.answered;
     let written = event_text(bench.bridges, event, &answers[..size], out);
-    let after = ran.bench;
+    let after = batch.bench;
     let runner = Runner {
         bench: after,
         stage: 3,

@@ -6,6 +6,9 @@ ghost use Rattle.text.specs.Decimal.{digit, digits, decimal};
 ghost use Rattle.text.specs.Lines.{orDash};
 ghost use Rattle.text.specs.Writing.{Put};
 
+// The number that stands for none.
+const NONE: u32 = 4294967295;
+
 pub(crate) fn put_byte(out: &mut [u8], at: usize, b: u8) -> usize
     requires { ⌜ at < length (now out) ⌝ }
     ensures { λ r. ⌜ Put (now (out .entry)) at (b ∷ []) (now (out .exit)) r ⌝ }
@@ -80,7 +83,7 @@ pub(crate) fn put_or_dash(out: &mut [u8], at: usize, n: u32) -> usize
     ensures { λ r. ⌜ Put (now (out .entry)) at (orDash n) (now (out .exit)) r ⌝ }
     ensures { λ r. ⌜ r ≤ at + 10 ⌝ }
 {
-    if n == 4294967295 {
+    if n == NONE {
         return put_byte(out, at, 45);
     }
     put_number(out, at, n)

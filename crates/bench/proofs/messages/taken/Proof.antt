@@ -1,7 +1,7 @@
 -- `messages::taken` meets its contract. Assumes nothing.
 use native.Mathlib.Omega.{arith}
 use mathlib.Core.Path.{refl, subst}
-use Rattle.bench.specs.Effects.{ReceptionTold}
+use Rattle.bench.specs.Effects.{ReceptionFits}
 use Rattle.bench.proofs.messages.taken.Statement.{statement}
 use Rattle.bench.proofs.messages.taken.Tie as tie
 
@@ -15,10 +15,10 @@ enum-known-reception-2 : tie.Need-enum-known-reception-2
 enum-known-reception-2 c = c .match .keys2
 
 mul-after : tie.Need-mul-after
-mul-after c = omega (arith, subst ReceptionTold (c .before .reception2 .given .1) (c .before .before .before .pre))
+mul-after c = omega (arith, subst ReceptionFits (c .before .reception2 .given .1) (c .before .before .before .pre))
 
 element-set-from-after : tie.Need-element-set-from-after
-element-set-from-after c = subst ReceptionTold (c .before .reception2 .given .1) (c .before .before .before .pre)
+element-set-from-after c = subst ReceptionFits (c .before .reception2 .given .1) (c .before .before .before .pre)
 
 returns : tie.Need-returns
 returns c = rw (c .before .before .reception .given .1) (c .refused-delivery .ensures)

@@ -27,22 +27,22 @@ listed : (s : tie.Start Inv-loop μ-loop) → length (s .args .t1 .records) ≡ 
 listed s = search (needs, length-mapped)
 
 -- the numbers of a turn: the end, its bridge, that bridge's view, the destination; then the bridge at the other end
-abbrev Turn : Type 0
-Turn = tie.In-loop Inv-loop μ-loop
+abbrev InLoop : Type 0
+InLoop = tie.In-loop Inv-loop μ-loop
 
-low : (t : Turn) → t .before .loop .e < 64
+low : (t : InLoop) → t .before .loop .e < 64
 low t = end-low (t .loop-test .taken) (t .before .before .before .before .before .before .before .pre .0 .ready .fewLinks)
 
-here : (t : Turn) → getD (t .before .before .before .before .before .before .before .args .t1 .ends) (t .before .loop .e) 0 < t .before .before .before .before .before .before .before .args .t1 .bridges
+here : (t : InLoop) → getD (t .before .before .before .before .before .before .before .args .t1 .ends) (t .before .loop .e) 0 < t .before .before .before .before .before .before .before .args .t1 .bridges
 here t = t .before .before .before .before .before .before .before .pre .0 .ready .areBridges (t .before .loop .e) (t .loop-test .taken)
 
-at-low : (t : Turn) → getD (t .before .before .before .before .before .before .before .args .t1 .ends) (t .before .loop .e) 0 < 16
+at-low : (t : InLoop) → getD (t .before .before .before .before .before .before .before .args .t1 .ends) (t .before .loop .e) 0 < 16
 at-low t = lt-of-lt-of-le (here t) (t .before .before .before .before .before .before .before .pre .0 .ready .fewBridges)
 
-own-low : (t : Turn) → getD (t .before .before .before .before .before .before .before .args .t1 .view) (getD (t .before .before .before .before .before .before .before .args .t1 .ends) (t .before .loop .e) 0) 0 < 32
+own-low : (t : InLoop) → getD (t .before .before .before .before .before .before .before .args .t1 .view) (getD (t .before .before .before .before .before .before .before .args .t1 .ends) (t .before .loop .e) 0) 0 < 32
 own-low t = view-low (t .before .before .before .before .before .before .before .pre .0) _ (here t)
 
-dest-low : (t : Turn) → t .before .before .before .before .before .before .before .args .dest < 16
+dest-low : (t : InLoop) → t .before .before .before .before .before .before .before .args .dest < 16
 dest-low t = lt-of-lt-of-le (t .before .before .before .before .before .before .before .pre .1 .0) (t .before .before .before .before .before .before .before .pre .0 .ready .fewBridges)
 
 other-low : (t : tie.After-opposite-end Inv-loop μ-loop) → getD (t .before .before .before .before .before .before .before .before .before .before .args .t1 .ends) (t .opposite-end .result) 0 < 16
@@ -167,7 +167,7 @@ loop-less c = fewer-left (c .before .before .before .before .before .before .bef
 loop-again : tie.Need-loop-again Inv-loop μ-loop
 loop-again c =
     let s : tie.Start Inv-loop μ-loop = (c .before .before .before .before .before .before .before .before .before .before .before .before .before .before .before .before .before .before) in
-    let turn : Turn = (c .before .before .before .before .before .before .before .before .before .before .before) in
+    let turn : InLoop = (c .before .before .before .before .before .before .before .before .before .before .before) in
     let e = c .before .before .before .before .before .before .before .before .before .before .before .before .loop .e in
     let inv = c .before .before .before .before .before .before .before .before .before .before .before .before .loop .inv in
     let other = c .before .before .before .before .before .before .before .before .opposite-end in (

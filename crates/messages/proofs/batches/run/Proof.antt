@@ -154,8 +154,8 @@ module _ {M : Type 1} (𝓤 : URA M) (H : Heap 𝓤) (A : Atoms 𝓤) (W : Given
   abbrev Handed : Item 𝓤
   Handed = batch.Handed 𝓤 H A κs′ qs′ c s e κₐ qₐ a
 
-  abbrev Said : Answer → Item 𝓤
-  Said = batch.Said 𝓤 H A κs′ qs′ c s e κₐ qₐ a
+  abbrev LastLists : Answer → Item 𝓤
+  LastLists = batch.LastLists 𝓤 H A κs′ qs′ c s e κₐ qₐ a
 
   abbrev Left : Answer → Item 𝓤
   Left = batch.Left 𝓤 H A κs′ qs′ c s e κₐ qₐ a
@@ -188,8 +188,8 @@ module _ {M : Type 1} (𝓤 : URA M) (H : Heap 𝓤) (A : Atoms 𝓤) (W : Given
   Post = walkOf 𝓤 H A runs.ended stayed (runs.clauses 𝓤 H A mem run) .post ((κs, qs, tt, args, vals), tt)
 
   -- what is said of an answer, and of the messages' numbers before and after
-  abbrev Ran : List ℕ → Answer → List ℕ → Type 0
-  Ran = Runs h (c .now) (s .now) (e .now) (a .now) events n
+  abbrev RunsHere : List ℕ → Answer → List ℕ → Type 0
+  RunsHere = Runs h (c .now) (s .now) (e .now) (a .now) events n
 
   -- the call of `run_numbers`: the local's numbers ns stand at l, and are lent for ν under the name δ
   module _ (l : ℕ) (ns : List ℕ) (z : length ns ≡ 320) where
@@ -219,7 +219,7 @@ module _ {M : Type 1} (𝓤 : URA M) (H : Heap 𝓤) (A : Atoms 𝓤) (W : Given
 
     -- what is known once it has returned w, with the last numbers ms
     abbrev RanWith : Val → Answer → List ℕ → Type 0
-    RanWith w y ms = Ran (took size ns) y (took size ms) × Returned y w
+    RanWith w y ms = RunsHere (took size ns) y (took size ms) × Returned y w
 
     leaves :
         (ν : ℕ) (δ : GName) (w : Val) →
@@ -229,8 +229,8 @@ module _ {M : Type 1} (𝓤 : URA M) (H : Heap 𝓤) (A : Atoms 𝓤) (W : Given
         qed W (raw (RunNumbers 𝓤 H A mem run .post (to-run ν δ) w) ∷ []) ∵ updating ! $
         use1 W (later (some (λ (r : BatchResult). (AllToks (ν ∷ []) fullShare ⊛ ‵ (R.the-row .own r (w ∷ []))) ⊛ raw (ensured 𝓤 H A run-numbers.ended (run-numbers.clauses 𝓤 H A mem run) (batch.with-messages 𝓤 H A κs′ qs′ c s e κₐ qₐ a (ν ∷ [])) (handed δ) tt r)))) (id⊢ 𝓤 _) $ await ! tt $ pick ! (λ r.
         split ! $ move ! (1 ∷ []) $
-        use1 W (some (λ (ws : Lasting). ‵ (lasts run-numbers.ended (batch.with-messages 𝓤 H A κs′ qs′ c s e κₐ qₐ a (ν ∷ [])) (handed δ) ws) ⊛ raw (fact 𝓤 (Ran (took size ns) (answered r ws) (took size (ws .1 .1 .1 .1 .0)))))) (id⊢ 𝓤 _) $ pick ! (λ ws.
-        split ! $ move ! (1 ∷ []) $ heard ! (Ran (took size ns) (answered r ws) (took size (ws .1 .1 .1 .1 .0))) (λ f.
+        use1 W (some (λ (ws : Lasting). ‵ (lasts run-numbers.ended (batch.with-messages 𝓤 H A κs′ qs′ c s e κₐ qₐ a (ν ∷ [])) (handed δ) ws) ⊛ raw (fact 𝓤 (RunsHere (took size ns) (answered r ws) (took size (ws .1 .1 .1 .1 .0)))))) (id⊢ 𝓤 _) $ pick ! (λ ws.
+        split ! $ move ! (1 ∷ []) $ heard ! (RunsHere (took size ns) (answered r ws) (took size (ws .1 .1 .1 .1 .0))) (λ f.
         use2 W (given (Returned (answered r ws) w) (‵ (finally u32 δ (ws .1 .1 .1 .1 .0)) ⊛ ‵ (flft (ν ∷ []) fullShare) ⊛ Left (answered r ws)))
         (batch.gets 𝓤 H A κs′ qs′ c s e κₐ qₐ a W u32 (at-list u32 320 l δ ns) (ν ∷ []) fullShare (answered r ws) w (ws .1 .1 .1 .1 .0) (fsep ftrue ftrue)) $ learn ! (λ m. at-once ! $
         show ! (λ (y : Answer). ex 𝓤 (λ (ms : List ℕ). guard 𝓤 (RanWith w y ms) (sep 𝓤 (sem 𝓤 H A (finally u32 δ ms)) (sep 𝓤 (A .lft (ν ∷ []) fullShare) (mean 𝓤 H A (Left y)))))) (answered r ws) $
@@ -239,17 +239,17 @@ module _ {M : Type 1} (𝓤 : URA M) (H : Heap 𝓤) (A : Atoms 𝓤) (W : Given
 
   -- what the callees say, as the contract has it
   done-as :
-      (ns ms : List ℕ) (y : Answer) (k : ℕ) (zs : List Message) → took size ns ≡ flight (x .now) → Ran (took size ns) y (took size ms) → length ms ≡ 320 → k ≡ min size 64 → zs ≡ putFrom ms 0 k (x .now)
-      → Ran (flight (x .now)) y (flight zs)
+      (ns ms : List ℕ) (y : Answer) (k : ℕ) (zs : List Message) → took size ns ≡ flight (x .now) → RunsHere (took size ns) y (took size ms) → length ms ≡ 320 → k ≡ min size 64 → zs ≡ putFrom ms 0 k (x .now)
+      → RunsHere (flight (x .now)) y (flight zs)
   done-as ns ms y k zs before f long all m =
       runs-as h (c .now) (s .now) (e .now) (a .now) events n y (took size ns) (flight (x .now)) (took size ms) (flight zs) before
       (ap flight m ∙ ap (λ (j : ℕ). flight (putFrom ms 0 j (x .now))) all ∙ put-all (x .now) ms long) f
 
   exits :
-      (w : Val) (y : Answer) (zs : List Message) → Is R.the-row (y .0) (w ∷ []) → Ran (flight (x .now)) y (flight zs) → rest 64 zs ≡ rest 64 (x .now) → SameLengths y → length zs ≡ size
-      → ent 𝓤 (⋆ 𝓤 H A (‵ (finally T.the-row (x .name) zs) ∷ ‵ (flft κ q) ∷ Toks ∷ Said y ∷ Kept ∷ [])) (Post w)
+      (w : Val) (y : Answer) (zs : List Message) → Is R.the-row (y .0) (w ∷ []) → RunsHere (flight (x .now)) y (flight zs) → rest 64 zs ≡ rest 64 (x .now) → SameLengths y → length zs ≡ size
+      → ent 𝓤 (⋆ 𝓤 H A (‵ (finally T.the-row (x .name) zs) ∷ ‵ (flft κ q) ∷ Toks ∷ LastLists y ∷ Kept ∷ [])) (Post w)
   exits w y zs is f same m k =
-      qed W (‵ (finally T.the-row (x .name) zs) ∷ ‵ (flft κ q) ∷ Toks ∷ Said y ∷ Kept ∷ []) ∵
+      qed W (‵ (finally T.the-row (x .name) zs) ∷ ‵ (flft κ q) ∷ Toks ∷ LastLists y ∷ Kept ∷ []) ∵
       suffices ! _ (ends-at 𝓤 H A runs.ended stayed (runs.clauses 𝓤 H A mem run) W ((κs, qs, tt, args, vals), tt) w (y .0) (tt, (tt, (y .1 .0, (y .1 .1 .0, (zs, (tt, (tt, (y .1 .1 .1, tt)))))))) (tt, (tt, (m .0 .0, (m .0 .1, (k, (tt, (tt, (m .1, tt))))))))) $ says-both ! f same $
       move ! (1 ∷ 2 ∷ []) $ use2 W (AllToks κ q) (batch.all-tokens 𝓤 H A κs′ qs′ c s e κₐ qₐ a W κ q) $ frame ! $ move ! (1 ∷ 2 ∷ 0 ∷ []) $
       use3 W (‵ (batch.Last 𝓤 H A κs′ qs′ c s e κₐ qₐ a W h hv h-is events ev ev-is n n-fits y (finally T.the-row (x .name) zs)))
@@ -298,7 +298,7 @@ module _ {M : Type 1} (𝓤 : URA M) (H : Heap 𝓤) (A : Atoms 𝓤) (W : Given
         move ! (0 ∷ 2 ∷ []) $ use2 W (later (some (λ (y : Answer). some (λ (ms : List ℕ). given (RanWith l₉ ns z w y ms × (length ms ≡ 320)) (‵ (rowOf u32 320 ms l₉) ⊛ Left y)))))
         (array.back the-numbers 𝓤 H A W l₉ ν′ (RunNumbers 𝓤 H A mem run .post (to-run l₉ ns z ν′ δ′) w) δ′ (RanWith l₉ ns z w) Left (leaves l₉ ns z ν′ δ′ w)) $ await ! tt $ pick ! (λ y. pick ! (λ ms. learn ! (λ f. split ! $
         move ! (1 ∷ []) $ split ! $ move ! (2 ∷ 4 ∷ 5 ∷ 0 ∷ 1 ∷ 3 ∷ []) $
-        -- [the local's numbers; what the messages own; their token; Toks; Said; Kept; _28; …]
+        -- [the local's numbers; what the messages own; their token; Toks; LastLists; Kept; _28; …]
         land ! (from ! (stop !)) (init ! 40 refl (LL.lawful R.the-type R′.the-laws 𝓤 H A W .typed (y .0) _ (f .0 .1 .1) .0)) $
         assigns ! (addr ! (from ! (fld ! refl (hop ! (look-in ! 51 (sub ! 0 refl (whole !))) (stop !))))) (from ! (stop !)) (init ! 14 refl (tt, tt)) $
         assigns ! (agg ! (and-then ! (load ! (from ! (stop !)) (look ! 14 refl)) (and-then ! (load ! (from ! (fld ! refl (stop !))) (look-in ! 51 (sub ! 1 refl (whole !)))) (no-more !)))) (from ! (stop !)) (init ! 12 refl (tt, (tt, (record { fits = x-room .0 }, tt)))) $
@@ -312,12 +312,12 @@ module _ {M : Type 1} (𝓤 : URA M) (H : Heap 𝓤) (A : Atoms 𝓤) (W : Given
         -- `append`
         use3 W (later (some (λ (ν : ℕ). some (λ (δ : GName). raw (Append 𝓤 H A mem run .pre (appending.to-append 𝓤 H A mem run W κ q (x .ptr .0) (x .ptr .1) (x .name) (x .now) l₉ ms 0 k ν δ)) ⊛ ‵ (flent (ν ∷ []) (parts-lent u32 320 ms l₉))))))
         (appending.asks 𝓤 H A mem run W κ q (x .ptr .0) (x .ptr .1) (x .name) (x .now) l₉ ms 0 k (lit< tt) (k-is .1) (omega (arith, all), omega (arith, all, f .1)) (f .1)) $ await ! tt $ pick ! (λ ν″. pick ! (λ δ″. split ! $
-        -- [what is asked; the lender's part; Toks; Said; Kept; _28; …]
+        -- [what is asked; the lender's part; Toks; LastLists; Kept; _28; …]
         calls-at ! fm (Append 𝓤 H A mem run) known-append (appending.to-append 𝓤 H A mem run W κ q (x .ptr .0) (x .ptr .1) (x .name) (x .now) l₉ ms 0 k ν″ δ″)
         (and-then ! (load ! (from ! (stop !)) (look ! 11 refl)) (and-then ! (load ! (from ! (stop !)) (look ! 7 refl)) (and-then ! (lit ! tt) (and-then ! (load ! (from ! (stop !)) (look ! 5 refl)) (no-more !))))) (λ u.
         use2 W (later (some (λ (zs : List Message). given (Appended ms 0 k (x .now) zs u) (‵ (rowOf u32 320 ms l₉) ⊛ ‵ (finally T.the-row (x .name) zs) ⊛ ‵ (flft κ q)))))
         (appending.gets 𝓤 H A mem run W κ q (x .ptr .0) (x .ptr .1) (x .name) (x .now) l₉ ms 0 k ν″ δ″ u) $ await ! tt $ pick ! (λ zs. learn ! (λ r. split3 ! $
-        -- [the local's numbers; the messages' last list; their token; Toks; Said; Kept; _28; …]
+        -- [the local's numbers; the messages' last list; their token; Toks; LastLists; Kept; _28; …]
         land ! (from ! (stop !)) (init ! 16 refl (subst (λ (t′ : Val). Holds (hasTy tyUnit t′) × WT t′) (sym (r .0)) (tt, tt))) $
         assigns ! (of-opd ! (load ! (from ! (stop !)) (look ! 40 refl))) (from ! (stop !)) (init ! 61 refl (LL.lawful R.the-type R′.the-laws 𝓤 H A W .typed (y .0) _ (f .0 .1 .1) .0)) $
         use1 W (some (λ (t′ : Val). given (Is Numbers ms (t′ ∷ [])) (‵ (fat fullShare (arrayTy u32 320) l₉ 0 t′)))) (array.whole the-numbers 𝓤 H A W l₉ ms (f .1)) $ pick ! (λ t′. learn ! (λ _.

@@ -57,8 +57,8 @@ use Rattle.messages.specs.declared.Message.{Message}
 use Rattle.messages.specs.Slices.{numbersIn, flight}
 use Rattle.messages.proofs.Message as T
 use Rattle.messages.proofs.Message.Laws as T′
-use Rattle.messages.proofs.batches.RanMessages as P
-use Rattle.messages.proofs.batches.RanMessages.Laws as P′
+use Rattle.messages.proofs.batches.MessageBatchResult as P
+use Rattle.messages.proofs.batches.MessageBatchResult.Laws as P′
 use Rattle.messages.proofs.LocalArray as array
 use Rattle.messages.proofs.LocalArray.{arrayTy, rowOf, at-list}
 use Rattle.messages.proofs.LimitsCall as limits
@@ -98,8 +98,8 @@ each-field (m ∷ ms) [] p = absurd p
 each-field (m ∷ ms) (u ∷ us) p = (p .0, each-field ms us (p .1))
 
 -- a result that stands at v and messages that stand at u, put together
-ran-is : (r : BatchResult) (v : Val) (ms : List Message) (u : Val) → Is R.the-row r (v ∷ []) → Is Messages ms (u ∷ []) → Is P.the-row (record { ran = r; messages = ms }) (vstruct (ofList (v ∷ u ∷ [])) ∷ [])
-ran-is r v ms u r-is (us, ((one, all), each-is)) = ((v ∷ [], (u ∷ [], tt)), (refl, (r-is, ((us, ((one, length-map ms (T.the-field .into) ∙ all), each-field ms us each-is)), tt))))
+batch-is : (r : BatchResult) (v : Val) (ms : List Message) (u : Val) → Is R.the-row r (v ∷ []) → Is Messages ms (u ∷ []) → Is P.the-row (record { batch = r; messages = ms }) (vstruct (ofList (v ∷ u ∷ [])) ∷ [])
+batch-is r v ms u r-is (us, ((one, all), each-is)) = ((v ∷ [], (u ∷ [], tt)), (refl, (r-is, ((us, ((one, length-map ms (T.the-field .into) ∙ all), each-field ms us each-is)), tt))))
 
 -- the last values of `batches::run`'s parameters: those of the limit tables, of the messages and of the answers are lists
 abbrev Lasting : Type 0
@@ -137,8 +137,8 @@ module _ {M : Type 1} (𝓤 : URA M) (H : Heap 𝓤) (A : Atoms 𝓤) (W : Given
   abbrev Handed : Item 𝓤
   Handed = batch.Handed 𝓤 H A κs′ qs′ c s e κₐ qₐ a
 
-  abbrev Said : Answer → Item 𝓤
-  Said = batch.Said 𝓤 H A κs′ qs′ c s e κₐ qₐ a
+  abbrev LastLists : Answer → Item 𝓤
+  LastLists = batch.LastLists 𝓤 H A κs′ qs′ c s e κₐ qₐ a
 
   abbrev Left : Answer → Item 𝓤
   Left = batch.Left 𝓤 H A κs′ qs′ c s e κₐ qₐ a
@@ -165,8 +165,8 @@ module _ {M : Type 1} (𝓤 : URA M) (H : Heap 𝓤) (A : Atoms 𝓤) (W : Given
   Post = walkOf 𝓤 H A by-value.ended stayed (by-value.clauses 𝓤 H A mem run) .post ((κs, qs, tt, args, vals), tt)
 
   -- what is said of an answer, and of the messages' numbers before and after
-  abbrev Ran : List ℕ → Answer → List ℕ → Type 0
-  Ran = Runs h (c .now) (s .now) (e .now) (a .now) events n
+  abbrev RunsHere : List ℕ → Answer → List ℕ → Type 0
+  RunsHere = Runs h (c .now) (s .now) (e .now) (a .now) events n
 
   -- the call of `batches::run`: the local's messages stand at b, and are lent for ν under the name δ
   module _ (b : ℕ) where
@@ -190,7 +190,7 @@ module _ {M : Type 1} (𝓤 : URA M) (H : Heap 𝓤) (A : Atoms 𝓤) (W : Given
 
     -- what is known once it has returned w, with the last messages zs
     abbrev RanWith : Val → Answer → List Message → Type 0
-    RanWith w y zs = Ran (flight ys) y (flight zs) × Returned y w
+    RanWith w y zs = RunsHere (flight ys) y (flight zs) × Returned y w
 
     leaves :
         (ν : ℕ) (δ : GName) (w : Val) →
@@ -200,8 +200,8 @@ module _ {M : Type 1} (𝓤 : URA M) (H : Heap 𝓤) (A : Atoms 𝓤) (W : Given
         qed W (raw (Run 𝓤 H A mem run .post (to-run ν δ) w) ∷ []) ∵ updating ! $
         use1 W (later (some (λ (r : BatchResult). (batch.AllToks 𝓤 H A κs′ qs′ c s e κₐ qₐ a (ν ∷ []) fullShare ⊛ ‵ (R.the-row .own r (w ∷ []))) ⊛ raw (ensured 𝓤 H A called.ended (called.clauses 𝓤 H A mem run) (batch.with-messages 𝓤 H A κs′ qs′ c s e κₐ qₐ a (ν ∷ [])) (handed δ) tt r)))) (id⊢ 𝓤 _) $ await ! tt $ pick ! (λ r.
         split ! $ move ! (1 ∷ []) $
-        use1 W (some (λ (ws : Lasting). ‵ (lasts called.ended (batch.with-messages 𝓤 H A κs′ qs′ c s e κₐ qₐ a (ν ∷ [])) (handed δ) ws) ⊛ raw (fact 𝓤 (Ran (flight ys) (answered r ws) (flight (ws .1 .1 .1 .1 .0)))) ⊛ raw (fact 𝓤 (rest 64 (ws .1 .1 .1 .1 .0) ≡ rest 64 ys)))) (id⊢ 𝓤 _) $ pick ! (λ ws.
-        split ! $ move ! (1 ∷ []) $ split ! $ heard ! (Ran (flight ys) (answered r ws) (flight (ws .1 .1 .1 .1 .0))) (λ f. drop ! $
+        use1 W (some (λ (ws : Lasting). ‵ (lasts called.ended (batch.with-messages 𝓤 H A κs′ qs′ c s e κₐ qₐ a (ν ∷ [])) (handed δ) ws) ⊛ raw (fact 𝓤 (RunsHere (flight ys) (answered r ws) (flight (ws .1 .1 .1 .1 .0)))) ⊛ raw (fact 𝓤 (rest 64 (ws .1 .1 .1 .1 .0) ≡ rest 64 ys)))) (id⊢ 𝓤 _) $ pick ! (λ ws.
+        split ! $ move ! (1 ∷ []) $ split ! $ heard ! (RunsHere (flight ys) (answered r ws) (flight (ws .1 .1 .1 .1 .0))) (λ f. drop ! $
         use2 W (given (Returned (answered r ws) w) (‵ (finally T.the-row δ (ws .1 .1 .1 .1 .0)) ⊛ ‵ (flft (ν ∷ []) fullShare) ⊛ Left (answered r ws)))
         (batch.gets 𝓤 H A κs′ qs′ c s e κₐ qₐ a W T.the-row (at-list T.the-row 64 b δ ys) (ν ∷ []) fullShare (answered r ws) w (ws .1 .1 .1 .1 .0) ftrue) $ learn ! (λ m. at-once ! $
         show ! (λ (y : Answer). ex 𝓤 (λ (zs : List Message). guard 𝓤 (RanWith w y zs) (sep 𝓤 (sem 𝓤 H A (finally T.the-row δ zs)) (sep 𝓤 (A .lft (ν ∷ []) fullShare) (mean 𝓤 H A (Left y)))))) (answered r ws) $
@@ -209,20 +209,20 @@ module _ {M : Type 1} (𝓤 : URA M) (H : Heap 𝓤) (A : Atoms 𝓤) (W : Given
         check ! (f, m) $ done !))))
 
   -- what the callee says, as the contract has it
-  done-as : (zs : List Message) (y : Answer) → length ys ≡ 64 → length zs ≡ 64 → Ran (flight ys) y (flight zs) → Ran (numbersIn ys) y (numbersIn zs)
+  done-as : (zs : List Message) (y : Answer) → length ys ≡ 64 → length zs ≡ 64 → RunsHere (flight ys) y (flight zs) → RunsHere (numbersIn ys) y (numbersIn zs)
   done-as zs y before after f =
       runs-as h (c .now) (s .now) (e .now) (a .now) events n y (flight ys) (numbersIn ys) (flight zs) (numbersIn zs) (flight-all ys before) (sym (flight-all zs after)) f
 
   exits :
-      (v : Val) (y : Answer) (zs : List Message) → Ran (numbersIn ys) y (numbersIn zs) → SameLengths y → Is P.the-row (record { ran = y .0; messages = zs }) (v ∷ [])
-      → ent 𝓤 (⋆ 𝓤 H A (Toks ∷ Said y ∷ Kept ∷ [])) (Post v)
+      (v : Val) (y : Answer) (zs : List Message) → RunsHere (numbersIn ys) y (numbersIn zs) → SameLengths y → Is P.the-row (record { batch = y .0; messages = zs }) (v ∷ [])
+      → ent 𝓤 (⋆ 𝓤 H A (Toks ∷ LastLists y ∷ Kept ∷ [])) (Post v)
   exits v y zs f m is =
-      qed W (Toks ∷ Said y ∷ Kept ∷ []) ∵
-      suffices ! _ (ends-at 𝓤 H A by-value.ended stayed (by-value.clauses 𝓤 H A mem run) W ((κs, qs, tt, args, vals), tt) v (record { ran = y .0; messages = zs }) (tt, (tt, (y .1 .0, (y .1 .1 .0, (tt, (tt, (tt, (y .1 .1 .1, tt)))))))) (tt, (tt, (m .0 .0, (m .0 .1, (tt, (tt, (tt, (m .1, tt))))))))) $ says ! f $
+      qed W (Toks ∷ LastLists y ∷ Kept ∷ []) ∵
+      suffices ! _ (ends-at 𝓤 H A by-value.ended stayed (by-value.clauses 𝓤 H A mem run) W ((κs, qs, tt, args, vals), tt) v (record { batch = y .0; messages = zs }) (tt, (tt, (y .1 .0, (y .1 .1 .0, (tt, (tt, (tt, (y .1 .1 .1, tt)))))))) (tt, (tt, (m .0 .0, (m .0 .1, (tt, (tt, (tt, (m .1, tt))))))))) $ says ! f $
       frame ! $ owned ! Messages (Is Messages) (array.made messages 𝓤 H A W) ys _ y-is $ move ! (1 ∷ 2 ∷ 0 ∷ []) $
       use3 W (‵ (batch.Last 𝓤 H A κs′ qs′ c s e κₐ qₐ a W h hv h-is events ev ev-is n n-fits y Own))
       (batch.leaves 𝓤 H A κs′ qs′ c s e κₐ qₐ a W h hv h-is events ev ev-is n n-fits y Own) $
-      owned ! P.the-row (Is P.the-row) (LL.makes P.the-type P′.the-plain 𝓤 H A) (record { ran = y .0; messages = zs }) _ is $ move ! (1 ∷ 0 ∷ []) $ done !
+      owned ! P.the-row (Is P.the-row) (LL.makes P.the-type P′.the-plain 𝓤 H A) (record { batch = y .0; messages = zs }) _ is $ move ! (1 ∷ 0 ∷ []) $ done !
 
   module _ (C : Calls 𝓤 H) (Λ : Loops 𝓤 H) (fm : FmC 𝓤 H (W .laws) C) (known-run : Triple 𝓤 (C #called) (Run 𝓤 H A mem run)) where
     walk : ent 𝓤 (onEntry 𝓤 H A by-value.signature κs qs args vals) (WpFn 𝓤 H C Λ code.function passed Post)
@@ -254,14 +254,14 @@ module _ {M : Type 1} (𝓤 : URA M) (H : Heap 𝓤) (A : Atoms 𝓤) (W : Given
         move ! (0 ∷ 2 ∷ []) $ use2 W (later (some (λ (y : Answer). some (λ (zs : List Message). given (RanWith l₉ w y zs × (length zs ≡ 64)) (‵ (rowOf T.the-row 64 zs l₉) ⊛ Left y)))))
         (array.back messages 𝓤 H A W l₉ ν (Run 𝓤 H A mem run .post (to-run l₉ ν δ) w) δ (RanWith l₉ w) Left (leaves l₉ ν δ w)) $ await ! tt $ pick ! (λ y. pick ! (λ zs. learn ! (λ f. split ! $
         use1 W (some (λ (u : Val). given (Is Messages zs (u ∷ [])) (‵ (fat fullShare (arrayTy T.the-row 64) l₉ 0 u)))) (array.whole messages 𝓤 H A W l₉ zs (f .1)) $ pick ! (λ u. learn ! (λ u-is. move ! (1 ∷ []) $ split ! $ move ! (0 ∷ 1 ∷ 3 ∷ 2 ∷ []) $
-        -- [Toks; Said; Kept; _9; _19; …; and so on to _10; …; (_9's right to be freed); _8; …]
+        -- [Toks; LastLists; Kept; _9; _19; …; and so on to _10; …; (_9's right to be freed); _8; …]
         land ! (from ! (stop !)) (init ! 22 refl (LL.lawful R.the-type R′.the-laws 𝓤 H A W .typed (y .0) _ (f .0 .1 .1) .0)) $
         assigns ! (of-opd ! (load ! (from ! (stop !)) (look ! 3 refl))) (from ! (stop !)) (init ! 4 refl (array.typed messages 𝓤 H A W zs _ u-is)) $
         assigns ! (agg ! (and-then ! (load ! (from ! (stop !)) (look ! 22 refl)) (and-then ! (load ! (from ! (stop !)) (look ! 4 refl)) (no-more !)))) (from ! (stop !))
-        (init ! 41 refl (LL.lawful P.the-type P′.the-laws 𝓤 H A W .typed (record { ran = y .0; messages = zs }) _ (ran-is (y .0) w zs u (f .0 .1 .1) u-is) .0)) $
+        (init ! 41 refl (LL.lawful P.the-type P′.the-laws 𝓤 H A W .typed (record { batch = y .0; messages = zs }) _ (batch-is (y .0) w zs u (f .0 .1 .1) u-is) .0)) $
         returns ! (look ! 41 refl) $ forget ! 3 refl $ forget ! 4 refl $ forget ! 6 refl $ forget ! 8 refl $ forget ! 10 refl $ forget ! 12 refl $ forget ! 14 refl $ forget ! 16 refl $ forget ! 18 refl $ forget ! 20 refl $ forget ! 22 refl $ forget ! 25 refl $ forget ! 27 refl $ forget ! 29 refl $ forget ! 31 refl $ forget ! 33 refl $ forget ! 35 refl $ forget ! 37 refl $ forget ! 39 refl $ forget ! 41 refl $
         move ! (41 ∷ 42 ∷ []) $ free1 ! $ move ! (39 ∷ 40 ∷ []) $ free1 ! $ move ! (37 ∷ 38 ∷ []) $ free1 ! $ move ! (35 ∷ 36 ∷ []) $ free1 ! $ move ! (33 ∷ 34 ∷ []) $ free1 ! $ move ! (31 ∷ 32 ∷ []) $ free1 ! $ move ! (29 ∷ 30 ∷ []) $ free1 ! $ move ! (27 ∷ 28 ∷ []) $ free1 ! $ move ! (25 ∷ 26 ∷ []) $ free1 ! $ move ! (3 ∷ 24 ∷ []) $ free1 ! $ move ! (21 ∷ 22 ∷ []) $ free1 ! $ move ! (19 ∷ 20 ∷ []) $ free1 ! $ move ! (17 ∷ 18 ∷ []) $ free1 ! $ move ! (15 ∷ 16 ∷ []) $ free1 ! $ move ! (13 ∷ 14 ∷ []) $ free1 ! $ move ! (11 ∷ 12 ∷ []) $ free1 ! $ move ! (9 ∷ 10 ∷ []) $ free1 ! $ move ! (7 ∷ 8 ∷ []) $ free1 ! $ move ! (5 ∷ 6 ∷ []) $ free1 ! $ move ! (3 ∷ 4 ∷ []) $ free1 ! $ free0 ! $
-        by ! (exits _ y zs (done-as zs y z (f .1) (f .0 .0)) (f .0 .1 .0) (ran-is (y .0) w zs u (f .0 .1 .1) u-is)))))))))))))))))))))))))))))))
+        by ! (exits _ y zs (done-as zs y z (f .1) (f .0 .0)) (f .0 .1 .0) (batch-is (y .0) w zs u (f .0 .1 .1) u-is)))))))))))))))))))))))))))))))
 
 module _ {M : Type 1} (𝓤 : URA M) (H : Heap 𝓤) (A : Atoms 𝓤) (W : Given 𝓤 H A) (mem : Memory → SProp 𝓤) (run : Routine → Fun 𝓤) where
   by-value-walks : (C : Calls 𝓤 H) (Λ : Loops 𝓤 H) → FmC 𝓤 H (W .laws) C → Triple 𝓤 (C #called) (Run 𝓤 H A mem run) → Walks 𝓤 H A by-value.ended stayed (WpFn 𝓤 H C Λ code.function) (by-value.clauses 𝓤 H A mem run)

@@ -136,8 +136,8 @@ module _ {M : Type 1} (𝓤 : URA M) (H : Heap 𝓤) (A : Atoms 𝓤) (W : Given
   abbrev Handed : Item 𝓤
   Handed = limits.Handed 𝓤 H A κs′ qs′ c s l
 
-  abbrev Said : List ℕ → List ℕ → Item 𝓤
-  Said = limits.Said 𝓤 H A κs′ qs′ c s l
+  abbrev LastLists : List ℕ → List ℕ → Item 𝓤
+  LastLists = limits.LastLists 𝓤 H A κs′ qs′ c s l
 
   abbrev AllToks : Item 𝓤
   AllToks = limits.AllToks 𝓤 H A κs′ qs′ c s l κ q
@@ -179,9 +179,9 @@ module _ {M : Type 1} (𝓤 : URA M) (H : Heap 𝓤) (A : Atoms 𝓤) (W : Given
       (d : Decided) (ss hs : List ℕ) (zs : List Message) → Is R.the-row (d .delivered) (R′.lowered (d .delivered) ∷ [])
       → Delivers h (c .now) (s .now) (l .now) (flight (x .now)) p (d .delivered) ss hs (flight zs) → rest 64 zs ≡ rest 64 (x .now)
       → limits.SameLengths 𝓤 H A κs′ qs′ c s l ss hs → length zs ≡ length (x .now)
-      → ent 𝓤 (⋆ 𝓤 H A (‵ (finally T.the-row (x .name) zs) ∷ ‵ (flft κ q) ∷ Toks ∷ Said ss hs ∷ Kept ∷ [])) (Post (R′.lowered (d .delivered)))
+      → ent 𝓤 (⋆ 𝓤 H A (‵ (finally T.the-row (x .name) zs) ∷ ‵ (flft κ q) ∷ Toks ∷ LastLists ss hs ∷ Kept ∷ [])) (Post (R′.lowered (d .delivered)))
   exits d ss hs zs is e same n k =
-      qed W (‵ (finally T.the-row (x .name) zs) ∷ ‵ (flft κ q) ∷ Toks ∷ Said ss hs ∷ Kept ∷ []) ∵
+      qed W (‵ (finally T.the-row (x .name) zs) ∷ ‵ (flft κ q) ∷ Toks ∷ LastLists ss hs ∷ Kept ∷ []) ∵
       suffices ! _ (ends-at 𝓤 H A deliver.ended stayed (deliver.clauses 𝓤 H A mem run) W ((κs, qs, tt, a, vals), tt) (R′.lowered (d .delivered)) (d .delivered) (tt, (tt, (ss, (hs, (zs, (tt, tt)))))) (tt, (tt, (n .0, (n .1, (k, (tt, tt))))))) $ says-both ! e same $
       move ! (1 ∷ 2 ∷ []) $ use2 W AllToks (limits.all-tokens 𝓤 H A κs′ qs′ c s l W κ q) $ frame ! $ move ! (1 ∷ 2 ∷ 0 ∷ []) $
       use3 W (‵ (All (finally u32 (s .name) ss) (finally u32 (l .name) hs) (finally T.the-row (x .name) zs)))
@@ -222,10 +222,10 @@ module _ {M : Type 1} (𝓤 : URA M) (H : Heap 𝓤) (A : Atoms 𝓤) (W : Given
         use1 W (later (some (λ (d : Decided). (Toks ⊛ ‵ (D.the-row .own d (w ∷ []))) ⊛ raw (ensured 𝓤 H A decide-deliver.ended (decide-deliver.clauses 𝓤 H A mem run) κs′ (args ns) tt d)))) (id⊢ 𝓤 _) $ await ! tt $ pick ! (λ d.
         split ! $ move ! (1 ∷ []) $ use1 W (some (λ (ws : Lasting). ‵ (lasts decide-deliver.ended κs′ (args ns) ws) ⊛ raw (fact 𝓤 (Decides h (c .now) (s .now) (l .now) (took (length (x .now)) ns) (length (x .now)) p d (ws .1 .1 .0) (ws .1 .1 .1 .0))))) (id⊢ 𝓤 _) $ pick ! (λ ws.
         split ! $ move ! (1 ∷ []) $ heard ! (Decides h (c .now) (s .now) (l .now) (took (length (x .now)) ns) (length (x .now)) p d (ws .1 .1 .0) (ws .1 .1 .1 .0)) (λ e.
-        use1 W (given (limits.SameLengths 𝓤 H A κs′ qs′ c s l (ws .1 .1 .0) (ws .1 .1 .1 .0)) (Said (ws .1 .1 .0) (ws .1 .1 .1 .0) ⊛ ‵ limits.nones))
+        use1 W (given (limits.SameLengths 𝓤 H A κs′ qs′ c s l (ws .1 .1 .0) (ws .1 .1 .1 .0)) (LastLists (ws .1 .1 .0) (ws .1 .1 .1 .0) ⊛ ‵ limits.nones))
         (limits.told 𝓤 H A κs′ qs′ c s l W (ws .1 .1 .0) (ws .1 .1 .1 .0) limits.nones) $ learn ! (λ n. split ! $ move ! (1 ∷ []) $ drop ! $
         move ! (1 ∷ []) $ split ! $ move ! (1 ∷ []) $ facts ! D.the-row (Is D.the-row) (shows 𝓤 H A D.the-row) d (w ∷ []) (λ is.
-        -- [Toks; Said; Kept; what the messages own; their token; _18; …]
+        -- [Toks; LastLists; Kept; what the messages own; their token; _18; …]
         land ! (from ! (stop !)) (init ! 25 refl (LL.lawful D.the-type D′.the-laws 𝓤 H A W .typed d _ is .0)) $
         rewrite ! 25 (λ (u : Val). ‵ (fat fullShare D′.mir l₈ 0 u)) (ap only (D′.lowers .val-is d _ is)) refl $ move ! (3 ∷ 4 ∷ []) $
         assigns ! (addr ! (from ! (fld ! refl (hop ! (look-in ! 31 (sub ! 0 refl (whole !))) (stop !))))) (from ! (stop !)) (init ! 7 refl (tt, tt)) $
@@ -237,7 +237,7 @@ module _ {M : Type 1} (𝓤 : URA M) (H : Heap 𝓤) (A : Atoms 𝓤) (W : Given
         (and-then ! (load ! (from ! (stop !)) (look ! 4 refl)) (and-then ! (load ! (from ! (fld ! refl (stop !))) (look-in ! 24 (sub ! 1 refl (whole !)))) (and-then ! (load ! (from ! (fld ! refl (stop !))) (look-in ! 24 (sub ! 2 refl (whole !)))) (no-more !)))) (λ u.
         use1 W (later (some (λ (zs : List Message). given (Removed (d .from) (d .past) (x .now) zs u) (‵ (finally T.the-row (x .name) zs) ⊛ ‵ (flft κ q)))))
         (removal.gets 𝓤 H A mem run W (named 0) κ q (x .ptr .0) (x .ptr .1) (x .name) (x .now) (d .from) (d .past) u) $ await ! tt $ pick ! (λ zs. learn ! (λ r. split ! $
-        -- [the messages' last list; their token; Toks; Said; Kept; _18; …]
+        -- [the messages' last list; their token; Toks; LastLists; Kept; _18; …]
         land ! (from ! (stop !)) (init ! 9 refl (subst (λ (y : Val). Holds (hasTy tyUnit y) × WT y) (sym (r .0)) (tt, tt))) $
         assigns ! (of-opd ! (load ! (from ! (fld ! refl (stop !))) (look-in ! 25 (sub ! 0 refl (whole !))))) (from ! (stop !)) (init ! 41 refl (LL.lawful R.the-type R′.the-laws 𝓤 H A W .typed (d .delivered) _ (answer-is d w is) .0)) $
         returns ! (look ! 41 refl) $ forget ! 5 refl $ forget ! 7 refl $ forget ! 9 refl $ forget ! 11 refl $ forget ! 13 refl $ forget ! 15 refl $ forget ! 17 refl $ forget ! 19 refl $ forget ! 21 refl $ forget ! 23 refl $ forget ! 25 refl $ forget ! 27 refl $ forget ! 29 refl $ forget ! 31 refl $ forget ! 33 refl $ forget ! 35 refl $ forget ! 37 refl $ forget ! 39 refl $ forget ! 41 refl $

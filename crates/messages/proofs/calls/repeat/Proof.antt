@@ -114,8 +114,8 @@ module _ {M : Type 1} (𝓤 : URA M) (H : Heap 𝓤) (A : Atoms 𝓤) (W : Given
   abbrev Handed : Item 𝓤
   Handed = limits.Handed 𝓤 H A κs′ qs′ c s l
 
-  abbrev Said : List ℕ → List ℕ → Item 𝓤
-  Said = limits.Said 𝓤 H A κs′ qs′ c s l
+  abbrev LastLists : List ℕ → List ℕ → Item 𝓤
+  LastLists = limits.LastLists 𝓤 H A κs′ qs′ c s l
 
   abbrev AllToks : Item 𝓤
   AllToks = limits.AllToks 𝓤 H A κs′ qs′ c s l κ q
@@ -152,9 +152,9 @@ module _ {M : Type 1} (𝓤 : URA M) (H : Heap 𝓤) (A : Atoms 𝓤) (W : Given
   exits :
       (r : Delivered) (w : Val) (ss hs : List ℕ) → Is R.the-row r (w ∷ []) → Repeats h (c .now) (s .now) (l .now) (flight (x .now)) p r ss hs
       → limits.SameLengths 𝓤 H A κs′ qs′ c s l ss hs
-      → ent 𝓤 (⋆ 𝓤 H A (Toks ∷ Said ss hs ∷ Kept ∷ ‵ (flft κ q) ∷ ‵ Messages ∷ [])) (Post w)
+      → ent 𝓤 (⋆ 𝓤 H A (Toks ∷ LastLists ss hs ∷ Kept ∷ ‵ (flft κ q) ∷ ‵ Messages ∷ [])) (Post w)
   exits r w ss hs is e n =
-      qed W (Toks ∷ Said ss hs ∷ Kept ∷ ‵ (flft κ q) ∷ ‵ Messages ∷ []) ∵
+      qed W (Toks ∷ LastLists ss hs ∷ Kept ∷ ‵ (flft κ q) ∷ ‵ Messages ∷ []) ∵
       suffices ! _ (ends-at 𝓤 H A repeat.ended stayed (repeat.clauses 𝓤 H A mem run) W ((κs, qs, tt, a, vals), tt) w r (tt, (tt, (ss, (hs, (tt, (tt, tt)))))) (tt, (tt, (n .0, (n .1, (tt, (tt, tt))))))) $ says ! e $
       move ! (3 ∷ 0 ∷ []) $ use2 W AllToks (limits.all-tokens 𝓤 H A κs′ qs′ c s l W κ q) $ frame ! $
       use3 W (‵ (All (finally u32 (s .name) ss) (finally u32 (l .name) hs) Messages))
@@ -191,10 +191,10 @@ module _ {M : Type 1} (𝓤 : URA M) (H : Heap 𝓤) (A : Atoms 𝓤) (W : Given
         use1 W (later (some (λ (r : Delivered). (Toks ⊛ ‵ (R.the-row .own r (w ∷ []))) ⊛ raw (ensured 𝓤 H A decide-repeat.ended (decide-repeat.clauses 𝓤 H A mem run) κs′ (args ns) tt r)))) (id⊢ 𝓤 _) $ await ! tt $ pick ! (λ r.
         split ! $ move ! (1 ∷ []) $ use1 W (some (λ (ws : Lasting). ‵ (lasts decide-repeat.ended κs′ (args ns) ws) ⊛ raw (fact 𝓤 (Repeats h (c .now) (s .now) (l .now) (took (length (x .now)) ns) p r (ws .1 .1 .0) (ws .1 .1 .1 .0))))) (id⊢ 𝓤 _) $ pick ! (λ ws.
         split ! $ move ! (1 ∷ []) $ heard ! (Repeats h (c .now) (s .now) (l .now) (took (length (x .now)) ns) p r (ws .1 .1 .0) (ws .1 .1 .1 .0)) (λ e.
-        use1 W (given (limits.SameLengths 𝓤 H A κs′ qs′ c s l (ws .1 .1 .0) (ws .1 .1 .1 .0)) (Said (ws .1 .1 .0) (ws .1 .1 .1 .0) ⊛ ‵ limits.nones))
+        use1 W (given (limits.SameLengths 𝓤 H A κs′ qs′ c s l (ws .1 .1 .0) (ws .1 .1 .1 .0)) (LastLists (ws .1 .1 .0) (ws .1 .1 .1 .0) ⊛ ‵ limits.nones))
         (limits.told 𝓤 H A κs′ qs′ c s l W (ws .1 .1 .0) (ws .1 .1 .1 .0) limits.nones) $ learn ! (λ n. split ! $ move ! (1 ∷ []) $ drop ! $
         move ! (1 ∷ []) $ split ! $ move ! (1 ∷ []) $ facts ! R.the-row (Is R.the-row) (shows 𝓤 H A R.the-row) r (w ∷ []) (λ is.
-        -- [Toks; Said; Kept; the messages' token; what they own; _12; …]
+        -- [Toks; LastLists; Kept; the messages' token; what they own; _12; …]
         land ! (from ! (stop !)) (init ! 29 refl (LL.lawful R.the-type R′.the-laws 𝓤 H A W .typed r _ is .0)) $
         returns ! (look ! 29 refl) $ forget ! 5 refl $ forget ! 7 refl $ forget ! 9 refl $ forget ! 11 refl $ forget ! 13 refl $ forget ! 15 refl $ forget ! 17 refl $ forget ! 19 refl $ forget ! 21 refl $ forget ! 23 refl $ forget ! 25 refl $ forget ! 27 refl $ forget ! 29 refl $
         move ! (29 ∷ 30 ∷ []) $ free1 ! $ move ! (27 ∷ 28 ∷ []) $ free1 ! $ move ! (25 ∷ 26 ∷ []) $ free1 ! $ move ! (23 ∷ 24 ∷ []) $ free1 ! $ move ! (21 ∷ 22 ∷ []) $ free1 ! $ move ! (19 ∷ 20 ∷ []) $ free1 ! $ move ! (17 ∷ 18 ∷ []) $ free1 ! $ move ! (15 ∷ 16 ∷ []) $ free1 ! $ move ! (13 ∷ 14 ∷ []) $ free1 ! $ move ! (11 ∷ 12 ∷ []) $ free1 ! $ move ! (9 ∷ 10 ∷ []) $ free1 ! $ move ! (7 ∷ 8 ∷ []) $ free1 ! $ move ! (5 ∷ 6 ∷ []) $ free1 ! $ free0 ! $

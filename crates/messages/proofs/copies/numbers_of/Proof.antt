@@ -143,8 +143,8 @@ module _ {M : Type 1} (𝓤 : URA M) (H : Heap 𝓤) (A : Atoms 𝓤) (W : Given
   tells-read k m = exE 𝓤 _ (λ ws. snd∗ 𝓤 (sem 𝓤 H A (lasts reader.ended (κ, tt) (ms, (k, tt)) ws)) (fact 𝓤 (m ≡ messageAt (now ms) k)))
 
   -- the same of `write_numbers`, to which the numbers are lent for the lifetime ν under the name δ
-  abbrev Lent : ℕ → GName → List ℕ → Fml
-  Lent ν δ zs = MutSlice (named 0) (ν ∷ []) u32 .own (at-list δ zs) (ns-val ∷ [])
+  abbrev LentSlice : ℕ → GName → List ℕ → Fml
+  LentSlice ν δ zs = MutSlice (named 0) (ν ∷ []) u32 .own (at-list δ zs) (ns-val ∷ [])
 
   abbrev passed : GName → List ℕ → ℕ → RefT (List ℕ) × (ℕ × (Message × Unit {0}))
   passed δ zs k = (at-list δ zs, (k, (messageAt (now ms) k, tt)))
@@ -153,9 +153,9 @@ module _ {M : Type 1} (𝓤 : URA M) (H : Heap 𝓤) (A : Atoms 𝓤) (W : Given
   to-write ν δ zs k = (((ν ∷ [], tt), (fullShare, tt), tt, passed δ zs k, (ns-val ∷ [], (vint w64 k ∷ [], (mach (messageAt (now ms) k) ∷ [], tt)))), tt)
 
   asks-write : (ν : ℕ) (δ : GName) (zs : List ℕ) (k : ℕ) → k < 2 ^ 64 → IsMessage (messageAt (now ms) k) → 5 * k + 5 ≤ length zs
-      → ent 𝓤 (sep 𝓤 (A .lft (ν ∷ []) fullShare) (sem 𝓤 H A (Lent ν δ zs))) (Writing 𝓤 H A mem run .pre (to-write ν δ zs k))
+      → ent 𝓤 (sep 𝓤 (A .lft (ν ∷ []) fullShare) (sem 𝓤 H A (LentSlice ν δ zs))) (Writing 𝓤 H A mem run .pre (to-write ν δ zs k))
   asks-write ν δ zs k fits is within =
-      qed W (‵ (flft (ν ∷ []) fullShare) ∷ ‵ (Lent ν δ zs) ∷ []) ∵ says ! within $ nothing ! $ move ! (1 ∷ 0 ∷ []) $ join ! $ frame ! $
+      qed W (‵ (flft (ν ∷ []) fullShare) ∷ ‵ (LentSlice ν δ zs) ∷ []) ∵ says ! within $ nothing ! $ move ! (1 ∷ 0 ∷ []) $ join ! $ frame ! $
       nothing ! $ owned ! S.the-row (Is S.the-row) (LL.makes S.the-type S′.the-plain 𝓤 H A) (messageAt (now ms) k) _ is $ fjoin ! $ owned ! usize (Is usize) (uint-makes 𝓤 H A W w64) k _ (refl, fits) $ fjoin ! $ move ! (1 ∷ 0 ∷ []) $ fjoin ! $ done !
 
   module _ (𝓣 : Tables 𝓤 H) (known-read : Triple 𝓤 (𝓣 .C #message-at) (Reading 𝓤 H A mem run)) (known-write : Triple 𝓤 (𝓣 .C #write-numbers) (Writing 𝓤 H A mem run)) (within : count ≤ length (now ms)) (ns-within : 5 * count ≤ length ns)

@@ -112,8 +112,8 @@ module _ {M : Type 1} (𝓤 : URA M) (H : Heap 𝓤) (A : Atoms 𝓤) (W : Given
   abbrev Kept : Item 𝓤
   Kept = limits.Kept 𝓤 H A κs qs c s e
 
-  abbrev Said : List ℕ → List ℕ → Item 𝓤
-  Said = limits.Said 𝓤 H A κs qs c s e
+  abbrev LastLists : List ℕ → List ℕ → Item 𝓤
+  LastLists = limits.LastLists 𝓤 H A κs qs c s e
 
   abbrev a : Bench × (RefT (List ℕ) × (RefT (List ℕ) × (RefT (List ℕ) × (List ℕ × (ℕ × Unit {0})))))
   a = (h, (c, (s, (e, (ns, (p, tt))))))
@@ -149,7 +149,7 @@ module _ {M : Type 1} (𝓤 : URA M) (H : Heap 𝓤) (A : Atoms 𝓤) (W : Given
     DeliveredWith w x zs = Delivers h (c .now) (s .now) (e .now) (flight ys) p (x .0) (x .1 .0) (x .1 .1) (flight zs) × (limits.SameLengths 𝓤 H A κs qs c s e (x .1 .0) (x .1 .1) × Is R.the-row (x .0) (w ∷ []))
 
     abbrev Left : Answer → Item 𝓤
-    Left x = Toks ⊛ Said (x .1 .0) (x .1 .1)
+    Left x = Toks ⊛ LastLists (x .1 .0) (x .1 .1)
 
     abbrev LastMessages : GName → List Message → Fml
     LastMessages δ zs = fsep (finally T.the-row δ zs) (feq ℕ (length zs) (length ys))
@@ -164,10 +164,10 @@ module _ {M : Type 1} (𝓤 : URA M) (H : Heap 𝓤) (A : Atoms 𝓤) (W : Given
         split ! $ move ! (1 ∷ []) $
         use1 W (some (λ (ws : Lasting). ‵ (lasts called.ended (limits.with-last 𝓤 H A κs qs c s e (ν ∷ [])) (args δ) ws) ⊛ raw (fact 𝓤 (Delivers h (c .now) (s .now) (e .now) (flight ys) p r (ws .1 .1 .0) (ws .1 .1 .1 .0) (flight (ws .1 .1 .1 .1 .0)))) ⊛ raw (fact 𝓤 (rest 64 (ws .1 .1 .1 .1 .0) ≡ rest 64 ys)))) (id⊢ 𝓤 _) $ pick ! (λ ws.
         split ! $ move ! (1 ∷ []) $ split ! $ heard ! (Delivers h (c .now) (s .now) (e .now) (flight ys) p r (ws .1 .1 .0) (ws .1 .1 .1 .0) (flight (ws .1 .1 .1 .1 .0))) (λ f. drop ! $
-        use1 W (given (limits.SameLengths 𝓤 H A κs qs c s e (ws .1 .1 .0) (ws .1 .1 .1 .0)) (Said (ws .1 .1 .0) (ws .1 .1 .1 .0) ⊛ ‵ (fsep (LastMessages δ (ws .1 .1 .1 .1 .0)) (fsep ftrue ftrue))))
+        use1 W (given (limits.SameLengths 𝓤 H A κs qs c s e (ws .1 .1 .0) (ws .1 .1 .1 .0)) (LastLists (ws .1 .1 .0) (ws .1 .1 .1 .0) ⊛ ‵ (fsep (LastMessages δ (ws .1 .1 .1 .1 .0)) (fsep ftrue ftrue))))
         (limits.told 𝓤 H A κs qs c s e W (ws .1 .1 .0) (ws .1 .1 .1 .0) (fsep (LastMessages δ (ws .1 .1 .1 .1 .0)) (fsep ftrue ftrue))) $ learn ! (λ n.
         split ! $ move ! (1 ∷ []) $ fsplit ! $ move ! (1 ∷ []) $ drop ! $ fsplit ! $ move ! (1 ∷ []) $ drop ! $
-        -- [the last messages; Said; the tokens and the result]
+        -- [the last messages; LastLists; the tokens and the result]
         move ! (2 ∷ []) $ split ! $ move ! (1 ∷ []) $ facts ! R.the-row (Is R.the-row) (shows 𝓤 H A R.the-row) r (w ∷ []) (λ is.
         use1 W (‵ (flft (ν ∷ []) fullShare) ⊛ Toks) (limits.tokens 𝓤 H A κs qs c s e W (ν ∷ []) fullShare) $ split ! $ move ! (1 ∷ 3 ∷ []) $ join ! $ at-once ! $
         show ! (λ (x : Answer). ex 𝓤 (λ (zs : List Message). guard 𝓤 (DeliveredWith w x zs) (sep 𝓤 (sem 𝓤 H A (finally T.the-row δ zs)) (sep 𝓤 (A .lft (ν ∷ []) fullShare) (mean 𝓤 H A (Left x)))))) (r, (ws .1 .1 .0, ws .1 .1 .1 .0)) $
@@ -183,9 +183,9 @@ module _ {M : Type 1} (𝓤 : URA M) (H : Heap 𝓤) (A : Atoms 𝓤) (W : Given
 
   exits :
       (v : Val) (x : Answer) (ms : List ℕ) → Delivers h (c .now) (s .now) (e .now) ns p (x .0) (x .1 .0) (x .1 .1) ms → limits.SameLengths 𝓤 H A κs qs c s e (x .1 .0) (x .1 .1)
-      → Is P.the-row (record { delivered = x .0; numbers = ms }) (v ∷ []) → ent 𝓤 (⋆ 𝓤 H A (Toks ∷ Said (x .1 .0) (x .1 .1) ∷ Kept ∷ [])) (Post v)
+      → Is P.the-row (record { delivered = x .0; numbers = ms }) (v ∷ []) → ent 𝓤 (⋆ 𝓤 H A (Toks ∷ LastLists (x .1 .0) (x .1 .1) ∷ Kept ∷ [])) (Post v)
   exits v x ms f n is =
-      qed W (Toks ∷ Said (x .1 .0) (x .1 .1) ∷ Kept ∷ []) ∵
+      qed W (Toks ∷ LastLists (x .1 .0) (x .1 .1) ∷ Kept ∷ []) ∵
       suffices ! _ (ends-at 𝓤 H A deliver.ended stayed (deliver.clauses 𝓤 H A mem run) W ((κs, qs, tt, a, vals), tt) v (record { delivered = x .0; numbers = ms }) (tt, (tt, (x .1 .0, (x .1 .1, (tt, (tt, tt)))))) (tt, (tt, (n .0, (n .1, (tt, (tt, tt))))))) $ says ! f $
       frame ! $ owned ! Numbers (Is Numbers) (array.made the-numbers 𝓤 H A W) ns _ n-is $ move ! (1 ∷ 2 ∷ 0 ∷ []) $
       use3 W (‵ (limits.All 𝓤 H A κs qs c s e W h hv h-is p p-fits (finally u32 (s .name) (x .1 .0)) (finally u32 (e .name) (x .1 .1)) (Numbers .own ns (nv ∷ []))))
@@ -229,7 +229,7 @@ module _ {M : Type 1} (𝓤 : URA M) (H : Heap 𝓤) (A : Atoms 𝓤) (W : Given
         move ! (0 ∷ 2 ∷ []) $ use2 W (later (some (λ (x : Answer). some (λ (zs : List Message). given (DeliveredWith l₇ ys w x zs × (length zs ≡ 64)) (‵ (rowOf T.the-row 64 zs l₇) ⊛ Left l₇ ys x)))))
         (array.back messages 𝓤 H A W l₇ ν (Deliver 𝓤 H A mem run .post (to-deliver l₇ ys ν δ) w) δ (DeliveredWith l₇ ys w) (Left l₇ ys) (leaves l₇ ys ν δ w)) $ await ! tt $ pick ! (λ x. pick ! (λ zs. learn ! (λ f. split ! $
         use1 W (some (λ (u : Val). given (Is Messages zs (u ∷ [])) (‵ (fat fullShare (arrayTy T.the-row 64) l₇ 0 u)))) (array.whole messages 𝓤 H A W l₇ zs (f .1)) $ pick ! (λ u. learn ! (λ u-is. move ! (1 ∷ []) $ split ! $ move ! (0 ∷ 1 ∷ 3 ∷ 2 ∷ []) $
-        -- [Toks; Said; Kept; _7; _16; …; _15; …; and so on to _8; …; (_7's right to be freed); _6; …]
+        -- [Toks; LastLists; Kept; _7; _16; …; _15; …; and so on to _8; …; (_7's right to be freed); _6; …]
         land ! (from ! (stop !)) (init ! 20 refl (LL.lawful R.the-type R′.the-laws 𝓤 H A W .typed (x .0) _ (f .0 .1 .1) .0)) $
         assigns ! (of-opd ! (load ! (from ! (stop !)) (look ! 3 refl))) (from ! (stop !)) (store ! 18 refl (array.typed messages 𝓤 H A W zs _ u-is)) $
         -- `numbers_from`

@@ -106,8 +106,8 @@ module _ {M : Type 1} (𝓤 : URA M) (H : Heap 𝓤) (A : Atoms 𝓤) (W : Given
   abbrev Kept : Item 𝓤
   Kept = limits.Kept 𝓤 H A κs qs c s e
 
-  abbrev Said : List ℕ → List ℕ → Item 𝓤
-  Said = limits.Said 𝓤 H A κs qs c s e
+  abbrev LastLists : List ℕ → List ℕ → Item 𝓤
+  LastLists = limits.LastLists 𝓤 H A κs qs c s e
 
   abbrev a : Bench × (RefT (List ℕ) × (RefT (List ℕ) × (RefT (List ℕ) × (List ℕ × (ℕ × Unit {0})))))
   a = (h, (c, (s, (e, (ns, (p, tt))))))
@@ -143,7 +143,7 @@ module _ {M : Type 1} (𝓤 : URA M) (H : Heap 𝓤) (A : Atoms 𝓤) (W : Given
     Repeated w x = Repeats h (c .now) (s .now) (e .now) (flight ys) p (x .0) (x .1 .0) (x .1 .1) × (limits.SameLengths 𝓤 H A κs qs c s e (x .1 .0) (x .1 .1) × Is R.the-row (x .0) (w ∷ []))
 
     abbrev Left : Answer → Item 𝓤
-    Left x = Toks ⊛ Said (x .1 .0) (x .1 .1)
+    Left x = Toks ⊛ LastLists (x .1 .0) (x .1 .1)
 
     leaves :
         (ν : ℕ) (δ : GName) (w : Val) →
@@ -154,18 +154,18 @@ module _ {M : Type 1} (𝓤 : URA M) (H : Heap 𝓤) (A : Atoms 𝓤) (W : Given
         split ! $ move ! (1 ∷ []) $
         use1 W (some (λ (ws : Lasting). ‵ (lasts called.ended (limits.with-last 𝓤 H A κs qs c s e (ν ∷ [])) (args δ) ws) ⊛ raw (fact 𝓤 (Repeats h (c .now) (s .now) (e .now) (flight ys) p r (ws .1 .1 .0) (ws .1 .1 .1 .0))))) (id⊢ 𝓤 _) $ pick ! (λ ws.
         split ! $ move ! (1 ∷ []) $ heard ! (Repeats h (c .now) (s .now) (e .now) (flight ys) p r (ws .1 .1 .0) (ws .1 .1 .1 .0)) (λ f.
-        use1 W (given (limits.SameLengths 𝓤 H A κs qs c s e (ws .1 .1 .0) (ws .1 .1 .1 .0)) (Said (ws .1 .1 .0) (ws .1 .1 .1 .0) ⊛ ‵ (fsep ftrue (fsep ftrue ftrue))))
+        use1 W (given (limits.SameLengths 𝓤 H A κs qs c s e (ws .1 .1 .0) (ws .1 .1 .1 .0)) (LastLists (ws .1 .1 .0) (ws .1 .1 .1 .0) ⊛ ‵ (fsep ftrue (fsep ftrue ftrue))))
         (limits.told 𝓤 H A κs qs c s e W (ws .1 .1 .0) (ws .1 .1 .1 .0) (fsep ftrue (fsep ftrue ftrue))) $ learn ! (λ n. split ! $ move ! (1 ∷ []) $ drop ! $
-        -- [Said; the tokens and the result]
+        -- [LastLists; the tokens and the result]
         move ! (1 ∷ []) $ split ! $ move ! (1 ∷ []) $ facts ! R.the-row (Is R.the-row) (shows 𝓤 H A R.the-row) r (w ∷ []) (λ is.
         use1 W (‵ (flft (ν ∷ []) fullShare) ⊛ Toks) (limits.tokens 𝓤 H A κs qs c s e W (ν ∷ []) fullShare) $ split ! $ move ! (1 ∷ 2 ∷ []) $ join ! $ at-once ! $
         show ! (λ (x : Answer). guard 𝓤 (Repeated w x) (sep 𝓤 (A .lft (ν ∷ []) fullShare) (mean 𝓤 H A (Left x)))) (r, (ws .1 .1 .0, ws .1 .1 .1 .0)) $ check ! (f, (n, is)) $ move ! (1 ∷ 0 ∷ []) $ done !)))))
 
   exits :
       (w : Val) (x : Answer) → Repeats h (c .now) (s .now) (e .now) ns p (x .0) (x .1 .0) (x .1 .1) → limits.SameLengths 𝓤 H A κs qs c s e (x .1 .0) (x .1 .1) → Is R.the-row (x .0) (w ∷ [])
-      → ent 𝓤 (⋆ 𝓤 H A (Toks ∷ Said (x .1 .0) (x .1 .1) ∷ Kept ∷ [])) (Post w)
+      → ent 𝓤 (⋆ 𝓤 H A (Toks ∷ LastLists (x .1 .0) (x .1 .1) ∷ Kept ∷ [])) (Post w)
   exits w x f n is =
-      qed W (Toks ∷ Said (x .1 .0) (x .1 .1) ∷ Kept ∷ []) ∵
+      qed W (Toks ∷ LastLists (x .1 .0) (x .1 .1) ∷ Kept ∷ []) ∵
       suffices ! _ (ends-at 𝓤 H A repeat.ended stayed (repeat.clauses 𝓤 H A mem run) W ((κs, qs, tt, a, vals), tt) w (x .0) (tt, (tt, (x .1 .0, (x .1 .1, (tt, (tt, tt)))))) (tt, (tt, (n .0, (n .1, (tt, (tt, tt))))))) $ says ! f $
       frame ! $ owned ! Numbers (Is Numbers) (array.made the-numbers 𝓤 H A W) ns _ n-is $ move ! (1 ∷ 2 ∷ 0 ∷ []) $
       use3 W (‵ (limits.All 𝓤 H A κs qs c s e W h hv h-is p p-fits (finally u32 (s .name) (x .1 .0)) (finally u32 (e .name) (x .1 .1)) (Numbers .own ns (nv ∷ []))))
@@ -208,7 +208,7 @@ module _ {M : Type 1} (𝓤 : URA M) (H : Heap 𝓤) (A : Atoms 𝓤) (W : Given
         move ! (0 ∷ 2 ∷ []) $ use2 W (later (some (λ (x : Answer). given (Repeated l₇ ys w x) (‵ (rowOf T.the-row 64 ys l₇) ⊛ Left l₇ ys x))))
         (array.back-read messages 𝓤 H A W l₇ ν (Repeat 𝓤 H A mem run .post (to-repeat l₇ ys ν δ) w) ys (Repeated l₇ ys w) (Left l₇ ys) (leaves l₇ ys ν δ w)) $ await ! tt $ pick ! (λ x. learn ! (λ f. split ! $
         use1 W (some (λ (u : Val). given (Is Messages ys (u ∷ [])) (‵ (fat fullShare (arrayTy T.the-row 64) l₇ 0 u)))) (array.whole messages 𝓤 H A W l₇ ys z) $ pick ! (λ u. learn ! (λ _. move ! (1 ∷ []) $ split ! $ move ! (0 ∷ 1 ∷ 3 ∷ 2 ∷ []) $
-        -- [Toks; Said; Kept; _7; _14; …; _13; …; and so on to _8; …; (_7's right to be freed); _6; …]
+        -- [Toks; LastLists; Kept; _7; _14; …; _13; …; and so on to _8; …; (_7's right to be freed); _6; …]
         land ! (from ! (stop !)) (init ! 31 refl (LL.lawful R.the-type R′.the-laws 𝓤 H A W .typed (x .0) _ (f .1 .1) .0)) $
         returns ! (look ! 31 refl) $ forget ! 3 refl $ forget ! 4 refl $ forget ! 6 refl $ forget ! 8 refl $ forget ! 10 refl $ forget ! 12 refl $ forget ! 14 refl $ forget ! 16 refl $ forget ! 19 refl $ forget ! 21 refl $ forget ! 23 refl $ forget ! 25 refl $ forget ! 27 refl $ forget ! 29 refl $ forget ! 31 refl $
         move ! (31 ∷ 32 ∷ []) $ free1 ! $ move ! (29 ∷ 30 ∷ []) $ free1 ! $ move ! (27 ∷ 28 ∷ []) $ free1 ! $ move ! (25 ∷ 26 ∷ []) $ free1 ! $ move ! (23 ∷ 24 ∷ []) $ free1 ! $ move ! (21 ∷ 22 ∷ []) $ free1 ! $ move ! (19 ∷ 20 ∷ []) $ free1 ! $ move ! (3 ∷ 18 ∷ []) $ free1 ! $ move ! (15 ∷ 16 ∷ []) $ free1 ! $ move ! (13 ∷ 14 ∷ []) $ free1 ! $ move ! (11 ∷ 12 ∷ []) $ free1 ! $ move ! (9 ∷ 10 ∷ []) $ free1 ! $ move ! (7 ∷ 8 ∷ []) $ free1 ! $ move ! (5 ∷ 6 ∷ []) $ free1 ! $ move ! (3 ∷ 4 ∷ []) $ free1 ! $ free0 ! $

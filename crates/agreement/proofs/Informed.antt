@@ -1,5 +1,5 @@
--- An end that is told: it has received the far bridge's present number k, and holds the far bridge's offers in the view under it.
--- A delivery tells an end, and leaves a told one told; a clearing leaves a row of sent limits that is the offers as it is.
+-- An informed end: it has received the far bridge's present number k, and holds the far bridge's offers in the view under it.
+-- A delivery informs an end, and leaves an informed one informed; a clearing leaves a row of sent limits that is the offers as it is.
 -- Assumes nothing.
 use Prim.Native.Nat.{ℕ, _≤_}
 use native.Mathlib.Omega.{arith}
@@ -10,7 +10,7 @@ use Rattle.agreement.specs.declared.EndRecord.{EndRecord}
 use Rattle.agreement.specs.declared.Agreement.{Agreement}
 use Rattle.agreement.specs.Record.{isStale, isAgreed, answer, recorded, isClearing, sentDelivered, heldDelivered}
 
-pub record Told (k : ℕ) (r : EndRecord) (held offers : ℕ → ℕ) : Type 0 where
+pub record Informed (k : ℕ) (r : EndRecord) (held offers : ℕ → ℕ) : Type 0 where
   pub received : r .received ≡ k
   pub discarded : r .discarded ≡ k
   pub holding : r .holding ≡ true
@@ -18,23 +18,23 @@ pub record Told (k : ℕ) (r : EndRecord) (held offers : ℕ → ℕ) : Type 0 w
 
 -- a delivery of m to a bridge on view v, whose record of the far bridge is r
 module _ (v : ℕ) (r : EndRecord) (m : Agreement) (held offers : ℕ → ℕ) where
-  tells : (k : ℕ) → m .number ≡ k → m .view ≡ v → isStale r m ≡ false → Told k (recorded r (answer v r m)) (heldDelivered v r m offers held) offers
+  tells : (k : ℕ) → m .number ≡ k → m .view ≡ v → isStale r m ≡ false → Informed k (recorded r (answer v r m)) (heldDelivered v r m offers held) offers
   unfolding answer recorded heldDelivered isAgreed
   tells k number view fresh =
       rw (fresh, eq-eqb (m .view) v view)
       (record { received = number; discarded = number; holding = refl; row = λ d. rw (fresh, eq-eqb (m .view) v view) })
 
   -- by a message with the far bridge's number and the receiver's view
-  pub told-by : (k : ℕ) → m .number ≡ k → m .view ≡ v → r .received ≤ k → Told k (recorded r (answer v r m)) (heldDelivered v r m offers held) offers
+  pub informed-by : (k : ℕ) → m .number ≡ k → m .view ≡ v → r .received ≤ k → Informed k (recorded r (answer v r m)) (heldDelivered v r m offers held) offers
   unfolding isStale
-  told-by k number view before = tells k number view (le-ltb (m .number) (r .received) (omega arith))
+  informed-by k number view before = tells k number view (le-ltb (m .number) (r .received) (omega arith))
 
   -- by any message whose view is the receiver's if its number is the far bridge's
-  pub told-still : (k : ℕ) → m .number ≤ k → (m .number ≡ k → m .view ≡ v) → Told k r held offers → Told k (recorded r (answer v r m)) (heldDelivered v r m offers held) offers
+  pub informed-still : (k : ℕ) → m .number ≤ k → (m .number ≡ k → m .view ≡ v) → Informed k r held offers → Informed k (recorded r (answer v r m)) (heldDelivered v r m offers held) offers
   unfolding answer recorded heldDelivered isStale
-  told-still k most view told = go (isStale r m) refl
+  informed-still k most view told = go (isStale r m) refl
     where
-      go : (b : Bool) → isStale r m ≡ b → Told k (recorded r (answer v r m)) (heldDelivered v r m offers held) offers
+      go : (b : Bool) → isStale r m ≡ b → Informed k (recorded r (answer v r m)) (heldDelivered v r m offers held) offers
       go true q =
           rw q
           (record { received = told .received; discarded = told .discarded; holding = told .holding; row = λ d. rw q (told .row d) })

@@ -1,4 +1,4 @@
-//! The exported functions of crates/exports, each behind a safe function. They have no `requires`, so any argument is allowed.
+//! The exported functions of crates/exports_bridge, each behind a safe function. They have no `requires`, so any argument is allowed.
 
 /// Document 01's number for a refusal at the entry of a call, and ours for none.
 pub const REFUSED: u8 = 17;
@@ -7,7 +7,7 @@ pub const FILLED: u8 = 0;
 /// The length of a table: 16 rows of 16 numbers.
 pub const TABLE: usize = 256;
 
-// A slice passes as a pointer and then a length. Nothing checks these declarations against crates/exports/src/lib.rt.
+// A slice passes as a pointer and then a length. Nothing checks these declarations against crates/exports_bridge/src/lib.rt.
 extern "C" {
     fn bench_distances(
         bridges: usize,
@@ -35,7 +35,7 @@ pub const MESSAGE: usize = 3;
 pub const FLAGS: usize = 32;
 pub const RECORDS: usize = 256;
 
-// A slice passes as a pointer and then a length. Nothing checks these declarations against crates/exports/src/records.rt.
+// A slice passes as a pointer and then a length. Nothing checks these declarations against crates/exports_bridge/src/records.rt.
 extern "C" {
     fn bench_offer(
         bridges: usize,

@@ -4,7 +4,7 @@
 use crate::guard::Buffer;
 use crate::network_call::Lent;
 
-// A slice passes as a pointer and then a length. Nothing checks this declaration against crates/exports/src/lists.rt.
+// A slice passes as a pointer and then a length. Nothing checks this declaration against crates/exports_network/src/lists.rt.
 extern "C" {
     fn bench_net_run(
         bench: *mut u32,

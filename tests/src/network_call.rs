@@ -19,7 +19,7 @@ pub const NUMBER: usize = 84;
 pub const RECORDS: usize = 100;
 pub const CUT: usize = 356;
 
-// A slice passes as a pointer and then a length. Nothing checks these declarations against crates/exports/src/network.rt.
+// A slice passes as a pointer and then a length. Nothing checks these declarations against crates/exports_network/src/network.rt.
 extern "C" {
     fn bench_net_fresh(
         bench: *mut u32,

@@ -4,7 +4,7 @@
 use crate::model::Call;
 use crate::network_call::{Delivery, Lent};
 
-// A slice passes as a pointer and then a length. Nothing checks these declarations against crates/exports/src/slices.rt.
+// A slice passes as a pointer and then a length. Nothing checks these declarations against crates/exports_network/src/slices.rt.
 extern "C" {
     fn bench_slice_send(
         bench: *mut u32,

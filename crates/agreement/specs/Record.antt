@@ -2,6 +2,7 @@
 -- A row of limits is a function of the destination. Assumes nothing.
 use Prim.Native.Nat.{ℕ, min}
 use mathlib.Core.Bool.{Bool, true, false, cond, _&&_, not}
+use mathlib.Core.List.{List, [], _∷_}
 use lib.Dec.{eqb, ltb}
 use Rattle.distances.specs.View.{NONE}
 use Rattle.agreement.specs.declared.EndRecord.{EndRecord}
@@ -53,6 +54,12 @@ isAgreed v m = eqb (m .view) v
 unfoldable pub answer : ℕ → EndRecord → Agreement → Answer
 answer v r m =
     cond (isStale r m) Stale (cond (isAgreed v m) (Agreed (m .number) (m .view)) (Noted (m .number) (m .view)))
+
+-- what a delivery answered, in three numbers: 0 stale; 1 agreed, 2 noted, with the number and the view taken
+abbrev pub answerNumbers : Answer → List ℕ
+answerNumbers Stale = 0 ∷ 0 ∷ 0 ∷ []
+answerNumbers (Agreed n v) = 1 ∷ n ∷ v ∷ []
+answerNumbers (Noted n v) = 2 ∷ n ∷ v ∷ []
 
 -- the record afterwards, by the answer: unless stale the number and view are recorded; when agreed that view is the one held
 -- and the discarded number is the message's number

@@ -11,6 +11,7 @@ use lib.ListN.{length, set, take, drop, length-append, length-drop}
 use lib.Seq.{sets, sets-eq, take-at, drop-at, drop-drop}
 use lib.Dec.{eqb}
 use Rattle.agreement.specs.Call.{Response, says}
+use Rattle.agreement.specs.Record.{answerNumbers}
 use Rattle.agreement.specs.declared.Answer.{Answer}
 use Rattle.agreement.specs.declared.Answer.the-variants.{Stale, Agreed, Noted}
 use Rattle.bench.specs.declared.Event.{Event}
@@ -25,7 +26,7 @@ use Rattle.bench.specs.Flights.{QueueOutcome, queueOutcome, sendOf, lose
 use Rattle.bench.specs.Deliveries.{DeliveryOutcome, deliveryOutcome, refusedBy, deliveryReady, deliverOf, repeatOf}
 use Rattle.bench.specs.Answers.{reported, reportedRow, hopIn, pathOf}
 use Rattle.bench.specs.Batches.{callOf, wayNumbers}
-use Rattle.bench.specs.Batches.{replyOf, reportNumbers, answerNumbers, answeredNumbers, answersOf, answerSize, Batch, batch, eventBatch, eventBatchIn}
+use Rattle.bench.specs.Batches.{replyOf, reportNumbers, answeredNumbers, answersOf, answerSize, Batch, batch, eventBatch, eventBatchIn}
 use Rattle.bench.specs.Whole.{stepBy}
 use Rattle.bench.specs.Effects.{queueingNumber, queueingBench, queueingEffect, receptionSays, receptionBench, receptionEffect, ReceptionFits, updatingTo, updatingNumber, updatingEffect, UpdatingFits, stateOf, appliedTo, EffectFits, eventResult}
 use Rattle.bench.specs.Steps.{ReportsTo, Leaves}

@@ -6,8 +6,8 @@ use mathlib.Core.List.{List, [], _∷_, _++_}
 use lib.ListN.{length, take, drop, getD}
 use lib.Dec.{eqb, leb, ltb}
 use Rattle.distances.specs.Table.{cell}
+use Rattle.agreement.specs.Record.{answerNumbers}
 use Rattle.agreement.specs.declared.Answer.{Answer}
-use Rattle.agreement.specs.declared.Answer.the-variants.{Stale, Agreed, Noted}
 use Rattle.bench.specs.declared.Event.{Event}
 use Rattle.bench.specs.declared.Event.the-variants.{Update, Send, Deliver, Repeat, Lose, Cut, Restore, Report, Path}
 use Rattle.protocol.specs.Calls.{Call, change, update, cut, restore, send, deliver, repeat, lose, report, path}
@@ -42,12 +42,6 @@ reportNumbers s d zero = []
 reportNumbers s d (suc y) =
     reportNumbers s d y
     ++ (cell (lentView (s .bench) (s .costs) (getD (s .bench .view) y 0) .table) y d ∷ linkNumber (portIn s y d) ∷ [])
-
--- what a delivery answered, in three numbers: 0 stale; 1 agreed, 2 noted, with the number and the view taken
-abbrev pub answerNumbers : Answer → List ℕ
-answerNumbers Stale = 0 ∷ 0 ∷ 0 ∷ []
-answerNumbers (Agreed n v) = 1 ∷ n ∷ v ∷ []
-answerNumbers (Noted n v) = 2 ∷ n ∷ v ∷ []
 
 unfoldable pub answeredNumbers : List Answer → List ℕ
 answeredNumbers [] = []

@@ -1,5 +1,0 @@
-pub mod Numbers
-pub mod Call
-pub mod Network
-pub mod Lists
-pub mod SliceCalls

@@ -1,0 +1,253 @@
+// The public calls of layer 2 over numbers: a record is four numbers (received, view, discarded, holding), a message three (view,
+// number, discarded); any number but 0 stands for true. Each answers 17 where it refuses, also where a number does not fit its field,
+// and 0 where it does not; a refused call changes nothing.
+use agreement::Carrying;
+use agreement::Forwarding;
+use agreement::Offered;
+use agreement::Reaction;
+use agreement::Reply;
+use agreement::calls;
+ghost use mathlib.Core.Path.{_≡_};
+ghost use mathlib.Core.List.{[], _∷_};
+ghost use Rattle.agreement.specs.Call.{viewData};
+ghost use Rattle.numbers.specs.Outcome.{callOutcome};
+ghost use Rattle.exports_bridge.specs.Call.{offerReply, freshReply, updateReply, carryReply, deliverReply, portReply};
+
+// `agreement::calls::offer_over`: the offer goes to out[0].
+#[no_mangle]
+pub extern "C" fn bench_offer(
+    bridges: usize,
+    links: usize,
+    ends: &[u8],
+    costs: &[u32],
+    table: &[u32],
+    end: usize,
+    dest: usize,
+    out: &mut [u32],
+) -> u8
+    ensures { λ r. ⌜ callOutcome r (now (out .exit) ∷ []) ≡ offerReply (viewData bridges links (now (ends .entry)) (now (costs .entry)) (now (table .entry))) end dest (now (out .entry)) ⌝ }
+{
+    if out.len() < 1 {
+        return 17;
+    }
+    let offered = calls::offer_over(bridges, links, ends, costs, table, end, dest);
+    match offered {
+        Offered::Refused => 17,
+        Offered::Offers(offer) => {
+            out[0] = offer;
+            0
+        }
+    }
+}
+
+// `agreement::calls::start_end`: the fresh record goes to `fields`.
+#[no_mangle]
+pub extern "C" fn bench_start_end(
+    bridges: usize,
+    links: usize,
+    ends: &[u8],
+    costs: &[u32],
+    table: &[u32],
+    end: usize,
+    fields: &mut [u32],
+    sent: &mut [u32],
+    held: &mut [u32],
+) -> u8
+    ensures { λ r. ⌜ callOutcome r (now (fields .exit) ∷ now (sent .exit) ∷ now (held .exit) ∷ []) ≡ freshReply (viewData bridges links (now (ends .entry)) (now (costs .entry)) (now (table .entry))) end (now (fields .entry)) (now (sent .entry)) (now (held .entry)) ⌝ }
+{
+    if fields.len() < 4 {
+        return 17;
+    }
+    let changed = calls::start_end(bridges, links, ends, costs, table, end, sent, held);
+    let reply = changed.reply;
+    match reply {
+        Reply::Refused => 17,
+        Reply::Done => {
+            numbers::put_record(changed.end, fields);
+            0
+        }
+    }
+}
+
+// `agreement::calls::update_end`: the record in `fields` becomes the new one.
+#[no_mangle]
+pub extern "C" fn bench_update_end(
+    bridges: usize,
+    links: usize,
+    ends: &[u8],
+    costs: &[u32],
+    table: &[u32],
+    views: usize,
+    view: u8,
+    end: usize,
+    fields: &mut [u32],
+    sent: &mut [u32],
+    held: &mut [u32],
+) -> u8
+    ensures { λ r. ⌜ callOutcome r (now (fields .exit) ∷ now (sent .exit) ∷ now (held .exit) ∷ []) ≡ updateReply (viewData bridges links (now (ends .entry)) (now (costs .entry)) (now (table .entry))) views view end (now (fields .entry)) (now (sent .entry)) (now (held .entry)) ⌝ }
+{
+    if !numbers::holds_record(fields) {
+        return 17;
+    }
+    let old = numbers::record_at(fields, 0);
+    let changed = calls::update_end(
+        bridges,
+        links,
+        ends,
+        costs,
+        table,
+        views,
+        view,
+        end,
+        old,
+        sent,
+        held,
+    );
+    let reply = changed.reply;
+    match reply {
+        Reply::Refused => 17,
+        Reply::Done => {
+            numbers::put_record(changed.end, fields);
+            0
+        }
+    }
+}
+
+// `agreement::calls::carry`: the message goes to `out`.
+#[no_mangle]
+pub extern "C" fn bench_carry(
+    views: usize,
+    view: u8,
+    number: u16,
+    fields: &[u32],
+    out: &mut [u32],
+) -> u8
+    ensures { λ r. ⌜ callOutcome r (now (out .exit) ∷ []) ≡ carryReply views view number (now (fields .entry)) (now (out .entry)) ⌝ }
+{
+    if !numbers::holds_record(fields) {
+        return 17;
+    }
+    if out.len() < 3 {
+        return 17;
+    }
+    let old = numbers::record_at(fields, 0);
+    let carrying = calls::carry(views, view, number, old);
+    match carrying {
+        Carrying::Refused => 17,
+        Carrying::Carries(message) => {
+            numbers::put_message(message, out);
+            0
+        }
+    }
+}
+
+// `agreement::calls::deliver_end`: the record in `fields` becomes the new one, the answer goes to `out`.
+#[no_mangle]
+pub extern "C" fn bench_deliver_end(
+    bridges: usize,
+    links: usize,
+    ends: &[u8],
+    costs: &[u32],
+    table: &[u32],
+    views: usize,
+    view: u8,
+    number: u16,
+    end: usize,
+    fields: &mut [u32],
+    message: &[u32],
+    sent: &mut [u32],
+    held: &mut [u32],
+    out: &mut [u32],
+) -> u8
+    ensures { λ r. ⌜ callOutcome r (now (fields .exit) ∷ now (out .exit) ∷ now (sent .exit) ∷ now (held .exit) ∷ []) ≡ deliverReply (viewData bridges links (now (ends .entry)) (now (costs .entry)) (now (table .entry))) views view number end (now (fields .entry)) (now (message .entry)) (now (sent .entry)) (now (held .entry)) (now (out .entry)) ⌝ }
+{
+    if !numbers::holds_record(fields) {
+        return 17;
+    }
+    if !numbers::holds_message(message) {
+        return 17;
+    }
+    if out.len() < 3 {
+        return 17;
+    }
+    let old = numbers::record_at(fields, 0);
+    let taken = numbers::message_in(message);
+    let received = calls::deliver_end(
+        bridges,
+        links,
+        ends,
+        costs,
+        table,
+        views,
+        view,
+        number,
+        end,
+        old,
+        taken,
+        sent,
+        held,
+    );
+    let reply = received.reply;
+    match reply {
+        Reaction::Refused => 17,
+        Reaction::Answered(answer) => {
+            numbers::put_record(received.end, fields);
+            numbers::put_answer(answer, out);
+            0
+        }
+    }
+}
+
+// `agreement::calls::port`: the link, or 4,294,967,295 where no port forwards, goes to out[0].
+// `cut` has a flag for each of 32 links, `records` the records of 64 ends.
+#[no_mangle]
+pub extern "C" fn bench_port(
+    bridges: usize,
+    links: usize,
+    ends: &[u8],
+    costs: &[u32],
+    table: &[u32],
+    views: usize,
+    cut: &[u8],
+    records: &[u32],
+    sent: &[u32],
+    held: &[u32],
+    bridge: usize,
+    dest: usize,
+    out: &mut [u32],
+) -> u8
+    ensures { λ r. ⌜ callOutcome r (now (out .exit) ∷ []) ≡ portReply (viewData bridges links (now (ends .entry)) (now (costs .entry)) (now (table .entry))) views (now (cut .entry)) (now (records .entry)) (now (sent .entry)) (now (held .entry)) bridge dest (now (out .entry)) ⌝ }
+{
+    if cut.len() < 32 {
+        return 17;
+    }
+    if !numbers::holds_records(records) {
+        return 17;
+    }
+    if out.len() < 1 {
+        return 17;
+    }
+    let flags = numbers::flags_in(cut);
+    let known = numbers::records_in(records);
+    let found = calls::port(
+        bridges,
+        links,
+        ends,
+        costs,
+        table,
+        views,
+        flags,
+        known,
+        sent,
+        held,
+        bridge,
+        dest,
+    );
+    match found {
+        Forwarding::Refused => 17,
+        Forwarding::Found(port) => {
+            out[0] = numbers::port_number(port);
+            0
+        }
+    }
+}

@@ -1,0 +1,43 @@
+-- `network::bench_net_report` meets its contract. A list that holds no bench or is too short is refused first; else the call's
+-- own contract, over the bench that was read, gives the outcome. Assumes nothing.
+use Rattle.exports_network.specs.Network.{netReportReply}
+use borrow.Author.Needs.{needs}
+use Rattle.numbers.proofs.Entry.{passed, failed}
+use Rattle.exports_network.proofs.Room.{room}
+use Rattle.exports_network.proofs.network.bench_net_report.Statement.{statement}
+use Rattle.exports_network.proofs.network.bench_net_report.Tie as tie
+
+holds-requires : tie.Need-holds-requires
+holds-requires c κs = search needs
+
+returns : tie.Need-returns
+unfolding netReportReply
+returns c = rw (failed (c .before .holds .ensures) (c .if1 .taken))
+
+load-requires : tie.Need-load-requires
+load-requires c κs = room 388 _ _ (c .before .holds .ensures) (c .if1 .left)
+
+report-requires : tie.Need-report-requires
+report-requires c κs = search needs
+
+number-of-requires : tie.Need-number-of-requires
+number-of-requires c κs = search needs
+
+same-length : tie.Need-same-length
+same-length c = search needs
+
+returns-2 : tie.Need-returns-2
+unfolding netReportReply
+returns-2 c = rw (passed (c .before .before .before .before .before .before .before .holds .ensures) (c .before .before .before .before .before .before .if1 .left), ← c .before .before .before .before .before .load .ensures, ← c .before .before .before .report .ensures .0, c .number-of .ensures)
+
+pub bench-net-report-spec : {M : Type 1} → statement M
+bench-net-report-spec =
+    tie.close
+    (tie.spec
+    holds-requires
+    returns
+    load-requires
+    report-requires
+    number-of-requires
+    same-length
+    returns-2)

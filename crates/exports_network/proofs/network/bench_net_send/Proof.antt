@@ -1,0 +1,51 @@
+-- `network::bench_net_send` meets its contract. A list that holds no bench or is too short is refused first; else the call's own
+-- contract, over the bench that was read, gives the outcome. Assumes nothing.
+use Rattle.exports_network.specs.Network.{netSendReply}
+use borrow.Author.Needs.{needs}
+use Rattle.numbers.proofs.Entry.{passed, failed}
+use Rattle.exports_network.proofs.Room.{room}
+use Rattle.exports_network.proofs.network.bench_net_send.Statement.{statement}
+use Rattle.exports_network.proofs.network.bench_net_send.Tie as tie
+
+holds-requires : tie.Need-holds-requires
+holds-requires c κs = search needs
+
+same-length : tie.Need-same-length
+same-length c = search needs
+
+returns : tie.Need-returns
+unfolding netSendReply
+returns c = rw (failed (c .before .holds .ensures) (c .if1 .taken))
+
+load-requires : tie.Need-load-requires
+load-requires c κs = room 388 _ _ (c .before .before .holds .ensures) (c .before .if1 .left)
+
+send-requires : tie.Need-send-requires
+send-requires c κs = search needs
+
+settle-requires : tie.Need-settle-requires
+settle-requires c κs = room 388 _ _ (c .before .before .before .before .before .before .before .before .holds .ensures) (c .before .before .before .before .before .before .before .if1 .left)
+
+same-length-2 : tie.Need-same-length-2
+same-length-2 c = search needs
+
+same-length-3 : tie.Need-same-length-3
+same-length-3 c = search needs
+
+returns-2 : tie.Need-returns-2
+unfolding netSendReply
+returns-2 c = rw (passed (c .before .before .before .before .before .before .before .before .before .before .before .holds .ensures) (c .before .before .before .before .before .before .before .before .before .before .if1 .left), ← c .before .before .before .before .before .before .before .before .load .ensures, ← c .before .before .before .before .before .before .send .ensures .0, c .before .before .settle .ensures .0, c .before .before .settle .ensures .1)
+
+pub bench-net-send-spec : {M : Type 1} → statement M
+bench-net-send-spec =
+    tie.close
+    (tie.spec
+    holds-requires
+    same-length
+    returns
+    load-requires
+    send-requires
+    settle-requires
+    same-length-2
+    same-length-3
+    returns-2)

@@ -1,0 +1,3 @@
+pub mod Network
+pub mod Lists
+pub mod SliceCalls

@@ -1,0 +1,185 @@
+// A bench as 388 numbers: the counts of bridges, links, views and messages in flight, then ends (64), view (16), number (16), four
+// numbers for each of 64 records, and cut (32). Any number but 0 stands for true. A list holds a bench where each number fits its
+// field, and there the remainders change nothing.
+use agreement::EndRecord;
+use bench::Bench;
+use distances::ready::both;
+ghost use mathlib.Core.Path.{_≡_};
+ghost use Prim.Native.Nat.{_+_, _%_, _≤_, _<_};
+ghost use lib.ListN.{length, getD};
+ghost use Rattle.numbers.specs.Numbers.{isSet, recordNumbers};
+ghost use Rattle.exports_network.specs.Network.{each, eachBelow, holdsBench, low, benchIn, countAt, numberAt, stored};
+
+// The numbers of a bench: four counts, 64 ends, 16 views, 16 agreement numbers, four for each of 64 records, 32 cut flags.
+const BENCH_NUMBERS: usize = 388;
+
+fn ends_in(numbers: &[u32]) -> [u8; 64]
+    requires { ⌜ 388 ≤ length (now numbers) ⌝ }
+    ensures { λ r. ⌜ r ≡ each 64 4 (λ x. x % 256) (now (numbers .entry)) ⌝ }
+{
+    let mut ends = [0u8; 64];
+    let mut e = 0;
+    while e < 64 {
+        ends[e] = (numbers[4 + e] % 256) as u8;
+        e += 1;
+    }
+    ends
+}
+
+fn views_in(numbers: &[u32]) -> [u8; 16]
+    requires { ⌜ 388 ≤ length (now numbers) ⌝ }
+    ensures { λ r. ⌜ r ≡ each 16 68 (λ x. x % 256) (now (numbers .entry)) ⌝ }
+{
+    let mut views = [0u8; 16];
+    let mut y = 0;
+    while y < 16 {
+        views[y] = (numbers[68 + y] % 256) as u8;
+        y += 1;
+    }
+    views
+}
+
+fn agreement_numbers_in(numbers: &[u32]) -> [u16; 16]
+    requires { ⌜ 388 ≤ length (now numbers) ⌝ }
+    ensures { λ r. ⌜ r ≡ each 16 84 (λ x. x % 65536) (now (numbers .entry)) ⌝ }
+{
+    let mut counts = [0u16; 16];
+    let mut y = 0;
+    while y < 16 {
+        counts[y] = (numbers[84 + y] % 65536) as u16;
+        y += 1;
+    }
+    counts
+}
+
+fn cuts_in(numbers: &[u32]) -> [bool; 32]
+    requires { ⌜ 388 ≤ length (now numbers) ⌝ }
+    ensures { λ r. ⌜ r ≡ each 32 356 isSet (now (numbers .entry)) ⌝ }
+{
+    let mut cuts = [false; 32];
+    let mut l = 0;
+    while l < 32 {
+        cuts[l] = numbers[356 + l] != 0;
+        l += 1;
+    }
+    cuts
+}
+
+pub(crate) fn load(numbers: &[u32]) -> Bench
+    requires { ⌜ 388 ≤ length (now numbers) ⌝ }
+    ensures { λ r. ⌜ r ≡ benchIn (now (numbers .entry)) ⌝ }
+{
+    let ends = ends_in(numbers);
+    let view = views_in(numbers);
+    let number = agreement_numbers_in(numbers);
+    let records = numbers::records_in(&numbers[100..356]);
+    let cut = cuts_in(numbers);
+    Bench {
+        bridges: numbers[0] as usize,
+        links: numbers[1] as usize,
+        views: numbers[2] as usize,
+        messages: numbers[3] as usize,
+        ends,
+        view,
+        number,
+        records,
+        cut,
+    }
+}
+
+fn each_below(numbers: &[u32], count: usize, first: usize, limit: u32) -> bool
+    requires { ⌜ first + count ≤ length (now numbers) ⌝ }
+    ensures { λ r. ⌜ r ≡ eachBelow count first limit (now (numbers .entry)) ⌝ }
+{
+    let mut ok = true;
+    let mut k = 0;
+    while k < count {
+        ok = both(ok, numbers[first + k] < limit);
+        k += 1;
+    }
+    ok
+}
+
+// Are there the numbers of a bench, and does each fit its field?
+pub(crate) fn holds(numbers: &[u32]) -> bool
+    ensures { λ r. ⌜ r ≡ holdsBench (now (numbers .entry)) ⌝ }
+{
+    if numbers.len() < BENCH_NUMBERS {
+        return false;
+    }
+    let narrow = each_below(numbers, 80, 4, 256);
+    let wide = each_below(numbers, 16, 84, 65536);
+    let records = numbers::holds_records(&numbers[100..356]);
+    both(narrow, both(wide, records))
+}
+
+pub(crate) fn low_of(number: usize) -> u32
+    ensures { λ r. ⌜ r ≡ low number ⌝ }
+{
+    (number % 4294967296) as u32
+}
+
+fn count_at(bench: Bench, k: usize) -> u32
+    ensures { λ r. ⌜ r ≡ countAt bench k ⌝ }
+{
+    if k == 0 {
+        return low_of(bench.bridges);
+    }
+    if k == 1 {
+        return low_of(bench.links);
+    }
+    if k == 2 {
+        return low_of(bench.views);
+    }
+    low_of(bench.messages)
+}
+
+fn field_of(end: EndRecord, k: usize) -> u32
+    requires { ⌜ k < 4 ⌝ }
+    ensures { λ r. ⌜ r ≡ getD (recordNumbers end) k 0 ⌝ }
+{
+    if k == 0 {
+        return end.received as u32;
+    }
+    if k == 1 {
+        return end.view as u32;
+    }
+    if k == 2 {
+        return end.discarded as u32;
+    }
+    numbers::flag_number(end.holding)
+}
+
+// The number at place k of a bench.
+fn number_at(bench: Bench, k: usize) -> u32
+    requires { ⌜ k < 388 ⌝ }
+    ensures { λ r. ⌜ r ≡ numberAt bench k ⌝ }
+{
+    if k < 4 {
+        return count_at(bench, k);
+    }
+    if k < 68 {
+        return bench.ends[k - 4] as u32;
+    }
+    if k < 84 {
+        return bench.view[k - 68] as u32;
+    }
+    if k < 100 {
+        return bench.number[k - 84] as u32;
+    }
+    if k < 356 {
+        return field_of(bench.records[(k - 100) / 4], k % 4);
+    }
+    numbers::flag_number(bench.cut[k - 356])
+}
+
+pub(crate) fn store(bench: Bench, numbers: &mut [u32])
+    requires { ⌜ 388 ≤ length (now numbers) ⌝ }
+    ensures { λ r. ⌜ now (numbers .exit) ≡ stored bench (now (numbers .entry)) ⌝ }
+{
+    let mut k = 0;
+    while k < BENCH_NUMBERS {
+        numbers[k] = number_at(bench, k);
+        k += 1;
+    }
+}

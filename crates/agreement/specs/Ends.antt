@@ -5,7 +5,7 @@ use mathlib.Core.Bool.{Bool, true, cond, _&&_, not}
 use mathlib.Core.List.{List}
 use lib.ListN.{length, getD}
 use lib.Dec.{eqb, leb, ltb}
-use Rattle.distances.specs.View.{maxCost}
+use Rattle.distances.specs.View.{maxCost, tableNumbers}
 use Rattle.distances.specs.Table.{cell}
 use Rattle.agreement.specs.Offer.{linkOf, opposite}
 use Rattle.agreement.specs.Record.{updated, sentUpdated, heldUpdated, answer, recorded, sentDelivered, heldDelivered}
@@ -43,7 +43,7 @@ betweenInRange w sent held e =
     && (ltb (w .far) (w .bridges)
     && (not (eqb (w .near) (w .far))
     && (leb (w .cost) maxCost
-    && (leb 256 (length (w .table)) && (ltb e mostEnds && (leb limitNumbers (length sent) && leb limitNumbers (length held)))))))))
+    && (leb tableNumbers (length (w .table)) && (ltb e mostEnds && (leb limitNumbers (length sent) && leb limitNumbers (length held)))))))))
 
 -- the offers of the end's bridge, and of the bridge across, as limits
 abbrev pub nearOffer : Between → ℕ → ℕ

@@ -14,6 +14,7 @@ use crate::sizes::ENDS;
 use crate::sizes::LIMITS;
 use distances::ready::both;
 use distances::sizes::MAX_COST;
+use distances::sizes::MOST_BRIDGES;
 use distances::sizes::TABLE;
 ghost use mathlib.Core.Path.{_≡_};
 ghost use mathlib.Core.Bool.{_&&_, not};
@@ -43,7 +44,7 @@ fn between_in_range(
     both(
         2 <= bridges,
         both(
-            bridges <= 16,
+            bridges <= MOST_BRIDGES,
             both(near < bridges, both(far < bridges, rest)),
         ),
     )

@@ -15,6 +15,7 @@ use crate::ports;
 use crate::ready;
 use crate::rows;
 use crate::sizes::LIMITS;
+use crate::sizes::NO_VIEW;
 use distances::ready::both;
 ghost use mathlib.Core.Path.{_≡_};
 ghost use Rattle.agreement.specs.Ranges.{endInRange};
@@ -27,7 +28,7 @@ pub fn fresh_record() -> EndRecord
 {
     EndRecord {
         received: 0,
-        view: 255,
+        view: NO_VIEW,
         discarded: 0,
         holding: false,
     }

@@ -2,7 +2,10 @@
 use crate::Agreement;
 use crate::EndRecord;
 use crate::sizes::LIMITS;
+use crate::sizes::NO_VIEW;
 use distances::ready::both;
+use distances::sizes::MOST_LINKS;
+use distances::sizes::MOST_VIEWS;
 ghost use mathlib.Core.Path.{_≡_};
 ghost use mathlib.Core.Bool.{_||_};
 ghost use Prim.Native.Nat.{ℕ, _*_, _≤_, _<_, min};
@@ -30,14 +33,14 @@ pub(crate) fn is_view(views: usize, view: u8) -> bool
     ensures { λ r. ⌜ r ≡ isView views view ⌝ }
 {
     let t = view as usize;
-    both(1 <= views, both(views <= 32, t < views))
+    both(1 <= views, both(views <= MOST_VIEWS, t < views))
 }
 
 pub(crate) fn record_in_range(views: usize, old: EndRecord) -> bool
     ensures { λ r. ⌜ r ≡ recordInRange views old ⌝ }
 {
     let t = old.view as usize;
-    either(t == 255, t < views)
+    either(old.view == NO_VIEW, t < views)
 }
 
 // The number of views as a byte: no record has a view beyond 255.
@@ -51,7 +54,7 @@ fn view_bound(views: usize) -> u8
 fn record_passes(bound: u8, view: u8) -> bool
     ensures { λ r. ⌜ ((views : ℕ) → bound ≡ min 255 views → r ≡ (eqb view 255 || ltb view views)) ⌝ }
 {
-    either(view == 255, view < bound)
+    either(view == NO_VIEW, view < bound)
 }
 
 fn each_in_range(views: usize, links: usize, records: [EndRecord; 64]) -> bool
@@ -72,7 +75,7 @@ fn each_in_range(views: usize, links: usize, records: [EndRecord; 64]) -> bool
 pub fn records_in_range(views: usize, links: usize, records: [EndRecord; 64]) -> bool
     ensures { λ r. ⌜ r ≡ recordsInRange views links records ⌝ }
 {
-    if links <= 32 {
+    if links <= MOST_LINKS {
         each_in_range(views, links, records)
     } else {
         false
@@ -107,7 +110,7 @@ pub(crate) fn port_in_range(
     let size = table.len();
     if distances::ready::in_range(bridges, links, ends, costs, size) {
         let long = both(LIMITS <= sent, LIMITS <= held);
-        let counted = both(1 <= views, views <= 32);
+        let counted = both(1 <= views, views <= MOST_VIEWS);
         let known = records_in_range(views, links, records);
         both(
             long,

@@ -20,8 +20,8 @@ use Rattle.bench.specs.Answers.{WayFits, waySays, reportOutcome, reporte
 use Rattle.bench.specs.Steps.{Ready}
 use Rattle.bench.specs.declared.Way as code
 use Rattle.bench.proofs.EntrySettled.{reply-is}
-use Rattle.bench.proofs.FlightCalls.{refusal-none, said-same}
-use Rattle.bench.proofs.FlightRanges.{network-told}
+use Rattle.bench.proofs.QueueCalls.{refusal-none, said-same}
+use Rattle.bench.proofs.QueueRanges.{network-told}
 use Rattle.protocol.proofs.PathEnds.{onward-short}
 use Rattle.bench.proofs.WalkSteps.{hop-leads, bridge-listed}
 
@@ -49,13 +49,13 @@ module _ (next : ℕ → Hop) (bridges : ℕ) (leads : (y l z : ℕ) → next y 
       go rest false stays e = low
       go rest false (crosses l z) e = rest z (leads y l z e)
 
-pub record PathTold (bridges : ℕ) (w : Way) : Type 0 where
+pub record PathFacts (bridges : ℕ) (w : Way) : Type 0 where
   pub few : bridges ≤ 16
   pub short : hops w ≤ bridges - 1
   pub last : StopsBelow bridges w
 
 module _ (s : State) where
-  pub path-told : (y d : ℕ) (w : Way) → pathOf s y d ≡ says w → PathTold (s .bench .bridges) w
+  pub path-told : (y d : ℕ) (w : Way) → pathOf s y d ≡ says w → PathFacts (s .bench .bridges) w
   unfolding pathOf refuse checks
   path-told y d w e =
       let k : ℕ = refusalOf (stateInRange s) (network s) (calls.path y d) in
@@ -65,7 +65,7 @@ module _ (s : State) where
       let pass = refusal-none (stateInRange s) (network s) (calls.path y d) none in
       let ready : Ready (s .bench) (s .costs) = network-told _ _ _ _ (pass .0) in
       let start : y < bridges = bridge-listed (network s) y _ (pass .1) in
-      subst (PathTold bridges) (said-same way w (rw none at e))
+      subst (PathFacts bridges) (said-same way w (rw none at e))
       (record {
         few = ready .fewBridges;
         short = omega (arith, onward-short (hopIn s d) d (bridges - 1) 0 y);

@@ -16,9 +16,9 @@ use Rattle.bench.specs.declared.Bench.{Bench}
 use Rattle.bench.specs.declared.effects.EndState.{EndState}
 use Rattle.bench.proofs.TieRanges.{told}
 use Rattle.bench.proofs.TieChecks.{message-told}
-use Rattle.bench.proofs.FlightRanges.{network-told}
-use Rattle.bench.proofs.FlightSteps.{placed}
-use Rattle.bench.proofs.FlightReads.{from-low}
+use Rattle.bench.proofs.QueueRanges.{network-told}
+use Rattle.bench.proofs.QueueSteps.{placed}
+use Rattle.bench.proofs.QueueReads.{from-low}
 use Rattle.bench.proofs.ChoiceReads.{end-low}
 
 pub record ArrivalTold (s : State) (p : ℕ) : Type 0 where

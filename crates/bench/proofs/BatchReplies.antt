@@ -8,7 +8,7 @@ use Rattle.protocol.specs.Net.{Network}
 use Rattle.protocol.specs.Calls.{Call, change, update, cut, restore, send, lose, path, report, refuse, checks, changeChecks, noSuchBridge, noSuchLink, already, notOnLink, linkCut, noRoom, noMessage}
 use Rattle.bench.specs.State.{State, network, networkOf}
 use Rattle.bench.specs.Changes.{refusalOf, stateInRange, updateOf, cutOf, restoreOf}
-use Rattle.bench.specs.Flights.{sendOf, loseOf}
+use Rattle.bench.specs.Queue.{sendOf, loseOf}
 use Rattle.bench.specs.Deliveries.{deliveryReady, refusedBy, deliverOf, repeatOf}
 use Rattle.bench.specs.Answers.{pathOf}
 use Rattle.bench.specs.Batches.{callOf, replyOf}
@@ -16,7 +16,7 @@ use Rattle.bench.specs.declared.Event.{Event}
 use Rattle.bench.specs.declared.Event.the-variants.{Update, Send, Deliver, Repeat, Lose, Cut, Restore, Report, Path}
 use Rattle.bench.proofs.CallKept.{update-number, cut-number, restore-number, send-number, lose-number, deliver-number, repeat-number}
 use Rattle.bench.proofs.EntrySettled.{reply-is}
-use Rattle.bench.proofs.FlightRanges.{network-bench}
+use Rattle.bench.proofs.QueueRanges.{network-bench}
 use Rattle.bench.proofs.RangesSteps.{flightInRange, flight-of}
 use Rattle.bench.proofs.TieRefusals.{refusal-ready}
 

@@ -18,7 +18,7 @@ use Rattle.bench.specs.declared.Disposition.the-variants.{Complete, Refu
 use Rattle.bench.proofs.BatchReplies.{deliver-reply, repeat-reply, path-reply}
 use Rattle.bench.proofs.BatchSteps.{rows-length, delivered-length, repeated-length, path-length}
 use Rattle.bench.proofs.CallLengths.{step-kept}
-use Rattle.bench.proofs.FlightCalls.{refusal-none}
+use Rattle.bench.proofs.QueueCalls.{refusal-none}
 use Rattle.bench.proofs.TieRanges.{told, plan-in-range}
 use Rattle.bench.proofs.TieRefusals.{refusal-out}
 

@@ -22,19 +22,19 @@ use Rattle.protocol.specs.Paths as paths
 use Rattle.bench.specs.State.{State, state, network, networkOf}
 use Rattle.bench.specs.Ranges.{benchInRange}
 use Rattle.bench.specs.Changes.{BenchOutcome, benchOutcome, ChangeOutcome, refusalOf, orRefused, stateInRange, benchWithCut, updateOf, cutOf, restoreOf}
-use Rattle.bench.specs.Flights.{QueueOutcome, queueOutcome, sendOf, loseOf}
+use Rattle.bench.specs.Queue.{QueueOutcome, queueOutcome, sendOf, loseOf}
 use Rattle.bench.specs.Deliveries.{DeliveryOutcome, deliveryOutcome, refusedBy, deliveryReady, deliverOf, repeatOf}
 use Rattle.bench.specs.Answers.{reported, reportedRow, hopIn, pathOf}
 use Rattle.bench.specs.Batches.{callOf, wayNumbers}
 use Rattle.bench.specs.Batches.{replyOf, reportNumbers, answeredNumbers, answersOf, answerSize, Batch, batch, eventBatch, eventBatchIn}
 use Rattle.bench.specs.Whole.{stepBy}
-use Rattle.bench.specs.Effects.{queueingNumber, queueingBench, queueingEffect, receptionSays, receptionBench, receptionEffect, ReceptionFits, updatingTo, updatingNumber, updatingEffect, UpdatingFits, stateOf, appliedTo, EffectFits, eventResult}
+use Rattle.bench.specs.Effects.{queueChangeNumber, queueChangeBench, queueChangeEffect, receptionSays, receptionBench, receptionEffect, ReceptionFits, updatingTo, updatingNumber, updatingEffect, UpdatingFits, stateOf, appliedTo, CanApply, eventResult}
 use Rattle.bench.specs.Steps.{ReportsTo, Leaves}
 use Rattle.bench.specs.declared.Bench.{Bench}
 use Rattle.bench.specs.declared.effects.EventResult.{EventResult}
 use Rattle.bench.specs.declared.effects.Effect.the-variants.{Same}
 use Rattle.bench.specs.declared.effects.Effect.the-variants.{Cut as CutFlag}
-use Rattle.bench.specs.declared.effects.Queueing.{Queueing}
+use Rattle.bench.specs.declared.effects.QueueChange.{QueueChange}
 use Rattle.bench.specs.declared.effects.Reception.{Reception}
 use Rattle.bench.specs.declared.effects.Updating.{Updating}
 use Rattle.bench.specs.declared.Disposition.{Disposition}
@@ -58,7 +58,7 @@ pub leaves-by :
 leaves-by s z event result leaves = rw (event, result) leaves
 
 -- and that its effect can be carried out
-pub told-by : (b : Bench) (known : List Bool) {r by : EventResult} → r ≡ by → EffectFits (by .effect) b known → EffectFits (r .effect) b known
+pub told-by : (b : Bench) (known : List Bool) {r by : EventResult} → r ≡ by → CanApply (by .effect) b known → CanApply (r .effect) b known
 told-by b known result told = rw result told
 
 -- under another name for the number and the state
@@ -70,10 +70,10 @@ renumbered :
     Leaves done answers (cond (eqb k 0) 1 0) (cond (eqb k 0) Complete (Refused k)) next (cond (eqb k 0) n 0) out
 renumbered n number state leaves = rw (← number, ← state) leaves
 
-flag-told : (k l : ℕ) (so : Bool) (b : Bench) (known : List Bool) → (k ≡ 0 → l < 32) → EffectFits (cond (eqb k 0) (CutFlag l so) Same) b known
+flag-told : (k l : ℕ) (so : Bool) (b : Bench) (known : List Bool) → (k ≡ 0 → l < 32) → CanApply (cond (eqb k 0) (CutFlag l so) Same) b known
 flag-told k l so b known low = go (eqb k 0) refl
   where
-    go : (t : Bool) → eqb k 0 ≡ t → EffectFits (cond t (CutFlag l so) Same) b known
+    go : (t : Bool) → eqb k 0 ≡ t → CanApply (cond t (CutFlag l so) Same) b known
     go true e = low (eqb-true k 0 e)
     go false e = tt
 
@@ -82,11 +82,11 @@ same-either : (t : Bool) (z : State) → appliedTo (cond t Same Same) z ≡ z
 same-either true z = refl
 same-either false z = refl
 
-same-told : (t : Bool) (b : Bench) (known : List Bool) → EffectFits (cond t Same Same) b known
+same-told : (t : Bool) (b : Bench) (known : List Bool) → CanApply (cond t Same Same) b known
 same-told true b known = tt
 same-told false b known = tt
 
-pub quiet-told : (k n : ℕ) (b : Bench) (known : List Bool) {r : EventResult} → r ≡ eventResult k n Same → EffectFits (r .effect) b known
+pub quiet-told : (k n : ℕ) (b : Bench) (known : List Bool) {r : EventResult} → r ≡ eventResult k n Same → CanApply (r .effect) b known
 quiet-told k n b known is = rw is (same-told (eqb k 0) b known)
 
 -- ---- numbers at the head of a list
@@ -280,7 +280,7 @@ module _ (b : Bench) (costs sent held m answers : List ℕ) where
   update-leaves y t Updating.Stays ready is ok = updated y t _ ready is ok
   update-leaves y t Updating.Moves ready is ok = updated y t _ ready is ok
 
-  pub update-told : (known : List Bool) (y t : ℕ) (u : Updating) → UpdatingFits u b known y t → EffectFits (cond (eqb (updatingNumber u) 0) (updatingEffect u y t) Same) b known
+  pub update-told : (known : List Bool) (y t : ℕ) (u : Updating) → UpdatingFits u b known y t → CanApply (cond (eqb (updatingNumber u) 0) (updatingEffect u y t) Same) b known
   update-told known y t (Updating.Refused k) told = same-told (eqb k 0) b known
   update-told known y t Updating.Stays told = tt
   update-told known y t Updating.Moves told = told
@@ -349,25 +349,25 @@ module _ (b : Bench) (costs sent held m answers : List ℕ) where
     unfolding refuse calls.checks calls.changeChecks
     restore-listed none = omega (arith, link-listed (networkOf b []) l _ none, few b costs (told Whole ready .lasting))
 
-    pub cut-told : (known : List Bool) → EffectFits (cond (eqb cutNumber 0) (CutFlag l true) Same) b known
+    pub cut-told : (known : List Bool) → CanApply (cond (eqb cutNumber 0) (CutFlag l true) Same) b known
     cut-told known = flag-told cutNumber l true b known cut-listed
 
-    pub restore-told : (known : List Bool) → EffectFits (cond (eqb restoreNumber 0) (CutFlag l false) Same) b known
+    pub restore-told : (known : List Bool) → CanApply (cond (eqb restoreNumber 0) (CutFlag l false) Same) b known
     restore-told known = flag-told restoreNumber l false b known restore-listed
 
   queued :
-      (e : Event) (q : Queueing) (m' : List ℕ) →
-      let k = queueingNumber q in
-      Leaves (eventBatch Whole e) answers (cond (eqb k 0) 1 0) (cond (eqb k 0) Complete (Refused k)) (state (queueingBench q b) costs sent held m')
+      (e : Event) (q : QueueChange) (m' : List ℕ) →
+      let k = queueChangeNumber q in
+      Leaves (eventBatch Whole e) answers (cond (eqb k 0) 1 0) (cond (eqb k 0) Complete (Refused k)) (state (queueChangeBench q b) costs sent held m')
       (cond (eqb k 0) 0 0) answers →
       Leaves (eventBatch Whole e) answers (cond (eqb k 0) 1 0) (cond (eqb k 0) Complete (Refused k))
-      (appliedTo (cond (eqb k 0) (queueingEffect q) Same) (state b costs sent held m')) (cond (eqb k 0) 0 0) answers
-  queued e (Queueing.Refused k) m' leaves = rw (same-either (eqb k 0) (state b costs sent held m')) leaves
-  queued e (Queueing.Length n) m' leaves = leaves
+      (appliedTo (cond (eqb k 0) (queueChangeEffect q) Same) (state b costs sent held m')) (cond (eqb k 0) 0 0) answers
+  queued e (QueueChange.Refused k) m' leaves = rw (same-either (eqb k 0) (state b costs sent held m')) leaves
+  queued e (QueueChange.Length n) m' leaves = leaves
 
-  pub queue-told : (known : List Bool) (q : Queueing) → EffectFits (cond (eqb (queueingNumber q) 0) (queueingEffect q) Same) b known
-  queue-told known (Queueing.Refused k) = same-told (eqb k 0) b known
-  queue-told known (Queueing.Length n) = tt
+  pub queue-told : (known : List Bool) (q : QueueChange) → CanApply (cond (eqb (queueChangeNumber q) 0) (queueChangeEffect q) Same) b known
+  queue-told known (QueueChange.Refused k) = same-told (eqb k 0) b known
+  queue-told known (QueueChange.Length n) = tt
 
   sent-by :
       (y l : ℕ) (o : QueueOutcome) →
@@ -381,13 +381,13 @@ module _ (b : Bench) (costs sent held m answers : List ℕ) where
   sent-by y l o ready is ok = rw is (quiet Whole (Send y l) (sendOf b m y l .reply) _ answers refl (send-reply Whole ready y l) (send-step Whole y l) (send-kept Whole y l) ok)
 
   pub send-leaves :
-      (y l : ℕ) (q : Queueing) {m' : List ℕ} →
+      (y l : ℕ) (q : QueueChange) {m' : List ℕ} →
       deliveryReady Whole ≡ true →
-      queueOutcome (queueingNumber q) (queueingBench q b) m' ≡ sendOf b m y l →
+      queueOutcome (queueChangeNumber q) (queueChangeBench q b) m' ≡ sendOf b m y l →
       deliveryReady (stepBy Whole (callOf (Send y l))) ≡ true →
-      let k = queueingNumber q in
+      let k = queueChangeNumber q in
       Leaves (eventBatch Whole (Send y l)) answers (cond (eqb k 0) 1 0) (cond (eqb k 0) Complete (Refused k))
-      (appliedTo (cond (eqb k 0) (queueingEffect q) Same) (state b costs sent held m')) (cond (eqb k 0) 0 0) answers
+      (appliedTo (cond (eqb k 0) (queueChangeEffect q) Same) (state b costs sent held m')) (cond (eqb k 0) 0 0) answers
   send-leaves y l q {m'} ready is ok = queued (Send y l) q m' (sent-by y l _ ready is ok)
 
   lost-by :
@@ -402,13 +402,13 @@ module _ (b : Bench) (costs sent held m answers : List ℕ) where
   lost-by p o ready is ok = rw is (quiet Whole (Lose p) (loseOf b m p .reply) _ answers refl (lose-reply Whole ready p) (lose-step Whole p) (lose-kept Whole p) ok)
 
   pub lose-leaves :
-      (p : ℕ) (q : Queueing) {m' : List ℕ} →
+      (p : ℕ) (q : QueueChange) {m' : List ℕ} →
       deliveryReady Whole ≡ true →
-      queueOutcome (queueingNumber q) (queueingBench q b) m' ≡ loseOf b m p →
+      queueOutcome (queueChangeNumber q) (queueChangeBench q b) m' ≡ loseOf b m p →
       deliveryReady (stepBy Whole (callOf (Lose p))) ≡ true →
-      let k = queueingNumber q in
+      let k = queueChangeNumber q in
       Leaves (eventBatch Whole (Lose p)) answers (cond (eqb k 0) 1 0) (cond (eqb k 0) Complete (Refused k))
-      (appliedTo (cond (eqb k 0) (queueingEffect q) Same) (state b costs sent held m')) (cond (eqb k 0) 0 0) answers
+      (appliedTo (cond (eqb k 0) (queueChangeEffect q) Same) (state b costs sent held m')) (cond (eqb k 0) 0 0) answers
   lose-leaves p q {m'} ready is ok = queued (Lose p) q m' (lost-by p _ ready is ok)
 
   -- a delivery's answer, at the head
@@ -463,7 +463,7 @@ module _ (b : Bench) (costs sent held m answers : List ℕ) where
   received e (Reception.Accepted a end after) count sent' held' m' out leaves = leaves
 
   pub reception-effect-told :
-      (known : List Bool) (r : Reception) (count : ℕ) → ReceptionFits r → EffectFits (cond (eqb (receptionSays r .number) 0) (receptionEffect r count) Same) b known
+      (known : List Bool) (r : Reception) (count : ℕ) → ReceptionFits r → CanApply (cond (eqb (receptionSays r .number) 0) (receptionEffect r count) Same) b known
   reception-effect-told known (Reception.Refused k) count told = same-told (eqb k 0) b known
   reception-effect-told known (Reception.Accepted a end after) count told = told
 
@@ -508,7 +508,7 @@ module _ (b : Bench) (costs sent held m answers : List ℕ) where
   pub report-told :
       (d : ℕ) (known : List Bool) {r : EventResult} →
       r ≡ eventResult (refusalOf (stateInRange Short) (network Short) (calls.report d)) (2 * b .bridges) Same →
-      EffectFits (r .effect) b known
+      CanApply (r .effect) b known
   report-told d known is = quiet-told (refusalOf (stateInRange Short) (network Short) (calls.report d)) (2 * b .bridges) b known is
 
   pub report-leaves :

@@ -16,16 +16,16 @@ use Rattle.protocol.specs.Calls as calls
 use Rattle.bench.specs.State.{State, network, networkOf, messageFrom}
 use Rattle.bench.specs.Ranges.{benchInRange, messagesInRange}
 use Rattle.bench.specs.Changes.{BenchOutcome, benchOutcome, ChangeOutcome, changeOutcome, refusalOf, orRefused, stateInRange, updateOf, cutOf, restoreOf}
-use Rattle.bench.specs.Flights.{QueueOutcome, queueOutcome, sendOf, loseOf}
+use Rattle.bench.specs.Queue.{QueueOutcome, queueOutcome, sendOf, loseOf}
 use Rattle.bench.specs.Deliveries.{DeliveryOutcome, received, deliveryReady, deliveryRefused, deliverOf, repeatOf}
 use Rattle.bench.specs.Answers.{ReportOutcome, reportOutcome, reportOf}
 use Rattle.bench.specs.Whole.{stepBy}
 use Rattle.protocol.proofs.Accepted.{place-listed}
-use Rattle.bench.proofs.CallSteps.{withChanged, withRewritten, withFlown, withDelivered}
+use Rattle.bench.proofs.CallSteps.{withChanged, withRewritten, withQueue, withDelivered}
 use Rattle.bench.proofs.EntrySettled.{reply-is, reply-some}
-use Rattle.bench.proofs.FlightCalls.{refusal-none}
+use Rattle.bench.proofs.QueueCalls.{refusal-none}
 use Rattle.bench.proofs.TieChecks.{message-told}
-use Rattle.bench.proofs.TieFlights.{messages-length}
+use Rattle.bench.proofs.TieQueue.{messages-length}
 use Rattle.bench.proofs.TieRanges.{told}
 use Rattle.bench.proofs.TieReceived.{received-says}
 
@@ -85,8 +85,8 @@ module _ (s : State) where
       done .reply ≡ 0 →
       let o : QueueOutcome = orRefused k (λ j. queueOutcome j (s .bench) (s .messages)) done in
       (o .reply ≡ 0 → ⊥) →
-      withFlown s o ≡ s
-  flown-kept k done zero some = ap (withFlown s) (reply-some (λ o. o .reply) k (λ j. queueOutcome j (s .bench) (s .messages)) done (λ j. refl) (λ e. zero) some)
+      withQueue s o ≡ s
+  flown-kept k done zero some = ap (withQueue s) (reply-some (λ o. o .reply) k (λ j. queueOutcome j (s .bench) (s .messages)) done (λ j. refl) (λ e. zero) some)
 
   abbrev flightNumber : Call → ℕ
   flightNumber c = refusalOf (benchInRange (s .bench) && messagesInRange (s .bench) (s .messages)) (networkOf (s .bench) (s .messages)) c

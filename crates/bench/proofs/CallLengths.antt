@@ -17,11 +17,11 @@ use Rattle.protocol.specs.Calls.{Call, change, update, cut, restore, send, deli
 use Rattle.bench.specs.State.{State, network, networkOf, lentView}
 use Rattle.bench.specs.Ranges.{benchInRange, messagesInRange}
 use Rattle.bench.specs.Changes.{benchOutcome, benchWithCut, Ends, ends, ended, movedEnd, movedEnds, changeOutcome, movedBench, refusalOf, orRefused, stateInRange, updateOf, cutOf, restoreOf}
-use Rattle.bench.specs.Flights.{numbersOf, queueOutcome, withCount, sendOf, loseOf}
+use Rattle.bench.specs.Queue.{numbersOf, queueOutcome, withCount, sendOf, loseOf}
 use Rattle.bench.specs.Deliveries.{deliveryReady, deliveryRefused, deliveryAt, received, deliverOf, repeatOf}
 use Rattle.bench.specs.Whole.{stepBy}
-use Rattle.bench.proofs.CallSteps.{withChanged, withRewritten, withFlown, withDelivered}
-use Rattle.bench.proofs.TieFlights.{taken-length}
+use Rattle.bench.proofs.CallSteps.{withChanged, withRewritten, withQueue, withDelivered}
+use Rattle.bench.proofs.TieQueue.{taken-length}
 
 pub record Kept (s after : State) : Type 0 where
   pub bridges : after .bench .bridges ≡ s .bench .bridges
@@ -99,9 +99,9 @@ module _ (s : State) where
   flightNumber c = refusalOf (benchInRange (s .bench) && messagesInRange (s .bench) (s .messages)) (networkOf (s .bench) (s .messages)) c
 
   -- other messages, and another count of them
-  flown-kept : (k count : ℕ) (m : List ℕ) → length m ≡ length (s .messages) → Kept s (withFlown s (orRefused k (λ j. queueOutcome j (s .bench) (s .messages)) (queueOutcome 0 (withCount (s .bench) count) m)))
+  flown-kept : (k count : ℕ) (m : List ℕ) → length m ≡ length (s .messages) → Kept s (withQueue s (orRefused k (λ j. queueOutcome j (s .bench) (s .messages)) (queueOutcome 0 (withCount (s .bench) count) m)))
   flown-kept k count m long =
-      either (withFlown s) k (λ j. queueOutcome j (s .bench) (s .messages)) (queueOutcome 0 (withCount (s .bench) count) m) same
+      either (withQueue s) k (λ j. queueOutcome j (s .bench) (s .messages)) (queueOutcome 0 (withCount (s .bench) count) m) same
       (record { bridges = refl; links = refl; ends = refl; views = refl; sent = refl; held = refl; messages = long })
 
   cut-kept : (k l : ℕ) (so : Bool) → Kept s (withChanged s (orRefused k (λ j. benchOutcome j (s .bench)) (benchOutcome 0 (benchWithCut (s .bench) l so))))

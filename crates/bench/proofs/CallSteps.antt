@@ -5,7 +5,7 @@ use mathlib.Core.List.{List, [], _∷_}
 use Rattle.protocol.specs.Calls.{Call, change, update, cut, restore, send, deliver, repeat, lose, port, report, path}
 use Rattle.bench.specs.State.{State, state}
 use Rattle.bench.specs.Changes.{BenchOutcome, ChangeOutcome, cutOf, restoreOf, updateOf}
-use Rattle.bench.specs.Flights.{QueueOutcome, sendOf, loseOf}
+use Rattle.bench.specs.Queue.{QueueOutcome, sendOf, loseOf}
 use Rattle.bench.specs.Deliveries.{DeliveryOutcome, deliverOf, repeatOf}
 use Rattle.bench.specs.Whole.{stepBy, runBy}
 
@@ -18,8 +18,8 @@ abbrev pub withRewritten : State → ChangeOutcome → State
 withRewritten s o = state (o .bench) (s .costs) (o .sent) (o .held) (s .messages)
 
 -- with what a call on the messages alone has made of it
-abbrev pub withFlown : State → QueueOutcome → State
-withFlown s o = state (o .bench) (s .costs) (s .sent) (s .held) (o .messages)
+abbrev pub withQueue : State → QueueOutcome → State
+withQueue s o = state (o .bench) (s .costs) (s .sent) (s .held) (o .messages)
 
 -- and with what a delivery has made of it
 abbrev pub withDelivered : State → DeliveryOutcome → State
@@ -38,11 +38,11 @@ module _ (s : State) where
   unfolding stepBy
   restore-step l = refl
 
-  pub send-step : (y l : ℕ) → stepBy s (send y l) ≡ withFlown s (sendOf (s .bench) (s .messages) y l)
+  pub send-step : (y l : ℕ) → stepBy s (send y l) ≡ withQueue s (sendOf (s .bench) (s .messages) y l)
   unfolding stepBy
   send-step y l = refl
 
-  pub lose-step : (p : ℕ) → stepBy s (lose p) ≡ withFlown s (loseOf (s .bench) (s .messages) p)
+  pub lose-step : (p : ℕ) → stepBy s (lose p) ≡ withQueue s (loseOf (s .bench) (s .messages) p)
   unfolding stepBy
   lose-step p = refl
 

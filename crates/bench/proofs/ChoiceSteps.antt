@@ -31,13 +31,14 @@ use Rattle.agreement.proofs.ChoiceLaws.{choice-none, choice-here, choice-away, 
 use Rattle.bench.specs.State.{State, network, lentView, part}
 use Rattle.bench.specs.Ranges.{graphInRange, benchInRange, costsInRange, limitsLong, networkInRange}
 use Rattle.bench.specs.Changes.{stateInRange}
-use Rattle.bench.specs.Answers.{found, portIn, linkNumber, reportedRow}
+use Rattle.bench.specs.Answers.{found, portIn, reportedRow}
 use Rattle.bench.specs.Steps.{PortsReady, IsFilled, choiceIn, AreChoices}
 use Rattle.bench.specs.declared.Bench.{Bench}
 use Rattle.bench.proofs.TieRanges.{LastingOf, lasting-told, lent-in-range, plan-in-range, part-at, getD-stored}
-use Rattle.bench.proofs.FlightRanges.{bench-told, network-bench, network-costs, network-told}
-use Rattle.bench.proofs.FlightCalls.{said-same}
+use Rattle.bench.proofs.QueueRanges.{bench-told, network-bench, network-costs, network-told}
+use Rattle.bench.proofs.QueueCalls.{said-same}
 use Rattle.bench.proofs.WalkSteps.{own-cell}
+use Rattle.encoding.specs.Numbers.{linkNumber}
 
 -- ---- what the entry check tells
 
@@ -95,11 +96,11 @@ pub next-said :
 next-said old link cost far cut holding sent held r low e =
     said-choice old r _ (e ∙ next-accepted _ _ _ _ _ _ _ _ (true-both (lt-ltb link 32 (low .0)) (le-leb cost maxCost (low .1))))
 
-abbrev pub portSaid : Forwarding → Port
-portSaid Forwarding.Refused = Closed
-portSaid (Forwarding.Found p) = p
+abbrev pub portReplied : Forwarding → Port
+portReplied Forwarding.Refused = Closed
+portReplied (Forwarding.Found p) = p
 
-pub port-said : (c : Choice) (r : Forwarding) → c .link < 32 → forwardingSays r ≡ choiceOutcome c → portSaid r ≡ portBy c
+pub port-said : (c : Choice) (r : Forwarding) → c .link < 32 → forwardingSays r ≡ choiceOutcome c → portReplied r ≡ portBy c
 port-said c Forwarding.Refused low e =
     absurd (let z : _≡_ {A = ℕ} 17 0 = ap (λ (o : Response _). o .number) (e ∙ choice-accepted c low) in omega arith)
 port-said c (Forwarding.Found p) low e = said-same p (portBy c) (e ∙ choice-accepted c low)

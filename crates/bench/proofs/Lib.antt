@@ -1,6 +1,6 @@
 pub mod TieRanges
 pub mod TieRefusals
-pub mod TieFlights
+pub mod TieQueue
 pub mod TieChecks
 pub mod RangesKept
 pub mod RangesSteps
@@ -30,11 +30,11 @@ pub mod AnswerRanges
 mod ArrivalSteps
 pub mod EntryChecks
 pub mod EntrySettled
-pub mod FlightReads
-pub mod FlightSteps
-pub mod FlightTaken
-pub mod FlightAnswers
-pub mod FlightRanges
+pub mod QueueReads
+pub mod QueueSteps
+pub mod QueueTaken
+pub mod QueueAnswers
+pub mod QueueRanges
 pub mod ChangeSteps
 pub mod WalkSteps
 pub mod ChoiceSteps
@@ -44,7 +44,7 @@ pub mod LoopSteps
 pub mod ChoiceReads
 pub mod ViewReads
 pub mod ChangeEntry
-pub mod FlightCalls
+pub mod QueueCalls
 pub mod CallLengths
 pub mod ReceiveSteps
 pub mod UpdateSteps

@@ -17,11 +17,11 @@ use Rattle.agreement.proofs.InRange.{view-passes, record-same}
 use Rattle.protocol.specs.Net.{Message}
 use Rattle.bench.specs.State.{State, state, lentView, messageFrom}
 use Rattle.bench.specs.Changes.{Ends, ends, movedEnds, movedBench}
-use Rattle.bench.specs.Flights.{numbersOf, withCount, takenOut}
+use Rattle.bench.specs.Queue.{numbersOf, withCount, takenOut}
 use Rattle.protocol.proofs.Places.{skipped}
 use Rattle.bench.proofs.TieRanges.{StateReady, few, lent-in-range}
-use Rattle.bench.proofs.TieFlights.{taken-length, taken-message, taken-below, added-message, kept-message}
-use Rattle.bench.proofs.TieChecks.{MessageTold, message-told, told-message}
+use Rattle.bench.proofs.TieQueue.{taken-length, taken-message, taken-below, added-message, kept-message}
+use Rattle.bench.proofs.TieChecks.{MessageFacts, message-told, told-message}
 use Rattle.bench.proofs.TieMovedEnds.{Turned, EndsReady, turned-all}
 
 -- what holds of a stored value and of those that were there holds of each afterwards
@@ -38,14 +38,14 @@ stored-keeps P (x ∷ l) (suc p) v (suc q) d new old = stored-keeps P l p v q d 
 pub added-told :
     (links views count : ℕ) (m : List ℕ) (x : Message) →
     5 * count + 5 ≤ length m →
-    ((i : ℕ) → i < count → MessageTold links views (messageFrom m i)) →
-    MessageTold links views x →
+    ((i : ℕ) → i < count → MessageFacts links views (messageFrom m i)) →
+    MessageFacts links views x →
     (i : ℕ) →
     i < count + 1 →
-    MessageTold links views (messageFrom (sets m (5 * count) (numbersOf x)) i)
+    MessageFacts links views (messageFrom (sets m (5 * count) (numbersOf x)) i)
 added-told links views count m x room each inside i low = go (ltb i count) refl
   where
-    go : (b : Bool) → ltb i count ≡ b → MessageTold links views (messageFrom (sets m (5 * count) (numbersOf x)) i)
+    go : (b : Bool) → ltb i count ≡ b → MessageFacts links views (messageFrom (sets m (5 * count) (numbersOf x)) i)
     go true q = let h : i < count = ltb-true _ _ q in rw (kept-message count m x room i h) (each i h)
     go false q = let last : i ≡ count = omega (arith, ltb-false i count q) in rw (last, added-message count m x room) inside
 
@@ -58,7 +58,7 @@ module _ (s : State) (r : StateReady s) where
       (k : ℕ) (m : List ℕ) →
       k ≤ 64 →
       length m ≡ length (s .messages) →
-      ((p : ℕ) → p < k → MessageTold (s .bench .links) (s .bench .views) (messageFrom m p)) →
+      ((p : ℕ) → p < k → MessageFacts (s .bench .links) (s .bench .views) (messageFrom m p)) →
       StateReady (withFlight s k m)
   flight-kept k m few long each =
       record {
@@ -72,7 +72,7 @@ module _ (s : State) (r : StateReady s) where
         message = λ p h. told-message _ _ _ (each p h);
       }
 
-  each-told : (p : ℕ) → p < s .bench .messages → MessageTold (s .bench .links) (s .bench .views) (messageFrom (s .messages) p)
+  each-told : (p : ℕ) → p < s .bench .messages → MessageFacts (s .bench .links) (s .bench .views) (messageFrom (s .messages) p)
   each-told p h = message-told _ _ _ (r .message p h)
 
   -- one taken out
@@ -87,7 +87,7 @@ module _ (s : State) (r : StateReady s) where
   pub added-kept :
       (x : Message) →
       s .bench .messages < 64 →
-      MessageTold (s .bench .links) (s .bench .views) x →
+      MessageFacts (s .bench .links) (s .bench .views) x →
       StateReady (withFlight s (s .bench .messages + 1) (sets (s .messages) (5 * s .bench .messages) (numbersOf x)))
   added-kept x free inside =
       flight-kept (s .bench .messages + 1) _ (omega arith) (length-sets (s .messages) (5 * s .bench .messages) (numbersOf x))

@@ -16,18 +16,18 @@ use Rattle.protocol.specs.Calls.{change, update, cut, restore, send, deliver, r
 use Rattle.bench.specs.State.{State, state, network, networkOf, messageFrom}
 use Rattle.bench.specs.Ranges.{graphInRange, benchInRange, costsInRange, messageInRange, messagesInRange, networkInRange}
 use Rattle.bench.specs.Changes.{benchOutcome, changeOutcome, movedBench, refusalOf, orRefused, stateInRange, benchWithCut, cutOf, restoreOf, updateOf}
-use Rattle.bench.specs.Flights.{QueueOutcome, queueOutcome, numbersOf, withCount, sendOf, loseOf}
+use Rattle.bench.specs.Queue.{QueueOutcome, queueOutcome, numbersOf, withCount, sendOf, loseOf}
 use Rattle.bench.specs.Deliveries.{deliveryReady, deliveryRefused, deliveryAt, received, deliverOf, repeatOf}
 use Rattle.bench.specs.Whole.{stepBy}
 use Rattle.bench.specs.declared.Bench.{Bench}
-use Rattle.protocol.proofs.Accepted.{SendListed, send-listed, place-listed}
-use Rattle.bench.proofs.CallSteps.{withChanged, withRewritten, withFlown, withDelivered}
+use Rattle.protocol.proofs.Accepted.{SendFacts, send-listed, place-listed}
+use Rattle.bench.proofs.CallSteps.{withChanged, withRewritten, withQueue, withDelivered}
 use Rattle.bench.proofs.ChangeEntry.{update-told}
-use Rattle.bench.proofs.FlightCalls.{refusal-none, lose-told}
-use Rattle.bench.proofs.FlightRanges.{network-bench, flight-told}
+use Rattle.bench.proofs.QueueCalls.{refusal-none, lose-told}
+use Rattle.bench.proofs.QueueRanges.{network-bench, flight-told}
 use Rattle.bench.proofs.RangesKept.{added-told, taken-kept, endsAfter, moved-kept}
-use Rattle.bench.proofs.TieChecks.{MessageTold, message-told, told-message}
-use Rattle.bench.proofs.TieFlights.{messages-length}
+use Rattle.bench.proofs.TieChecks.{MessageFacts, message-told, told-message}
+use Rattle.bench.proofs.TieQueue.{messages-length}
 use Rattle.bench.proofs.TieRanges.{StateReady}
 use Rattle.bench.proofs.TieReceived.{received-kept}
 
@@ -87,7 +87,7 @@ module _ (s : State) (r : StateReady s) where
   pub lose-stays : (p : ℕ) → StateReady (stepBy s (lose p))
   unfolding stepBy loseOf
   lose-stays p =
-      settled-kept (withFlown s) (refusalOf (benchInRange (s .bench) && messagesInRange (s .bench) (s .messages)) (networkOf (s .bench) (s .messages)) (lose p)) (λ k. queueOutcome k (s .bench) (s .messages)) _ (λ j. r)
+      settled-kept (withQueue s) (refusalOf (benchInRange (s .bench) && messagesInRange (s .bench) (s .messages)) (networkOf (s .bench) (s .messages)) (lose p)) (λ k. queueOutcome k (s .bench) (s .messages)) _ (λ j. r)
       (λ none. taken-kept s r p (lose-told (s .bench) (s .messages) p (refusal-none _ (networkOf (s .bench) (s .messages)) (lose p) none .1)))
 
   placed-kept : (p : ℕ) → p < s .bench .messages → StateReady (withDelivered s (received s p))
@@ -134,9 +134,9 @@ module _ (b : Bench) (m : List ℕ) (y l : ℕ) where
   unfolding messagesInRange accepted messageOf
   sent-stays ok none number discarded =
       let told = flight-told b m ok in
-      let listed : SendListed (networkOf b m) y l = send-listed (networkOf b m) y l (ap (λ (k : ℕ). eqb k 0) none) in
+      let listed : SendFacts (networkOf b m) y l = send-listed (networkOf b m) y l (ap (λ (k : ℕ). eqb k 0) none) in
       let free : b .messages < 64 = rw messages-length at (listed .room) in
-      let inside : MessageTold (b .links) (b .views) (messageOf (networkOf b m) y l) =
+      let inside : MessageFacts (b .links) (b .views) (messageOf (networkOf b m) y l) =
       record { link = listed .link; direction = omega arith; view = told .0 .view y (listed .bridge); number = number; discarded = discarded } in
       true-both (bench-count b (b .messages + 1) (omega arith) (both-true (benchInRange b) _ ok .0))
       (true-both (le-leb 320 (length sentTo) (omega (arith, told .1 .long, length-sets m (5 * b .messages) (numbersOf (messageOf (networkOf b m) y l)))))
@@ -161,7 +161,7 @@ send-stays s y l ok = go (eqb (refusalOf (flightInRange (s .bench) (s .messages)
         cond b (queueOutcome 0 (withCount (s .bench) (s .bench .messages + 1)) (sets (s .messages) (5 * s .bench .messages) (numbersOf (messageOf (networkOf (s .bench) (s .messages)) y l))))
         (queueOutcome k (s .bench) (s .messages))
 
-    go : (b : Bool) → flightInRange (outcome b .bench) (outcome b .messages) ≡ true → deliveryReady (withFlown s (outcome b)) ≡ true
+    go : (b : Bool) → flightInRange (outcome b .bench) (outcome b .messages) ≡ true → deliveryReady (withQueue s (outcome b)) ≡ true
     go true flight =
         let h = both-true (benchInRange (outcome true .bench)) _ flight in
         true-both (true-both (h .0) (both-true (benchInRange (s .bench)) _ (both-true (stateInRange s) _ ok .0) .1)) (h .1)

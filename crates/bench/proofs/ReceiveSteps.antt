@@ -17,7 +17,7 @@ use Rattle.agreement.proofs.Ends.{opposite-below}
 use Rattle.agreement.proofs.BetweenLaws.{deliver-between}
 use Rattle.agreement.proofs.Outcomes.{deliver-accepted}
 use Rattle.bench.specs.State.{State, state, lentView, messageFrom}
-use Rattle.bench.specs.Flights.{withCount}
+use Rattle.bench.specs.Queue.{withCount}
 use Rattle.bench.specs.Deliveries.{arrivalEnd, deliveryOutcome, benchWithRecords, deliveryAt, deliveryReady, received}
 use Rattle.bench.specs.Effects.{receptionBench, Accepts, ReceptionFits, Takes, StandsIn}
 use Rattle.bench.specs.Steps.{IsFilled, TablesOf}
@@ -25,10 +25,10 @@ use Rattle.bench.specs.declared.Bench.{Bench}
 use Rattle.bench.specs.declared.effects.EndState.{EndState}
 use Rattle.bench.specs.declared.effects.Reception.{Reception}
 use Rattle.bench.proofs.TieRanges.{StateReady, told, part-at}
-use Rattle.bench.proofs.TieChecks.{MessageTold, message-told}
+use Rattle.bench.proofs.TieChecks.{MessageFacts, message-told}
 use Rattle.bench.proofs.TieReceived.{taken}
-use Rattle.bench.proofs.FlightReads.{from-low}
-use Rattle.bench.proofs.FlightSteps.{received-beside}
+use Rattle.bench.proofs.QueueReads.{from-low}
+use Rattle.bench.proofs.QueueSteps.{received-beside}
 
 -- what layer 2 makes of an end that stands so in a bench, with the table's part as it is lent, and that it answers
 module _
@@ -112,7 +112,7 @@ module _
   inside : StateReady given
   inside = told given ready
 
-  its-numbers : MessageTold (b .links) (b .views) (messageFrom messages p)
+  its-numbers : MessageFacts (b .links) (b .views) (messageFrom messages p)
   its-numbers = message-told _ _ _ (inside .message p there)
 
   pub place-taken : Takes (state b costs sent held []) (here .end) (messageFrom messages p .agreement)

@@ -17,14 +17,14 @@ use Rattle.bench.specs.Changes.{refusalOf}
 use Rattle.bench.specs.Whole.{Represents}
 use Rattle.bench.proofs.TieRanges.{told}
 use Rattle.bench.proofs.TieRefusals.{refusal-ready}
-use Rattle.bench.proofs.TieFlights.{messages-length, message-at}
+use Rattle.bench.proofs.TieQueue.{messages-length, message-at}
 
 -- checks that are the same, in front of others
 next-same : (c d : Check) (cs ds : List Check) → c ≡ d → (d .when ≡ false → refusal cs ≡ refusal ds) → refusal (c ∷ cs) ≡ refusal (d ∷ ds)
 next-same c d cs ds same = refusal-next c d cs ds (ap (λ (x : Check). x .when) same) (ap (λ (x : Check). x .number) same)
 
 -- what the check of one message tells
-pub record MessageTold (links views : ℕ) (x : Message) : Type 0 where
+pub record MessageFacts (links views : ℕ) (x : Message) : Type 0 where
   pub link : x .link < links
   pub direction : x .direction < 2
   pub view : x .agreement .view < views
@@ -35,7 +35,7 @@ module _ (links views : ℕ) (x : Message) where
   abbrev pub passes : Bool
   passes = messagePasses links views (x .link) (x .direction) (x .agreement .view) (x .agreement .number) (x .agreement .discarded)
 
-  pub message-told : passes ≡ true → MessageTold links views x
+  pub message-told : passes ≡ true → MessageFacts links views x
   unfolding messagePasses
   message-told ok =
       let a = both-true (ltb (x .link) links) _ ok in
@@ -50,7 +50,7 @@ module _ (links views : ℕ) (x : Message) where
         discarded = ltb-true _ _ (d .1);
       }
 
-  pub told-message : MessageTold links views x → passes ≡ true
+  pub told-message : MessageFacts links views x → passes ≡ true
   unfolding messagePasses
   told-message h =
       true-both (lt-ltb _ _ (h .link))
@@ -111,7 +111,7 @@ module _ (s : State) (n : Network) (r : Represents s n) where
   pub same-message-at : (p : ℕ) → p < s .bench .messages → messageAt n p ≡ messageFrom (s .messages) p
   same-message-at p h = rw (r .messages) (message-at (s .bench .messages) (s .messages) p h)
 
-  pub message-in-range : (p : ℕ) → p < s .bench .messages → MessageTold (s .bench .links) (s .bench .views) (messageFrom (s .messages) p)
+  pub message-in-range : (p : ℕ) → p < s .bench .messages → MessageFacts (s .bench .links) (s .bench .views) (messageFrom (s .messages) p)
   message-in-range p h = message-told _ _ _ (told s (r .inRange) .message p h)
 
   same-message-cut : (p : ℕ) → p < s .bench .messages → linkCut n (messageAt n p .link) ≡ linkCut (network s) (messageAt (network s) p .link)

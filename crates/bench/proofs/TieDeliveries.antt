@@ -16,7 +16,7 @@ use Rattle.bench.proofs.CallSteps.{withDelivered}
 use Rattle.bench.proofs.TieRanges.{told}
 use Rattle.protocol.proofs.Accepted.{place-listed, accepted-checks}
 use Rattle.bench.proofs.TieRefusals.{settled-same, settled-step}
-use Rattle.bench.proofs.TieFlights.{messages-length}
+use Rattle.bench.proofs.TieQueue.{messages-length}
 use Rattle.bench.proofs.TieChecks.{message-in-range, same-message-at, refusal-same}
 use Rattle.bench.proofs.TieSends.{taken-represents}
 use Rattle.bench.proofs.TieReceived.{received-answer, received-represents}

@@ -27,7 +27,7 @@ use Rattle.bench.specs.Deliveries.{benchWithRecords, deliveryAt}
 use Rattle.bench.specs.Whole.{Represents, Typed}
 use Rattle.bench.proofs.CallSteps.{withDelivered}
 use Rattle.bench.proofs.TieRanges.{StateReady, ready, few, are-bridges, lent-in-range, lent-offer-in, getD-stored}
-use Rattle.bench.proofs.TieChecks.{MessageTold}
+use Rattle.bench.proofs.TieChecks.{MessageFacts}
 use Rattle.bench.proofs.TieRows.{row-at}
 use Rattle.bench.proofs.RangesKept.{stored-keeps}
 
@@ -38,7 +38,7 @@ module _
     (e : ℕ)
     (he : e < 2 * s .bench .links)
     (x : Message)
-    (inside : MessageTold (s .bench .links) (s .bench .views) x) where
+    (inside : MessageFacts (s .bench .links) (s .bench .views) x) where
   -- the end's bridge, its view and number, and the end's record
   abbrev bridge : ℕ
   bridge = getD (s .bench .ends) e 0

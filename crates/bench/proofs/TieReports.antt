@@ -15,7 +15,7 @@ use Rattle.protocol.specs.Calls.{refuse, checks, report}
 use Rattle.protocol.specs.Ports.{ownDistance}
 use Rattle.bench.specs.State.{State, network, lentView}
 use Rattle.bench.specs.Changes.{refusalOf, stateInRange}
-use Rattle.bench.specs.Answers.{ReportOutcome, reportOutcome as leaving, linkNumber, reportedRow, reported, reportOf}
+use Rattle.bench.specs.Answers.{ReportOutcome, reportOutcome as leaving, reportedRow, reported, reportOf}
 use Rattle.bench.specs.Whole.{Represents, Reports, Answers}
 use Rattle.bench.proofs.TieRanges.{told, network-ready, few, lent-distances}
 use Rattle.bench.proofs.EntrySettled.{reply-is}
@@ -25,6 +25,7 @@ use Rattle.bench.proofs.TieCuts.{cut-replied, restore-replied}
 use Rattle.bench.proofs.TieMoved.{update-replied}
 use Rattle.bench.proofs.TieSends.{send-replied, lose-replied}
 use Rattle.bench.proofs.TieDeliveries.{deliver-replied, repeat-replied}
+use Rattle.encoding.specs.Numbers.{linkNumber}
 
 module _ (s : State) (n : Network) (r : Represents s n) where
   own-distance :

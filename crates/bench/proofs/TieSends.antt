@@ -13,15 +13,15 @@ use Rattle.protocol.specs.Calls.{send, lose, accepted, act, step, endOf, messag
 use Rattle.bench.specs.State.{State, state, network, networkOf, messagesFrom}
 use Rattle.bench.specs.Ranges.{benchInRange, messagesInRange}
 use Rattle.bench.specs.Changes.{refusalOf}
-use Rattle.bench.specs.Flights.{numbersOf, takenOut, QueueOutcome, queueOutcome, sendOf, loseOf}
+use Rattle.bench.specs.Queue.{numbersOf, takenOut, QueueOutcome, queueOutcome, sendOf, loseOf}
 use Rattle.bench.specs.Whole.{Represents, Typed, stepBy}
 use Rattle.protocol.proofs.Links.{endOf-below}
-use Rattle.protocol.proofs.Accepted.{SendListed, send-listed, place-listed, accepted-checks}
+use Rattle.protocol.proofs.Accepted.{SendFacts, send-listed, place-listed, accepted-checks}
 use Rattle.bench.proofs.TieRanges.{StateReady, told, ready, bench-ready, messages-ready}
 use Rattle.bench.proofs.TieRefusals.{settled-step}
 use Rattle.bench.proofs.EntrySettled.{reply-is}
-use Rattle.bench.proofs.TieFlights.{messages-length, taken-messages, added-messages}
-use Rattle.bench.proofs.TieChecks.{MessageTold, refusal-same}
+use Rattle.bench.proofs.TieQueue.{messages-length, taken-messages, added-messages}
+use Rattle.bench.proofs.TieChecks.{MessageFacts, refusal-same}
 use Rattle.bench.proofs.RangesKept.{withFlight, taken-kept, added-kept}
 
 module _ (s : State) (n : Network) (r : Represents s n) where
@@ -67,7 +67,7 @@ module _ (s : State) (n : Network) (r : Represents s n) where
   added-represents :
       (x : Message) →
       s .bench .messages < 64 →
-      MessageTold (s .bench .links) (s .bench .views) x →
+      MessageFacts (s .bench .links) (s .bench .views) x →
       Represents (withFlight s (s .bench .messages + 1) (sets (s .messages) (5 * s .bench .messages) (numbersOf x))) (withMessages n (n .messages ++ (x ∷ [])))
   added-represents x free inside =
       let old : StateReady s = told s (r .inRange) in
@@ -91,7 +91,7 @@ module _ (s : State) (n : Network) (r : Represents s n) where
           r .number y hy,
         )
 
-    sent-in-range : MessageTold (s .bench .links) (s .bench .views) (messageOf (network s) y l)
+    sent-in-range : MessageFacts (s .bench .links) (s .bench .views) (messageOf (network s) y l)
     unfolding messageOf
     sent-in-range =
         record {
@@ -128,7 +128,7 @@ module _ (s : State) (n : Network) (r : Represents s n) where
       Represents (withFlight s (s .bench .messages + 1) (sets (s .messages) (5 * s .bench .messages) (numbersOf (messageOf (networkOf (s .bench) (s .messages)) y l)))) (act n (send y l))
   unfolding act sentOver messageOf
   sent-represents y l a =
-      let listed : SendListed n y l = send-listed n y l a in
+      let listed : SendFacts n y l = send-listed n y l a in
       let hy : y < s .bench .bridges = rw (r .plan) at (listed .bridge) in
       let hl : l < s .bench .links = rw (r .plan) at (listed .link) in
       rw (same-sent y l hy hl)

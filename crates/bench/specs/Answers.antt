@@ -4,11 +4,11 @@ use mathlib.Core.Bool.{_&&_}
 use mathlib.Core.List.{List, [], _∷_}
 use lib.ListN.{length, getD, set}
 use lib.Dec.{leb}
-use Rattle.distances.specs.View.{NONE, graphOf}
+use Rattle.distances.specs.View.{graphOf}
 use Rattle.distances.specs.Table.{cell}
 use Rattle.agreement.specs.Call.{Response, says, portOutcome}
 use Rattle.agreement.specs.declared.Port.{Port}
-use Rattle.agreement.specs.declared.Port.the-variants.{Closed, Open}
+use Rattle.agreement.specs.declared.Port.the-variants.{Closed}
 use Rattle.protocol.specs.Calls as calls
 use Rattle.protocol.specs.Ports.{Hop, hopBy}
 use Rattle.protocol.specs.Paths.{onward}
@@ -19,6 +19,7 @@ use Rattle.bench.specs.Deliveries.{refusedBy}
 use Rattle.bench.specs.declared.Bench.{Bench}
 use Rattle.bench.specs.declared.Forwarding.{Forwarding}
 use Rattle.bench.specs.declared.Way.{Way}
+use Rattle.encoding.specs.Numbers.{linkNumber}
 
 -- each reply as document 01 has it: the number, and the value where the call is accepted
 abbrev pub forwardingSays : Forwarding → Response Port
@@ -54,10 +55,6 @@ portOf s y d =
     orRefused (refusalOf (stateInRange s) (network s) (calls.port y d)) refusedBy (says (portIn s y d))
 
 -- The report of destination d: for each bridge below k its distance in its own view and its link, NONE for no port
-abbrev pub linkNumber : Port → ℕ
-linkNumber Closed = NONE
-linkNumber (Open l) = l
-
 unfoldable pub reportedRow : State → ℕ → ℕ → List ℕ → List ℕ
 reportedRow s d y rows =
     set

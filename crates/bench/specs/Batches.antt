@@ -15,10 +15,11 @@ use Rattle.protocol.specs.Paths as paths
 use Rattle.bench.specs.State.{State, network, lentView}
 use Rattle.bench.specs.Changes.{refusalOf, orRefused}
 use Rattle.bench.specs.Deliveries.{deliveryReady, deliverOf, repeatOf}
-use Rattle.bench.specs.Answers.{linkNumber, portIn, pathOf}
+use Rattle.bench.specs.Answers.{portIn, pathOf}
 use Rattle.bench.specs.Whole.{stepBy, runBy}
 use Rattle.bench.specs.declared.Disposition.{Disposition}
 use Rattle.bench.specs.declared.Disposition.the-variants.{Complete, Refused, Full}
+use Rattle.encoding.specs.Numbers.{linkNumber}
 
 -- the call that an event is
 abbrev pub callOf : Event → Call

@@ -14,7 +14,7 @@ use Rattle.protocol.specs.Calls.{deliver, repeat}
 use Rattle.bench.specs.State.{State, network, lentView, messageFrom}
 use Rattle.bench.specs.Ranges.{messagesInRange}
 use Rattle.bench.specs.Changes.{refusalOf, orRefused, stateInRange}
-use Rattle.bench.specs.Flights.{withCount, takenOut}
+use Rattle.bench.specs.Queue.{withCount, takenOut}
 use Rattle.bench.specs.declared.Bench.{Bench}
 use Rattle.bench.specs.declared.Reaction.{Reaction}
 

@@ -16,36 +16,37 @@ use Rattle.distances.specs.View.{graphOf}
 use Rattle.protocol.specs.Calls.{endOf}
 use Rattle.bench.specs.State.{State, state, lentView, messageFrom}
 use Rattle.bench.specs.Changes.{ChangeOutcome, changeOutcome, ends, movedEnds, movedBench, benchWithCut}
-use Rattle.bench.specs.Flights.{withCount}
+use Rattle.bench.specs.Queue.{withCount}
 use Rattle.bench.specs.Deliveries.{arrivalEnd, refusedBy, benchWithRecords}
 use Rattle.bench.specs.declared.Bench.{Bench}
 use Rattle.bench.specs.declared.Disposition.the-variants.{Complete, Refused}
 use Rattle.bench.specs.declared.effects.Effect.{Effect}
-use Rattle.bench.specs.declared.effects.Queueing.{Queueing}
+use Rattle.bench.specs.declared.effects.QueueChange.{QueueChange}
 use Rattle.bench.specs.declared.effects.Reception.{Reception}
 use Rattle.bench.specs.declared.effects.Updating.{Updating}
 use Rattle.bench.specs.declared.effects.EventResult.{EventResult}
 use Rattle.bench.specs.declared.effects.EndState.{EndState}
 use Rattle.bench.specs.declared.Event.{Event}
 use Rattle.bench.specs.declared.Event.the-variants.{Update, Send, Deliver, Repeat, Lose, Cut, Restore, Report, Path}
+use Rattle.agreement.specs.Sizes.{mostEnds}
 
 -- a send or a loss: its number, the bench, what becomes of it
-abbrev pub queueingNumber : Queueing → ℕ
-queueingNumber (Queueing.Refused k) = k
-queueingNumber (Queueing.Length n) = 0
+abbrev pub queueChangeNumber : QueueChange → ℕ
+queueChangeNumber (QueueChange.Refused k) = k
+queueChangeNumber (QueueChange.Length n) = 0
 
-abbrev pub queueingBench : Queueing → Bench → Bench
-queueingBench (Queueing.Refused k) b = b
-queueingBench (Queueing.Length n) b = withCount b n
+abbrev pub queueChangeBench : QueueChange → Bench → Bench
+queueChangeBench (QueueChange.Refused k) b = b
+queueChangeBench (QueueChange.Length n) b = withCount b n
 
-abbrev pub queueingEffect : Queueing → Effect
-queueingEffect (Queueing.Refused k) = Effect.Same
-queueingEffect (Queueing.Length n) = Effect.Flight n
+abbrev pub queueChangeEffect : QueueChange → Effect
+queueChangeEffect (QueueChange.Refused k) = Effect.Same
+queueChangeEffect (QueueChange.Length n) = Effect.Messages n
 
 -- no refusal has the number 0
-abbrev pub QueueingFits : Queueing → Type 0
-QueueingFits (Queueing.Refused k) = 0 < k
-QueueingFits (Queueing.Length n) = Unit {0}
+abbrev pub QueueChangeFits : QueueChange → Type 0
+QueueChangeFits (QueueChange.Refused k) = 0 < k
+QueueChangeFits (QueueChange.Length n) = Unit {0}
 
 -- a delivery or a repeat: what it says, the bench with so many messages in flight
 abbrev pub receptionSays : Reception → Response Answer
@@ -63,11 +64,12 @@ receptionEffect (Reception.Accepted a e r) n = Effect.Received e r n
 -- it is accepted, at an end that there is
 abbrev pub Accepts : Reception → Type 0
 Accepts (Reception.Refused k) = ⊥
-Accepts (Reception.Accepted a e r) = e < 64
+Accepts (Reception.Accepted a e r) = e < mostEnds
 
+-- a refusal has a number, and an accepted one is at an end that there is
 abbrev pub ReceptionFits : Reception → Type 0
 ReceptionFits (Reception.Refused k) = 0 < k
-ReceptionFits (Reception.Accepted a e r) = e < 64
+ReceptionFits (Reception.Accepted a e r) = e < mostEnds
 
 -- layer 2 takes what a message carries, at end e
 abbrev pub Takes : State → ℕ → Agreement → Type 0
@@ -142,6 +144,7 @@ pub record CanMove (b : Bench) (known : List Bool) (y t : ℕ) : Type 0 where
   pub number : getD (b .number) y 0 < 65535
   pub filled : getD known t false ≡ true
 
+-- a refusal has a number, and a bridge that goes to a view can
 abbrev pub UpdatingFits : Updating → Bench → List Bool → ℕ → ℕ → Type 0
 UpdatingFits (Updating.Refused k) b known y t = 0 < k
 UpdatingFits Updating.Stays b known y t = Unit {0}
@@ -156,18 +159,18 @@ stateWith s b = state b (s .costs) (s .sent) (s .held) (s .messages)
 
 abbrev pub appliedTo : Effect → State → State
 appliedTo Effect.Same s = s
-appliedTo (Effect.Flight n) s = stateWith s (withCount (s .bench) n)
+appliedTo (Effect.Messages n) s = stateWith s (withCount (s .bench) n)
 appliedTo (Effect.Cut l so) s = stateWith s (benchWithCut (s .bench) l so)
 appliedTo (Effect.Received e r n) s = stateWith s (withCount (benchWithRecords (s .bench) (set (s .bench .records) e r)) n)
 appliedTo (Effect.Moves y t) s = stateOf s (movedTo s y t)
 
 -- it can be carried out
-abbrev pub EffectFits : Effect → Bench → List Bool → Type 0
-EffectFits Effect.Same b known = Unit {0}
-EffectFits (Effect.Flight n) b known = Unit {0}
-EffectFits (Effect.Cut l so) b known = l < 32
-EffectFits (Effect.Received e r n) b known = e < 64
-EffectFits (Effect.Moves y t) b known = CanMove b known y t
+abbrev pub CanApply : Effect → Bench → List Bool → Type 0
+CanApply Effect.Same b known = Unit {0}
+CanApply (Effect.Messages n) b known = Unit {0}
+CanApply (Effect.Cut l so) b known = l < 32
+CanApply (Effect.Received e r n) b known = e < mostEnds
+CanApply (Effect.Moves y t) b known = CanMove b known y t
 
 -- one event of a list, by the number k that its call replied
 abbrev pub eventResult : ℕ → ℕ → Effect → EventResult

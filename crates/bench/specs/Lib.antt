@@ -2,7 +2,7 @@ pub mod Sizes
 pub mod State
 pub mod Ranges
 pub mod Changes
-pub mod Flights
+pub mod Queue
 pub mod Deliveries
 pub mod Answers
 pub mod Effects

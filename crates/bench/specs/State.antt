@@ -2,7 +2,7 @@
 use Prim.Native.Nat.{ℕ, zero, suc, _+_, _*_}
 use mathlib.Core.List.{List, [], _∷_}
 use lib.ListN.{getD, take, drop, replicate}
-use Rattle.distances.specs.View.{graphOf}
+use Rattle.distances.specs.View.{graphOf, tableNumbers}
 use Rattle.distances.specs.Call.{distancesOf}
 use Rattle.agreement.specs.Call.{ViewData, viewData, lentRecords}
 use Rattle.protocol.specs.Net.{Network, Message}
@@ -27,7 +27,7 @@ part width k l = take width (drop (width * k) l)
 
 -- the distances of view t, as layer 1 leaves them in a table that held nothing
 unfoldable pub distanceTable : ℕ → ℕ → List ℕ → List ℕ → ℕ → List ℕ
-distanceTable bridges links ends costs t = distancesOf bridges links ends (part 32 t costs) (replicate 256 0) .table
+distanceTable bridges links ends costs t = distancesOf bridges links ends (part 32 t costs) (replicate tableNumbers 0) .table
 
 -- view t as layer 2 is lent it
 abbrev pub lentView : Bench → List ℕ → ℕ → ViewData

@@ -5,7 +5,7 @@ use mathlib.Core.Bool.{Bool, true, false, cond}
 use mathlib.Core.List.{List, _++_}
 use lib.ListN.{length, getD, take, drop, replicate}
 use lib.Dec.{eqb}
-use Rattle.distances.specs.View.{maxCost, costsOf}
+use Rattle.distances.specs.View.{maxCost, costsOf, tableNumbers}
 use Rattle.distances.specs.Table.{cell}
 use Rattle.distances.specs.Call.{distancesOf}
 use Rattle.agreement.specs.Call.{ViewData, lentGraph}
@@ -25,6 +25,8 @@ use Rattle.bench.specs.declared.effects.Effect.the-variants.{Same}
 use Rattle.bench.specs.Effects.{eventResult}
 use Rattle.bench.specs.declared.Disposition.{Disposition}
 use Rattle.bench.specs.declared.Hop as code
+use Rattle.bench.specs.Sizes.{costNumbers}
+use Rattle.agreement.specs.Sizes.{limitNumbers}
 
 -- what the entry check has told of a bench and of what is lent beside it
 pub record Ready (b : Bench) (costs : List ℕ) : Type 0 where
@@ -33,25 +35,25 @@ pub record Ready (b : Bench) (costs : List ℕ) : Type 0 where
   pub fewViews : b .views ≤ 32
   pub areBridges : (e : ℕ) → e < 2 * b .links → getD (b .ends) e 0 < b .bridges
   pub areViews : (y : ℕ) → y < b .bridges → getD (b .view) y 0 < b .views
-  pub costsLong : 1024 ≤ length costs
+  pub costsLong : costNumbers ≤ length costs
 
 -- and a call that asks for ports
 pub record PortsReady (b : Bench) (costs sent held : List ℕ) : Type 0 where
   pub inRange : networkInRange b costs (length sent) (length held) ≡ true
   pub ready : Ready b costs
-  pub sentLong : 1024 ≤ length sent
-  pub heldLong : 1024 ≤ length held
+  pub sentLong : limitNumbers ≤ length sent
+  pub heldLong : limitNumbers ≤ length held
   pub costsMost : (t l : ℕ) → t < b .views → l < b .links → getD costs (32 * t + l) 0 ≤ maxCost
 
 -- the table of a view's distances, a block of 256 for each view: layer 1's work in block t
 unfoldable pub filledView : ℕ → ℕ → List ℕ → List ℕ → ℕ → List ℕ → List ℕ
 filledView bridges links places costs t tables =
-    take (256 * t) tables
-    ++ (distancesOf bridges links places (part 32 t costs) (part 256 t tables) .table ++ drop 256 (drop (256 * t) tables))
+    take (tableNumbers * t) tables
+    ++ (distancesOf bridges links places (part 32 t costs) (part tableNumbers t tables) .table ++ drop tableNumbers (drop (tableNumbers * t) tables))
 
 -- block t holds the view's distances
 abbrev pub IsFilled : Bench → List ℕ → List ℕ → ℕ → Type 0
-IsFilled b costs tables t = part 256 t tables ≡ distanceTable (b .bridges) (b .links) (b .ends) costs t
+IsFilled b costs tables t = part tableNumbers t tables ≡ distanceTable (b .bridges) (b .links) (b .ends) costs t
 
 -- and so do those of the views that the bridges are on
 abbrev pub AllFilled : Bench → List ℕ → List ℕ → Type 0
@@ -61,7 +63,7 @@ AllFilled b costs tables = (y : ℕ) → y < b .bridges → IsFilled b costs tab
 pub record TablesOf (bridges links : ℕ) (places costs tables : List ℕ) (known : List Bool) : Type 0 where
   pub long : length tables ≡ 8192
   pub flags : length known ≡ 32
-  pub block : (t : ℕ) → t < 32 → part 256 t tables ≡ cond (getD known t false) (distanceTable bridges links places costs t) (replicate 256 0)
+  pub block : (t : ℕ) → t < 32 → part tableNumbers t tables ≡ cond (getD known t false) (distanceTable bridges links places costs t) (replicate tableNumbers 0)
 
 abbrev pub Tables : Bench → List ℕ → List ℕ → List Bool → Type 0
 Tables b costs tables known = TablesOf (b .bridges) (b .links) (b .ends) costs tables known

@@ -15,12 +15,13 @@ use Rattle.protocol.specs.Ports as ports
 use Rattle.protocol.specs.Paths as paths
 use Rattle.bench.specs.State.{State, state, network}
 use Rattle.bench.specs.Changes.{orRefused, cutOf, restoreOf, updateOf, freshOf}
-use Rattle.bench.specs.Flights.{sendOf, loseOf}
+use Rattle.bench.specs.Queue.{sendOf, loseOf}
 use Rattle.bench.specs.Deliveries.{refusedBy, deliveryReady, deliverOf, repeatOf}
-use Rattle.bench.specs.Answers.{portOf, linkNumber, reportOf, pathOf}
+use Rattle.bench.specs.Answers.{portOf, reportOf, pathOf}
 use Rattle.protocol.specs.Demand3.{Holds}
 use Rattle.bench.specs.declared.Bench.{Bench}
 use Rattle.bench.specs.Sizes.{flightNumbers}
+use Rattle.encoding.specs.Numbers.{linkNumber}
 
 -- the state that a call leaves, by the outcome that its contract names
 unfoldable pub stepBy : State → Call → State

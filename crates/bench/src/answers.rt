@@ -41,7 +41,7 @@ pub fn port(
     let mut known = [false; 32];
     let ends = bench.ends;
     let chain = end_chains(bench.links, &ends);
-    Forwarding::Found(ports::port_of(
+    Forwarding::Found(ports::port_in(
         bench,
         costs,
         &mut tables,

@@ -8,7 +8,7 @@ use crate::answers;
 use crate::changes;
 use crate::effects::Effect;
 use crate::effects::EventResult;
-use crate::effects::Queueing;
+use crate::effects::QueueChange;
 use crate::effects::Reception;
 use crate::effects::Updating;
 use crate::messages::deliver_ready;
@@ -24,12 +24,11 @@ use crate::sizes::MOST_EVENTS;
 use crate::sizes::TABLES;
 use crate::tables::end_chains;
 use crate::updates::moved;
-use agreement::Answer;
 use agreement::EndRecord;
 use distances::ready::both;
 ghost use mathlib.Core.Path.{_≡_};
 ghost use mathlib.Core.Bool.{true, false};
-ghost use mathlib.Core.List.{[], _∷_};
+ghost use mathlib.Core.List.{[]};
 ghost use Prim.Native.Nat.{ℕ, _*_, _≤_, _<_};
 ghost use lib.ListN.{length, take, getD};
 ghost use lib.Seq.{sets};
@@ -40,8 +39,8 @@ ghost use Rattle.bench.specs.Answers.{WayFits, waySays};
 ghost use Rattle.bench.specs.State.{state, networkOf};
 ghost use Rattle.bench.specs.Batches.{refusalIn, wayNumbers, answeredNumbers, answerSize, eventBatchIn, batchFrom, batchOutcome, batchOutcomeOf, batchOf};
 ghost use Rattle.bench.specs.Chains.{Chained};
-ghost use Rattle.bench.specs.Effects.{queueingNumber, queueingEffect, receptionSays, receptionEffect, updatingNumber, updatingEffect, eventResult, appliedTo, EffectFits, LinkFits, HasRecord};
-ghost use Rattle.agreement.specs.Record.{freshRecord, answerNumbers};
+ghost use Rattle.bench.specs.Effects.{queueChangeNumber, queueChangeEffect, receptionSays, receptionEffect, updatingNumber, updatingEffect, eventResult, appliedTo, CanApply, LinkFits, HasRecord};
+ghost use Rattle.agreement.specs.Record.{freshRecord};
 ghost use Rattle.agreement.specs.declared.EndRecord.{EndRecord};
 ghost use Rattle.bench.specs.declared.Bench.{Bench};
 ghost use Rattle.bench.specs.Steps.{Tables, ReportsTo, Leaves};
@@ -56,27 +55,6 @@ pub fn refusal_in(how: Disposition) -> u8
         Disposition::Complete => 0,
         Disposition::Refused(number) => number,
         Disposition::Full => 0,
-    }
-}
-
-// Three numbers, at the head of those that are lent.
-pub(crate) fn put_three(answers: &mut [u32], a: u32, b: u32, c: u32)
-    requires { ⌜ 3 ≤ length (now answers) ⌝ }
-    ensures { λ r. ⌜ now (answers .exit) ≡ sets (now (answers .entry)) 0 (a ∷ b ∷ c ∷ []) ⌝ }
-{
-    answers[0] = a;
-    answers[1] = b;
-    answers[2] = c;
-}
-
-fn put_answer(answers: &mut [u32], answer: Answer)
-    requires { ⌜ 3 ≤ length (now answers) ⌝ }
-    ensures { λ r. ⌜ now (answers .exit) ≡ sets (now (answers .entry)) 0 (answerNumbers answer) ⌝ }
-{
-    match answer {
-        Answer::Stale => put_three(answers, 0, 0, 0),
-        Answer::Agreed(number, view) => put_three(answers, 1, number as u32, view as u32),
-        Answer::Noted(number, view) => put_three(answers, 2, number as u32, view as u32),
     }
 }
 
@@ -100,12 +78,12 @@ fn event_result(number: u8, answered: usize, effect: Effect) -> EventResult
     }
 }
 
-fn queue_result(queue: Queueing) -> EventResult
-    ensures { λ r. ⌜ r ≡ eventResult (queueingNumber queue) 0 (queueingEffect queue) ⌝ }
+fn queue_result(queue: QueueChange) -> EventResult
+    ensures { λ r. ⌜ r ≡ eventResult (queueChangeNumber queue) 0 (queueChangeEffect queue) ⌝ }
 {
     match queue {
-        Queueing::Refused(number) => event_result(number, 0, Effect::Same),
-        Queueing::Length(count) => event_result(0, 0, Effect::Flight(count)),
+        QueueChange::Refused(number) => event_result(number, 0, Effect::Same),
+        QueueChange::Length(count) => event_result(0, 0, Effect::Messages(count)),
     }
 }
 
@@ -127,7 +105,7 @@ fn answer_delivery(reception: Reception, count: usize, answers: &mut [u32]) -> E
     match reception {
         Reception::Refused(number) => event_result(number, 3, Effect::Same),
         Reception::Accepted(answer, end, after) => {
-            put_answer(answers, answer);
+            encoding::put_answer(answer, answers);
             event_result(0, 3, Effect::Received(end, after, count))
         }
     }
@@ -139,11 +117,11 @@ fn answer_path(way: Way, answers: &mut [u32]) -> EventResult
 {
     match way {
         Way::Delivered(hops) => {
-            put_three(answers, 0, 0, hops as u32);
+            encoding::put_three(0, 0, hops as u32, answers);
             event_result(0, 3, Effect::Same)
         }
         Way::Stops(last, hops) => {
-            put_three(answers, 1, last as u32, hops as u32);
+            encoding::put_three(1, last as u32, hops as u32, answers);
             event_result(0, 3, Effect::Same)
         }
         Way::Refused(number) => event_result(number, 3, Effect::Same),
@@ -251,7 +229,7 @@ fn carry_out(
     requires { ⌜ deliveryReady (state bench (now costs) (now sent) (now held) (now flight)) ≡ true ⌝ }
     requires { ⌜ (bench .bridges ≤ 16) × Tables bench (now costs) (now tables) (now known) × Chained (bench .links) (bench .ends) (now chain) × HasRecord event bench (now flight) old ⌝ }
     ensures { λ r. ⌜ Leaves (eventBatchIn (length (now (answers .entry))) (state bench (now (costs .entry)) (now (sent .entry)) (now (held .entry)) (now (flight .entry))) event) (now (answers .entry)) (r .made) (r .disposition) (appliedTo (r .effect) (state bench (now (costs .entry)) (now (sent .exit)) (now (held .exit)) (now (flight .exit)))) (r .answered) (now (answers .exit)) ⌝ }
-    ensures { λ r. ⌜ EffectFits (r .effect) bench (now (known .exit)) × Tables bench (now (costs .entry)) (now (tables .exit)) (now (known .exit)) ⌝ }
+    ensures { λ r. ⌜ CanApply (r .effect) bench (now (known .exit)) × Tables bench (now (costs .entry)) (now (tables .exit)) (now (known .exit)) ⌝ }
 {
     let size = answer_size(bench.bridges as u8, event);
     if answers.len() < size {
@@ -351,7 +329,7 @@ fn run_in_range(
         going = done.made == 1;
         match effect {
             Effect::Same => {}
-            Effect::Flight(left) => {
+            Effect::Messages(left) => {
                 current.messages = left;
             }
             Effect::Cut(link, so) => {

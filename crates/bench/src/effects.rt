@@ -7,14 +7,14 @@ use agreement::EndRecord;
 // a bridge goes to a view.
 pub(crate) enum Effect {
     Same,
-    Flight(usize),
+    Messages(usize),
     Cut(usize, bool),
     Received(usize, EndRecord, usize),
     Moves(usize, usize),
 }
 
 // A send or a loss: how many messages are then in flight.
-pub(crate) enum Queueing {
+pub(crate) enum QueueChange {
     Refused(u8),
     Length(usize),
 }

@@ -82,7 +82,7 @@ pub struct Changed {
     pub bench: Bench,
 }
 
-pub struct Delivered {
+pub struct DeliveryResult {
     pub reply: Reaction,
     pub bench: Bench,
 }

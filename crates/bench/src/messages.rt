@@ -1,12 +1,12 @@
 // The calls on messages in flight: send, lose, deliver, repeat.
 use crate::Bench;
 use crate::Changed;
-use crate::Delivered;
+use crate::DeliveryResult;
 use crate::Reaction;
 use crate::Reply;
 use crate::deliveries::arrival_state;
 use crate::deliveries::receive_at;
-use crate::effects::Queueing;
+use crate::effects::QueueChange;
 use crate::effects::Reception;
 use crate::queue;
 use crate::ready;
@@ -22,9 +22,9 @@ ghost use mathlib.Core.Bool.{true, _&&_};
 ghost use Rattle.bench.specs.Changes.{number, NoZero, benchOutcome};
 ghost use Rattle.bench.specs.State.{state};
 ghost use Rattle.bench.specs.Ranges.{benchInRange, messagesInRange};
-ghost use Rattle.bench.specs.Flights.{queueOutcome, sendOf, loseOf};
+ghost use Rattle.bench.specs.Queue.{queueOutcome, sendOf, loseOf};
 ghost use Rattle.bench.specs.Deliveries.{reactionSays, deliveryOutcome, deliveryReady, deliverOf, repeatOf};
-ghost use Rattle.bench.specs.Effects.{queueingNumber, queueingBench, QueueingFits, receptionSays, receptionBench, ReceptionFits, HasRecord};
+ghost use Rattle.bench.specs.Effects.{queueChangeNumber, queueChangeBench, QueueChangeFits, receptionSays, receptionBench, ReceptionFits, HasRecord};
 ghost use Rattle.bench.specs.declared.Event.the-variants.{Send, Deliver, Repeat};
 ghost use Rattle.bench.specs.Steps.{Tables};
 
@@ -52,13 +52,13 @@ pub fn send(bench: Bench, messages: &mut [u32], bridge: usize, link: usize) -> C
 }
 
 // The bench with so many messages in flight, or as it was.
-fn queued(bench: Bench, queue: Queueing) -> Changed
-    requires { ⌜ QueueingFits queue ⌝ }
-    ensures { λ r. ⌜ (benchOutcome (number (r .reply)) (r .bench) ≡ benchOutcome (queueingNumber queue) (queueingBench queue bench)) × NoZero (r .reply) ⌝ }
+fn queued(bench: Bench, queue: QueueChange) -> Changed
+    requires { ⌜ QueueChangeFits queue ⌝ }
+    ensures { λ r. ⌜ (benchOutcome (number (r .reply)) (r .bench) ≡ benchOutcome (queueChangeNumber queue) (queueChangeBench queue bench)) × NoZero (r .reply) ⌝ }
 {
     match queue {
-        Queueing::Refused(number) => refused(number, bench),
-        Queueing::Length(count) => Changed {
+        QueueChange::Refused(number) => refused(number, bench),
+        QueueChange::Length(count) => Changed {
             reply: Reply::Done,
             bench: queue::with_count(bench, count),
         },
@@ -72,10 +72,10 @@ pub(crate) fn send_ready(
     messages: &mut [u32],
     bridge: usize,
     link: usize,
-) -> Queueing
+) -> QueueChange
     requires { ⌜ (benchInRange bench && messagesInRange bench (now messages)) ≡ true ⌝ }
     requires { ⌜ HasRecord (Send bridge link) bench (now messages) old ⌝ }
-    ensures { λ r. ⌜ (queueOutcome (queueingNumber r) (queueingBench r bench) (now (messages .exit)) ≡ sendOf bench (now (messages .entry)) bridge link) × QueueingFits r × ((benchInRange (queueingBench r bench) && messagesInRange (queueingBench r bench) (now (messages .exit))) ≡ true) ⌝ }
+    ensures { λ r. ⌜ (queueOutcome (queueChangeNumber r) (queueChangeBench r bench) (now (messages .exit)) ≡ sendOf bench (now (messages .entry)) bridge link) × QueueChangeFits r × ((benchInRange (queueChangeBench r bench) && messagesInRange (queueChangeBench r bench) (now (messages .exit))) ≡ true) ⌝ }
 {
     let ends = bench.ends;
     let cut = bench.cut;
@@ -90,7 +90,7 @@ pub(crate) fn send_ready(
         link,
     );
     if refusal != 0 {
-        return Queueing::Refused(refusal);
+        return QueueChange::Refused(refusal);
     }
     let view = bench.view;
     let number = bench.number;
@@ -100,7 +100,7 @@ pub(crate) fn send_ready(
         number[bridge],
         old,
     ) else {
-        return Queueing::Refused(17);
+        return QueueChange::Refused(17);
     };
     let end = queue::end_of(&ends, bridge, link);
     queue::put(
@@ -112,7 +112,7 @@ pub(crate) fn send_ready(
         carried.number as u32,
         carried.discarded as u32,
     );
-    Queueing::Length(count + 1)
+    QueueChange::Length(count + 1)
 }
 
 // Takes a message out; later ones move up by one.
@@ -126,17 +126,17 @@ pub fn lose(bench: Bench, messages: &mut [u32], place: usize) -> Changed
 }
 
 // `lose` of what is in range.
-pub(crate) fn lose_ready(bench: Bench, messages: &mut [u32], place: usize) -> Queueing
+pub(crate) fn lose_ready(bench: Bench, messages: &mut [u32], place: usize) -> QueueChange
     requires { ⌜ (benchInRange bench && messagesInRange bench (now messages)) ≡ true ⌝ }
-    ensures { λ r. ⌜ (queueOutcome (queueingNumber r) (queueingBench r bench) (now (messages .exit)) ≡ loseOf bench (now (messages .entry)) place) × QueueingFits r ⌝ }
+    ensures { λ r. ⌜ (queueOutcome (queueChangeNumber r) (queueChangeBench r bench) (now (messages .exit)) ≡ loseOf bench (now (messages .entry)) place) × QueueChangeFits r ⌝ }
 {
     let count = bench.messages;
     let refusal = refusals::lose_refusal(count, place);
     if refusal != 0 {
-        return Queueing::Refused(refusal);
+        return QueueChange::Refused(refusal);
     }
     queue::take_out(messages, count, place);
-    Queueing::Length(count - 1)
+    QueueChange::Length(count - 1)
 }
 
 // One message less, if there is one.
@@ -147,7 +147,7 @@ pub(crate) fn taken_count(count: usize) -> usize
 }
 
 // The bench with the end's record and so many messages in flight, or as it was.
-fn taken(bench: Bench, reception: Reception, count: usize) -> Delivered
+fn taken(bench: Bench, reception: Reception, count: usize) -> DeliveryResult
     requires { ⌜ ReceptionFits reception ⌝ }
     ensures { λ r. ⌜ (reactionSays (r .reply) ≡ receptionSays reception) × (r .bench ≡ receptionBench reception bench count) ⌝ }
 {
@@ -157,7 +157,7 @@ fn taken(bench: Bench, reception: Reception, count: usize) -> Delivered
             let mut next = bench;
             next.records[end] = after;
             next.messages = count;
-            Delivered {
+            DeliveryResult {
                 reply: Reaction::Answered(answer),
                 bench: next,
             }
@@ -173,7 +173,7 @@ pub fn deliver(
     held: &mut [u32],
     messages: &mut [u32],
     place: usize,
-) -> Delivered
+) -> DeliveryResult
     ensures { λ r. ⌜ deliveryOutcome (reactionSays (r .reply)) (r .bench) (now (sent .exit)) (now (held .exit)) (now (messages .exit)) ≡ deliverOf (state bench (now (costs .entry)) (now (sent .entry)) (now (held .entry)) (now (messages .entry))) place ⌝ }
 {
     let in_range = ready::delivery_in_range(bench, costs, sent.len(), held.len(), messages);
@@ -251,7 +251,7 @@ pub fn repeat(
     held: &mut [u32],
     messages: &[u32],
     place: usize,
-) -> Delivered
+) -> DeliveryResult
     ensures { λ r. ⌜ deliveryOutcome (reactionSays (r .reply)) (r .bench) (now (sent .exit)) (now (held .exit)) (now (messages .entry)) ≡ repeatOf (state bench (now (costs .entry)) (now (sent .entry)) (now (held .entry)) (now (messages .entry))) place ⌝ }
 {
     let in_range = ready::delivery_in_range(bench, costs, sent.len(), held.len(), messages);

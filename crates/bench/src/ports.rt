@@ -11,7 +11,6 @@ use agreement::choices::first_choice;
 use agreement::choices::next_choice;
 use agreement::choices::port_by;
 use agreement::ready::opposite_end;
-use distances::sizes::NONE;
 use distances::sizes::TABLE;
 ghost use mathlib.Core.Path.{_≡_};
 ghost use mathlib.Core.List.{List, []};
@@ -25,9 +24,10 @@ ghost use Rattle.distances.specs.View.{graphOf, maxCost};
 ghost use Rattle.bench.specs.State.{state};
 ghost use Rattle.protocol.specs.Ports.{across};
 ghost use Rattle.protocol.specs.Paths.{onward, delivered, stops};
-ghost use Rattle.bench.specs.Answers.{portIn, linkNumber, reported, hopIn, waySays};
+ghost use Rattle.bench.specs.Answers.{portIn, reported, hopIn, waySays};
 ghost use Rattle.bench.specs.Chains.{Chained};
 ghost use Rattle.bench.specs.Steps.{PortsReady, IsFilled, AllFilled, Tables, AreChoices, hopSays};
+ghost use Rattle.encoding.specs.Numbers.{linkNumber};
 
 // The choice with one end more.
 fn choice_with(
@@ -99,7 +99,7 @@ fn port_at(
 }
 
 // The port of a bridge in its own view.
-pub(crate) fn port_of(
+pub(crate) fn port_in(
     bench: Bench,
     costs: &[u32],
     tables: &mut [u32],
@@ -127,15 +127,6 @@ pub(crate) fn port_of(
         known,
     );
     port_at(bench, costs, tables, chain, sent, held, bridge, dest)
-}
-
-fn link_number(port: Port) -> u32
-    ensures { λ r. ⌜ r ≡ linkNumber port ⌝ }
-{
-    match port {
-        Port::Closed => NONE,
-        Port::Open(link) => link as u32,
-    }
 }
 
 // The choice of each bridge before any end.
@@ -194,7 +185,7 @@ fn report_row(rows: &mut [u32], bridge: usize, choice: Choice)
     ensures { λ r. ⌜ now (rows .exit) ≡ set (set (now (rows .entry)) (2 * bridge) (choice .distance)) (2 * bridge + 1) (linkNumber (portBy choice)) ⌝ }
 {
     rows[2 * bridge] = choice.distance;
-    rows[2 * bridge + 1] = link_number(found_port(choice));
+    rows[2 * bridge + 1] = encoding::link_number(found_port(choice));
 }
 
 pub(crate) fn report_rows(
@@ -248,7 +239,7 @@ fn hop_at(
     ensures { λ r. ⌜ hopSays r ≡ hopIn (state bench (now (costs .entry)) (now (sent .entry)) (now (held .entry)) []) dest bridge ⌝ }
     ensures { λ r. ⌜ Tables bench (now (costs .entry)) (now (tables .exit)) (now (known .exit)) ⌝ }
 {
-    let port = port_of(bench, costs, tables, known, chain, sent, held, bridge, dest);
+    let port = port_in(bench, costs, tables, known, chain, sent, held, bridge, dest);
     let ends = bench.ends;
     match port {
         Port::Closed => Hop::Stays,

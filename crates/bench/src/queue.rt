@@ -9,7 +9,7 @@ ghost use lib.Seq.{sets};
 ghost use Rattle.distances.specs.View.{graphOf};
 ghost use Rattle.protocol.specs.Calls.{endOf};
 ghost use Rattle.bench.specs.Deliveries.{arrivalEnd};
-ghost use Rattle.bench.specs.Flights.{withCount, takenOut};
+ghost use Rattle.bench.specs.Queue.{withCount, takenOut};
 ghost use Rattle.bench.specs.Effects.{LinkFits};
 
 // A message's five numbers, at place `place`.

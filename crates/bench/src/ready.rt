@@ -5,6 +5,7 @@ use crate::sizes::MESSAGES;
 use crate::sizes::MOST_MESSAGES;
 use agreement::sizes::LIMITS;
 use distances::ready::both;
+use distances::sizes::MOST_VIEWS;
 ghost use mathlib.Core.Path.{_≡_};
 ghost use mathlib.Core.Bool.{_&&_};
 ghost use Prim.Native.Nat.{_≤_};
@@ -19,7 +20,7 @@ pub(crate) fn graph_in_range(bench: Bench) -> bool
 {
     let ends = bench.ends;
     let listed = distances::ready::graph_passes(bench.bridges, bench.links, &ends);
-    both(1 <= bench.views, both(bench.views <= 32, listed))
+    both(1 <= bench.views, both(bench.views <= MOST_VIEWS, listed))
 }
 
 fn views_in_range(bench: Bench) -> bool

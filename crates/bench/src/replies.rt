@@ -1,7 +1,7 @@
 // Refused replies: the bench as it was.
 use crate::Bench;
 use crate::Changed;
-use crate::Delivered;
+use crate::DeliveryResult;
 use crate::Reaction;
 use crate::Reply;
 ghost use mathlib.Core.Path.{_≡_};
@@ -19,10 +19,10 @@ pub(crate) fn refused(by: u8, bench: Bench) -> Changed
     }
 }
 
-pub(crate) fn refused_delivery(by: u8, bench: Bench) -> Delivered
+pub(crate) fn refused_delivery(by: u8, bench: Bench) -> DeliveryResult
     ensures { λ r. ⌜ (reactionSays (r .reply) ≡ refusedBy by) × (r .bench ≡ bench) ⌝ }
 {
-    Delivered {
+    DeliveryResult {
         reply: Reaction::Refused(by),
         bench,
     }

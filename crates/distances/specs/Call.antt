@@ -4,7 +4,7 @@ use mathlib.Core.Bool.{Bool, true, cond, _&&_, not}
 use mathlib.Core.List.{List, [], _∷_}
 use lib.ListN.{length, getD}
 use lib.Dec.{leb, ltb, eqb}
-use Rattle.distances.specs.View.{graphOf, costsOf, maxCost}
+use Rattle.distances.specs.View.{graphOf, costsOf, maxCost, tableNumbers}
 use Rattle.distances.specs.Distance.{dist}
 use Rattle.distances.specs.Table.{withPairs}
 use Rattle.distances.specs.declared.Reply.{Reply}
@@ -49,7 +49,7 @@ costsPass links costs = leb links (length costs) && allBelow links (λ l. leb (g
 
 -- document 01's ranges and the lengths that the call needs, the table's being `size`
 unfoldable pub inRange : ℕ → ℕ → List ℕ → List ℕ → ℕ → Bool
-inRange bridges links ends costs size = graphPasses bridges links ends && (costsPass links costs && leb 256 size)
+inRange bridges links ends costs size = graphPasses bridges links ends && (costsPass links costs && leb tableNumbers size)
 
 -- the reply's number, and the table afterwards
 pub record Outcome : Type 0 where

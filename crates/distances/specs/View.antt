@@ -12,6 +12,10 @@ NONE = 4294967295
 abbrev pub maxCost : ℕ
 maxCost = 16777215
 
+-- a view's distances: 16 rows of 16
+abbrev pub tableNumbers : ℕ
+tableNumbers = 256
+
 -- the greatest distance, 15 × 16,777,215
 abbrev pub maxDistance : ℕ
 maxDistance = 251658225

@@ -1,6 +1,8 @@
 // The call's entry check: document 01's ranges, and lent buffers that are long enough. Ends and costs are tested in loops of their own,
 // each over numbers of one width, which the compiler makes vector code of.
 use crate::sizes::MAX_COST;
+use crate::sizes::MOST_BRIDGES;
+use crate::sizes::MOST_LINKS;
 use crate::sizes::TABLE;
 ghost use mathlib.Core.Path.{_≡_};
 ghost use mathlib.Core.Bool.{_&&_, not};
@@ -58,10 +60,10 @@ pub fn graph_passes(bridges: usize, links: usize, ends: &[u8]) -> bool
     if bridges < 2 {
         return false;
     }
-    if 16 < bridges {
+    if MOST_BRIDGES < bridges {
         return false;
     }
-    if 32 < links {
+    if MOST_LINKS < links {
         return false;
     }
     if ends.len() < 2 * links {

@@ -9,19 +9,19 @@ use lib.Dec.{leb}
 use Rattle.agreement.specs.Record.{answerNumbers}
 use Rattle.agreement.specs.Call.{Response, Outcome, ViewData, offerOutcome, freshOutcome, updateOutcome, carryOutcome, deliverOutcome, portOutcome}
 use Rattle.agreement.specs.declared.Answer.{Answer}
-use Rattle.numbers.specs.Numbers.{
+use Rattle.encoding.specs.Numbers.{
   recordAt,
-  messageIn,
+  agreementIn,
   recordsIn,
   flagsIn,
   holdsRecord,
-  holdsMessage,
+  holdsAgreement,
   holdsRecords,
   recordNumbers,
-  messageNumbers,
+  agreementNumbers,
   portNumbers,
 }
-use Rattle.numbers.specs.Outcome.{CallOutcome, callOutcome, withValue, valueReply, withNumbers, ifLong}
+use Rattle.encoding.specs.Replies.{CallOutcome, callOutcome, withValue, valueReply, withNumbers, ifLong}
 
 abbrev pub endReply : List ℕ → Outcome ℕ → CallOutcome
 endReply fields o = callOutcome (o .reply) (withNumbers (o .reply) fields (recordNumbers (o .end)) ∷ o .sent ∷ o .held ∷ [])
@@ -55,14 +55,14 @@ carryReply views t n fields out =
     ifLong
     (holdsRecord fields && leb 3 (length out))
     (out ∷ [])
-    (valueReply messageNumbers out (carryOutcome views t n (recordAt fields 0)))
+    (valueReply agreementNumbers out (carryOutcome views t n (recordAt fields 0)))
 
 unfoldable pub deliverReply : ViewData → ℕ → ℕ → ℕ → ℕ → List ℕ → List ℕ → List ℕ → List ℕ → List ℕ → CallOutcome
 deliverReply v views t n e fields message sent held out =
     ifLong
-    (holdsRecord fields && (holdsMessage message && leb 3 (length out)))
+    (holdsRecord fields && (holdsAgreement message && leb 3 (length out)))
     (fields ∷ out ∷ sent ∷ held ∷ [])
-    (deliveryReply fields out (deliverOutcome v views t n e (recordAt fields 0) (messageIn message) sent held))
+    (deliveryReply fields out (deliverOutcome v views t n e (recordAt fields 0) (agreementIn message) sent held))
 
 unfoldable pub portReply : ViewData → ℕ → List ℕ → List ℕ → List ℕ → List ℕ → ℕ → ℕ → List ℕ → CallOutcome
 portReply v views cut records sent held y d out =

@@ -10,7 +10,7 @@ use agreement::calls;
 ghost use mathlib.Core.Path.{_≡_};
 ghost use mathlib.Core.List.{[], _∷_};
 ghost use Rattle.agreement.specs.Call.{viewData};
-ghost use Rattle.numbers.specs.Outcome.{callOutcome};
+ghost use Rattle.encoding.specs.Replies.{callOutcome};
 ghost use Rattle.exports_bridge.specs.Call.{offerReply, freshReply, updateReply, carryReply, deliverReply, portReply};
 
 // `agreement::calls::offer_over`: the offer goes to out[0].
@@ -63,7 +63,7 @@ pub extern "C" fn bench_start_end(
     match reply {
         Reply::Refused => 17,
         Reply::Done => {
-            numbers::put_record(changed.end, fields);
+            encoding::put_record(changed.end, fields);
             0
         }
     }
@@ -86,10 +86,10 @@ pub extern "C" fn bench_update_end(
 ) -> u8
     ensures { λ r. ⌜ callOutcome r (now (fields .exit) ∷ now (sent .exit) ∷ now (held .exit) ∷ []) ≡ updateReply (viewData bridges links (now (ends .entry)) (now (costs .entry)) (now (table .entry))) views view end (now (fields .entry)) (now (sent .entry)) (now (held .entry)) ⌝ }
 {
-    if !numbers::holds_record(fields) {
+    if !encoding::holds_record(fields) {
         return 17;
     }
-    let old = numbers::record_at(fields, 0);
+    let old = encoding::record_at(fields, 0);
     let changed = calls::update_end(
         bridges,
         links,
@@ -107,7 +107,7 @@ pub extern "C" fn bench_update_end(
     match reply {
         Reply::Refused => 17,
         Reply::Done => {
-            numbers::put_record(changed.end, fields);
+            encoding::put_record(changed.end, fields);
             0
         }
     }
@@ -124,18 +124,18 @@ pub extern "C" fn bench_carry(
 ) -> u8
     ensures { λ r. ⌜ callOutcome r (now (out .exit) ∷ []) ≡ carryReply views view number (now (fields .entry)) (now (out .entry)) ⌝ }
 {
-    if !numbers::holds_record(fields) {
+    if !encoding::holds_record(fields) {
         return 17;
     }
     if out.len() < 3 {
         return 17;
     }
-    let old = numbers::record_at(fields, 0);
+    let old = encoding::record_at(fields, 0);
     let carrying = calls::carry(views, view, number, old);
     match carrying {
         Carrying::Refused => 17,
         Carrying::Carries(message) => {
-            numbers::put_message(message, out);
+            encoding::put_agreement(message, out);
             0
         }
     }
@@ -161,17 +161,17 @@ pub extern "C" fn bench_deliver_end(
 ) -> u8
     ensures { λ r. ⌜ callOutcome r (now (fields .exit) ∷ now (out .exit) ∷ now (sent .exit) ∷ now (held .exit) ∷ []) ≡ deliverReply (viewData bridges links (now (ends .entry)) (now (costs .entry)) (now (table .entry))) views view number end (now (fields .entry)) (now (message .entry)) (now (sent .entry)) (now (held .entry)) (now (out .entry)) ⌝ }
 {
-    if !numbers::holds_record(fields) {
+    if !encoding::holds_record(fields) {
         return 17;
     }
-    if !numbers::holds_message(message) {
+    if !encoding::holds_agreement(message) {
         return 17;
     }
     if out.len() < 3 {
         return 17;
     }
-    let old = numbers::record_at(fields, 0);
-    let taken = numbers::message_in(message);
+    let old = encoding::record_at(fields, 0);
+    let taken = encoding::agreement_in(message);
     let received = calls::deliver_end(
         bridges,
         links,
@@ -191,8 +191,8 @@ pub extern "C" fn bench_deliver_end(
     match reply {
         Reaction::Refused => 17,
         Reaction::Answered(answer) => {
-            numbers::put_record(received.end, fields);
-            numbers::put_answer(answer, out);
+            encoding::put_record(received.end, fields);
+            encoding::put_answer(answer, out);
             0
         }
     }
@@ -221,14 +221,14 @@ pub extern "C" fn bench_port(
     if cut.len() < 32 {
         return 17;
     }
-    if !numbers::holds_records(records) {
+    if !encoding::holds_records(records) {
         return 17;
     }
     if out.len() < 1 {
         return 17;
     }
-    let flags = numbers::flags_in(cut);
-    let known = numbers::records_in(records);
+    let flags = encoding::flags_in(cut);
+    let known = encoding::records_in(records);
     let found = calls::port(
         bridges,
         links,
@@ -246,7 +246,7 @@ pub extern "C" fn bench_port(
     match found {
         Forwarding::Refused => 17,
         Forwarding::Found(port) => {
-            out[0] = numbers::port_number(port);
+            out[0] = encoding::link_number(port);
             0
         }
     }

@@ -14,11 +14,11 @@ use Rattle.bench.specs.declared.Bench.{Bench}
 use Rattle.protocol.specs.Paths as paths
 use Rattle.bench.specs.State.{State, state}
 use Rattle.bench.specs.Changes.{BenchOutcome, ChangeOutcome, freshOf, updateOf, cutOf, restoreOf}
-use Rattle.bench.specs.Flights.{QueueOutcome, sendOf, loseOf}
+use Rattle.bench.specs.Queue.{QueueOutcome, sendOf, loseOf}
 use Rattle.bench.specs.Deliveries.{DeliveryOutcome, deliverOf, repeatOf}
 use Rattle.bench.specs.Answers.{ReportOutcome, portOf, reportOf, pathOf}
-use Rattle.numbers.specs.Numbers.{isSet, listed, recordsIn, holdsRecords, recordNumbers, portNumbers}
-use Rattle.numbers.specs.Outcome.{CallOutcome, callOutcome, ifLong, withValue, valueReply}
+use Rattle.encoding.specs.Numbers.{isSet, tabulated, recordsIn, holdsRecords, recordNumbers, portNumbers}
+use Rattle.encoding.specs.Replies.{CallOutcome, callOutcome, ifLong, withValue, valueReply}
 
 -- ---- a bench in 388 numbers: four counts, 64 ends, 16 views, 16 agreement numbers, four for each of 64 records, 32 cut flags
 
@@ -27,7 +27,7 @@ benchNumbers = 388
 
 -- f of each of the n numbers from place k on
 abbrev pub each : {A : Type 0} → ℕ → ℕ → (ℕ → A) → List ℕ → List A
-each n k f xs = listed n (λ i. f (getD xs (k + i) 0))
+each n k f xs = tabulated n (λ i. f (getD xs (k + i) 0))
 
 unfoldable pub benchIn : List ℕ → Bench
 benchIn xs =

@@ -5,7 +5,7 @@ use mathlib.Core.Bool.{Bool}
 use mathlib.Core.List.{List, [], _∷_, _++_}
 use lib.ListN.{length, take, drop}
 use lib.Dec.{leb}
-use Rattle.numbers.specs.Outcome.{CallOutcome, callOutcome, ifLong}
+use Rattle.encoding.specs.Replies.{CallOutcome, callOutcome, ifLong}
 use Rattle.exports_network.specs.Network.{netSendReply, netLoseReply, netDeliverReply, netRepeatReply}
 use Rattle.bench.specs.Sizes.{flightNumbers}
 

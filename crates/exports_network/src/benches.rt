@@ -7,7 +7,7 @@ use distances::ready::both;
 ghost use mathlib.Core.Path.{_≡_};
 ghost use Prim.Native.Nat.{_+_, _%_, _≤_, _<_};
 ghost use lib.ListN.{length, getD};
-ghost use Rattle.numbers.specs.Numbers.{isSet, recordNumbers};
+ghost use Rattle.encoding.specs.Numbers.{isSet, recordNumbers};
 ghost use Rattle.exports_network.specs.Network.{each, eachBelow, holdsBench, low, benchIn, countAt, numberAt, stored};
 
 // The numbers of a bench: four counts, 64 ends, 16 views, 16 agreement numbers, four for each of 64 records, 32 cut flags.
@@ -72,7 +72,7 @@ pub(crate) fn load(numbers: &[u32]) -> Bench
     let ends = ends_in(numbers);
     let view = views_in(numbers);
     let number = agreement_numbers_in(numbers);
-    let records = numbers::records_in(&numbers[100..356]);
+    let records = encoding::records_in(&numbers[100..356]);
     let cut = cuts_in(numbers);
     Bench {
         bridges: numbers[0] as usize,
@@ -109,7 +109,7 @@ pub(crate) fn holds(numbers: &[u32]) -> bool
     }
     let narrow = each_below(numbers, 80, 4, 256);
     let wide = each_below(numbers, 16, 84, 65536);
-    let records = numbers::holds_records(&numbers[100..356]);
+    let records = encoding::holds_records(&numbers[100..356]);
     both(narrow, both(wide, records))
 }
 
@@ -147,7 +147,7 @@ fn field_of(end: EndRecord, k: usize) -> u32
     if k == 2 {
         return end.discarded as u32;
     }
-    numbers::flag_number(end.holding)
+    encoding::flag_number(end.holding)
 }
 
 // The number at place k of a bench.
@@ -170,7 +170,7 @@ fn number_at(bench: Bench, k: usize) -> u32
     if k < 356 {
         return field_of(bench.records[(k - 100) / 4], k % 4);
     }
-    numbers::flag_number(bench.cut[k - 356])
+    encoding::flag_number(bench.cut[k - 356])
 }
 
 pub(crate) fn store(bench: Bench, numbers: &mut [u32])

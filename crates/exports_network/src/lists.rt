@@ -2,7 +2,7 @@
 use crate::benches;
 use bench::BatchResult;
 use bench::batches::refusal_in;
-use numbers::put_three;
+use encoding::put_three;
 use plan::sizes::EVENT_ENDS;
 ghost use mathlib.Core.Path.{_≡_};
 ghost use mathlib.Core.List.{[], _∷_};
@@ -10,13 +10,13 @@ ghost use Prim.Native.Nat.{_≤_};
 ghost use lib.ListN.{length};
 ghost use lib.Seq.{sets};
 ghost use Rattle.bench.specs.Batches.{refusalIn};
-ghost use Rattle.numbers.specs.Outcome.{callOutcome};
-ghost use Rattle.exports_network.specs.Lists.{withMade, countsOf, netRunReply};
+ghost use Rattle.encoding.specs.Replies.{callOutcome};
+ghost use Rattle.exports_network.specs.Lists.{storedIfMade, countsOf, netRunReply};
 
 // The new bench goes to `numbers` where an event was made, and the counts to `out`.
 fn settle_list(batch: BatchResult, used: usize, numbers: &mut [u32], out: &mut [u32]) -> u8
     requires { ⌜ (388 ≤ length (now numbers)) × (3 ≤ length (now out)) ⌝ }
-    ensures { λ r. ⌜ (r ≡ refusalIn (batch .disposition)) × (now (numbers .exit) ≡ withMade (batch .made) (batch .bench) (now (numbers .entry))) × (now (out .exit) ≡ sets (now (out .entry)) 0 (countsOf (batch .made) used (batch .answered))) ⌝ }
+    ensures { λ r. ⌜ (r ≡ refusalIn (batch .disposition)) × (now (numbers .exit) ≡ storedIfMade (batch .made) (batch .bench) (now (numbers .entry))) × (now (out .exit) ≡ sets (now (out .entry)) 0 (countsOf (batch .made) used (batch .answered))) ⌝ }
 {
     let how = batch.disposition;
     let bench = batch.bench;

@@ -2,7 +2,7 @@
 // a refused call changes nothing. A list that does not hold a bench, or is too short for the answer, is refused with 17.
 use crate::benches;
 use bench::Changed;
-use bench::Delivered;
+use bench::DeliveryResult;
 use bench::Forwarding;
 use bench::Reaction;
 use bench::Reply;
@@ -16,7 +16,7 @@ ghost use lib.ListN.{length};
 ghost use Rattle.bench.specs.Changes.{number};
 ghost use Rattle.bench.specs.Deliveries.{reactionSays};
 ghost use Rattle.agreement.specs.Record.{answerNumbers};
-ghost use Rattle.numbers.specs.Outcome.{callOutcome, withValue};
+ghost use Rattle.encoding.specs.Replies.{callOutcome, withValue};
 ghost use Rattle.exports_network.specs.Network.{withBench, withAnswered, netFreshReply, netUpdateReply, netCutReply, netRestoreReply, netSendReply, netLoseReply, netDeliverReply, netRepeatReply, netPortReply, netReportReply, netPathReply};
 
 fn number_of(reply: Reply) -> u8
@@ -42,7 +42,7 @@ pub(crate) fn settle(changed: Changed, numbers: &mut [u32]) -> u8
 }
 
 // The answer goes to `out` too.
-pub(crate) fn settle_delivery(delivered: Delivered, numbers: &mut [u32], out: &mut [u32]) -> u8
+pub(crate) fn settle_delivery(delivered: DeliveryResult, numbers: &mut [u32], out: &mut [u32]) -> u8
     requires { ⌜ (388 ≤ length (now numbers)) × (3 ≤ length (now out)) ⌝ }
     ensures { λ r. ⌜ (r ≡ reactionSays (delivered .reply) .number) × (now (numbers .exit) ≡ withAnswered (reactionSays (delivered .reply) .value) (delivered .bench) (now (numbers .entry))) × (now (out .exit) ≡ withValue answerNumbers (now (out .entry)) (reactionSays (delivered .reply) .value)) ⌝ }
 {
@@ -51,7 +51,7 @@ pub(crate) fn settle_delivery(delivered: Delivered, numbers: &mut [u32], out: &m
         Reaction::Refused(by) => by,
         Reaction::Answered(answer) => {
             benches::store(delivered.bench, numbers);
-            numbers::put_answer(answer, out);
+            encoding::put_answer(answer, out);
             0
         }
     }
@@ -224,7 +224,7 @@ pub extern "C" fn bench_net_port(
     match found {
         Forwarding::Refused(by) => by,
         Forwarding::Found(port) => {
-            out[0] = numbers::port_number(port);
+            out[0] = encoding::link_number(port);
             0
         }
     }
@@ -274,11 +274,11 @@ pub extern "C" fn bench_net_path(
     match way {
         Way::Refused(by) => by,
         Way::Delivered(hops) => {
-            numbers::put_three(0, 0, benches::low_of(hops), out);
+            encoding::put_three(0, 0, benches::low_of(hops), out);
             0
         }
         Way::Stops(last, hops) => {
-            numbers::put_three(1, benches::low_of(last), benches::low_of(hops), out);
+            encoding::put_three(1, benches::low_of(last), benches::low_of(hops), out);
             0
         }
     }

@@ -8,7 +8,7 @@ ghost use mathlib.Core.Path.{_≡_};
 ghost use mathlib.Core.List.{[], _∷_, _++_};
 ghost use Prim.Native.Nat.{_≤_};
 ghost use lib.ListN.{length, take, drop};
-ghost use Rattle.numbers.specs.Outcome.{callOutcome};
+ghost use Rattle.encoding.specs.Replies.{callOutcome};
 ghost use Rattle.exports_network.specs.SliceCalls.{sliceSendReply, sliceLoseReply, sliceDeliverReply, sliceRepeatReply};
 
 // The first 320 numbers of one list go to another.
@@ -56,10 +56,10 @@ pub extern "C" fn bench_slice_send(
         return 17;
     }
     let old = benches::load(bench);
-    let flown = plain::send(old, array_of(messages), bridge, link);
-    let numbers = flown.numbers;
+    let sent = plain::send(old, array_of(messages), bridge, link);
+    let numbers = sent.numbers;
     put_array(numbers, messages);
-    let changed = flown.changed;
+    let changed = sent.changed;
     network::settle(changed, bench)
 }
 
@@ -75,10 +75,10 @@ pub extern "C" fn bench_slice_lose(bench: &mut [u32], messages: &mut [u32], plac
         return 17;
     }
     let old = benches::load(bench);
-    let flown = plain::lose(old, array_of(messages), place);
-    let numbers = flown.numbers;
+    let lost = plain::lose(old, array_of(messages), place);
+    let numbers = lost.numbers;
     put_array(numbers, messages);
-    let changed = flown.changed;
+    let changed = lost.changed;
     network::settle(changed, bench)
 }
 

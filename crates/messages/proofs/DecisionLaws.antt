@@ -9,7 +9,7 @@ use lib.Seq.{sets, length-sets, length-take-le, sets-eq, take-at, drop-at, take-
 use Rattle.agreement.specs.Call.{Response}
 use Rattle.agreement.specs.declared.Answer.{Answer}
 use Rattle.bench.specs.State.{State, state}
-use Rattle.bench.specs.Flights.{QueueOutcome, queueOutcome, sendOf, loseOf}
+use Rattle.bench.specs.Queue.{QueueOutcome, queueOutcome, sendOf, loseOf}
 use Rattle.bench.specs.Deliveries.{DeliveryOutcome, deliveryOutcome, deliverOf, repeatOf}
 use Rattle.bench.specs.Batches.{batchOutcome, batchOf}
 use Rattle.bench.specs.declared.Bench.{Bench}
@@ -17,7 +17,7 @@ use Rattle.bench.specs.declared.Disposition.{Disposition}
 use Rattle.bench.specs.declared.Event.{Event}
 use Rattle.messages.specs.Steps.{took, shifted}
 use Rattle.messages.proofs.Stores.{part-of-front}
-use Rattle.bench.proofs.FlightAnswers.{Put, Taken, send-left, send-put, lose-left, lose-taken, deliver-left, deliver-taken}
+use Rattle.bench.proofs.QueueAnswers.{Put, Taken, send-left, send-put, lose-left, lose-taken, deliver-left, deliver-taken}
 
 -- the numbers lent are as many as are read
 pub lent-length : (n r : ℕ) (ns : List ℕ) → r ≡ min n 64 → length ns ≡ 320 → 5 * r ≡ length (take (5 * r) ns)

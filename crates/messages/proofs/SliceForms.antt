@@ -6,7 +6,7 @@ use mathlib.Core.List.{List, [], _∷_, _++_}
 use lib.ListN.{length, take, drop, getD, take-append-drop}
 use Rattle.agreement.specs.Call.{Response}
 use Rattle.agreement.specs.declared.Answer.{Answer}
-use Rattle.bench.specs.Flights.{QueueOutcome, queueOutcome}
+use Rattle.bench.specs.Queue.{QueueOutcome, queueOutcome}
 use Rattle.bench.specs.Deliveries.{DeliveryOutcome, deliveryOutcome}
 use Rattle.bench.specs.declared.Bench.{Bench}
 use Rattle.messages.specs.declared.Message.{Message}

@@ -10,12 +10,12 @@ use Rattle.agreement.specs.declared.Answer.{Answer}
 use Rattle.protocol.specs.Net.{fresh}
 use Rattle.protocol.specs.Calls.{Call, send, deliver, repeat, lose, run}
 use Rattle.bench.specs.State.{state}
-use Rattle.bench.specs.Flights.{QueueOutcome, queueOutcome, sendOf, loseOf}
+use Rattle.bench.specs.Queue.{QueueOutcome, queueOutcome, sendOf, loseOf}
 use Rattle.bench.specs.Deliveries.{DeliveryOutcome, deliveryOutcome, deliverOf, repeatOf}
 use Rattle.bench.specs.Whole.{Represents, Answers, planIn, freshBy, runBy}
 use Rattle.bench.specs.declared.Bench.{Bench}
 use Rattle.bench.proofs.TieWhole.{whole-lists}
-use Rattle.bench.proofs.CallSteps.{withFlown, withDelivered, send-step, lose-step, deliver-step, repeat-step, run-none, run-next}
+use Rattle.bench.proofs.CallSteps.{withQueue, withDelivered, send-step, lose-step, deliver-step, repeat-step, run-none, run-next}
 use Rattle.messages.specs.declared.Message.{Message}
 use Rattle.messages.specs.Slices.{flight}
 use Rattle.messages.specs.SliceLists.{Kept, kept, numbered, Leads, Lead, WholeSlices}
@@ -47,11 +47,11 @@ module _ (s : Kept) (b : Bench) (ms : List Message) (past : drop 64 ms ≡ drop 
 
   pub send-leads : (reply y l : ℕ) → queueOutcome reply b (flight ms) ≡ sendOf (s .bench) (flight (s .messages)) y l → Leads s (send y l) after
   send-leads reply y l e =
-      record { numbers = ap (withFlown (numbered s)) e ∙ sym (send-step (numbered s) y l); rest = past }
+      record { numbers = ap (withQueue (numbered s)) e ∙ sym (send-step (numbered s) y l); rest = past }
 
   pub lose-leads : (reply p : ℕ) → queueOutcome reply b (flight ms) ≡ loseOf (s .bench) (flight (s .messages)) p → Leads s (lose p) after
   lose-leads reply p e =
-      record { numbers = ap (withFlown (numbered s)) e ∙ sym (lose-step (numbered s) p); rest = past }
+      record { numbers = ap (withQueue (numbered s)) e ∙ sym (lose-step (numbered s) p); rest = past }
 
   module _ (sent held : List ℕ) (reply : Response Answer) (p : ℕ) where
     abbrev taken : Kept

@@ -13,6 +13,7 @@ use Rattle.bench.specs.Whole.{Represents, Answers, planIn, freshBy, stepBy}
 use Rattle.bench.specs.declared.Bench.{Bench}
 use Rattle.messages.specs.declared.Message.{Message}
 use Rattle.messages.specs.Slices.{flight}
+use Rattle.bench.specs.Sizes.{mostMessages}
 
 -- what a caller keeps and lends: the bench's state, with a slice for the numbers of the messages
 pub record Kept : Type 0 where
@@ -33,7 +34,7 @@ numbered s = state (s .bench) (s .costs) (s .sent) (s .held) (flight (s .message
 -- a call takes what is kept from s to t: its numbers as the bench's outcome has them, and what lies past 64 messages as it was
 pub record Leads (s : Kept) (c : Call) (t : Kept) : Type 0 where
   pub numbers : numbered t ≡ stepBy (numbered s) c
-  pub rest : drop 64 (t .messages) ≡ drop 64 (s .messages)
+  pub rest : drop mostMessages (t .messages) ≡ drop mostMessages (s .messages)
 
 -- a call, and what holds of what it leaves
 pub record Next (s : Kept) (c : Call) (Later : Kept → Type 0) : Type 0 where
@@ -49,7 +50,7 @@ Lead s (c ∷ cs) t = Next s c (λ u. Lead u cs t)
 -- `fresh` over this slice was accepted: it leaves the messages alone
 pub record Starts (b : Bench) (costs sent held : List ℕ) (s : Kept) : Type 0 where
   pub accepted : freshOf b costs sent held .reply ≡ 0
-  pub room : 64 ≤ length (s .messages)
+  pub room : mostMessages ≤ length (s .messages)
   pub numbers : numbered s ≡ freshBy b costs sent held (flight (s .messages))
 
 -- demand 3: what it says of every list of calls, and that the network it speaks of is the one that stands in what is kept

@@ -4,10 +4,11 @@ use mathlib.Core.List.{List, [], _∷_}
 use lib.ListN.{take, drop, getD}
 use lib.Seq.{sets}
 use Rattle.messages.specs.declared.Message.{Message}
+use Rattle.bench.specs.Sizes.{mostMessages}
 
 -- of a list of numbers, those of the messages that a call reads of a slice of n
 abbrev pub took : ℕ → List ℕ → List ℕ
-took n l = take (5 * min n 64) l
+took n l = take (5 * min n mostMessages) l
 
 -- of the numbers of messages, those at places `at` up to `past` become those at the place after each
 abbrev pub shifted : ℕ → ℕ → List ℕ → List ℕ

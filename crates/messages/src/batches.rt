@@ -18,7 +18,7 @@ ghost use Rattle.messages.specs.Slices.{numbersIn, flight};
 ghost use Rattle.messages.specs.Steps.{took};
 
 // A list that was run, beside the messages that are then in flight.
-pub struct MessageBatchResult {
+pub struct BatchAndMessages {
     pub batch: BatchResult,
     pub messages: [Message; MOST_MESSAGES],
 }
@@ -90,12 +90,12 @@ pub fn run_by_value(
     events: [Event; MOST_EVENTS],
     count: usize,
     answers: &mut [u32],
-) -> MessageBatchResult
+) -> BatchAndMessages
     ensures { λ r. ⌜ batchOutcome (r .batch .made) (r .batch .answered) (r .batch .disposition) (state (r .batch .bench) (now (costs .entry)) (now (sent .exit)) (now (held .exit)) (numbersIn (r .messages))) (now (answers .exit)) ≡ batchOf (state bench (now (costs .entry)) (now (sent .entry)) (now (held .entry)) (numbersIn messages)) events count (now (answers .entry)) ⌝ }
 {
     let mut ms = messages;
     let batch = run(bench, costs, sent, held, &mut ms, events, count, answers);
-    MessageBatchResult {
+    BatchAndMessages {
         batch,
         messages: ms,
     }

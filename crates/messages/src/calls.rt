@@ -6,12 +6,12 @@ use crate::numbers::numbers_in;
 use crate::places;
 use bench::Bench;
 use bench::Changed;
-use bench::Delivered;
+use bench::DeliveryResult;
 ghost use mathlib.Core.Path.{_≡_};
 ghost use lib.ListN.{drop};
 ghost use Rattle.bench.specs.Changes.{number, NoZero};
 ghost use Rattle.bench.specs.State.{state};
-ghost use Rattle.bench.specs.Flights.{queueOutcome, sendOf, loseOf};
+ghost use Rattle.bench.specs.Queue.{queueOutcome, sendOf, loseOf};
 ghost use Rattle.bench.specs.Deliveries.{reactionSays, deliveryOutcome, deliverOf, repeatOf};
 ghost use Rattle.messages.specs.Slices.{flight};
 
@@ -45,7 +45,7 @@ pub fn deliver(
     held: &mut [u32],
     ms: &mut [Message],
     place: usize,
-) -> Delivered
+) -> DeliveryResult
     ensures { λ r. ⌜ deliveryOutcome (reactionSays (r .reply)) (r .bench) (now (sent .exit)) (now (held .exit)) (flight (now (ms .exit))) ≡ deliverOf (state bench (now (costs .entry)) (now (sent .entry)) (now (held .entry)) (flight (now (ms .entry)))) place ⌝ }
     ensures { λ _. ⌜ drop 64 (now (ms .exit)) ≡ drop 64 (now (ms .entry)) ⌝ }
 {
@@ -63,7 +63,7 @@ pub fn repeat(
     held: &mut [u32],
     ms: &[Message],
     place: usize,
-) -> Delivered
+) -> DeliveryResult
     ensures { λ r. ⌜ deliveryOutcome (reactionSays (r .reply)) (r .bench) (now (sent .exit)) (now (held .exit)) (flight (now (ms .entry))) ≡ repeatOf (state bench (now (costs .entry)) (now (sent .entry)) (now (held .entry)) (flight (now (ms .entry)))) place ⌝ }
 {
     let numbers = numbers_in(ms);

@@ -1,7 +1,7 @@
 // What a call decides, by the bench's call on the numbers; then which places of the slice change. None where it is refused.
 use bench::Bench;
 use bench::Changed;
-use bench::Delivered;
+use bench::DeliveryResult;
 use bench::sizes::MESSAGES;
 use bench::sizes::MOST_MESSAGES;
 ghost use mathlib.Core.Path.{_≡_};
@@ -10,7 +10,7 @@ ghost use lib.ListN.{length, take, drop};
 ghost use lib.Seq.{sets};
 ghost use Rattle.bench.specs.Changes.{number, NoZero};
 ghost use Rattle.bench.specs.State.{state};
-ghost use Rattle.bench.specs.Flights.{queueOutcome, sendOf, loseOf};
+ghost use Rattle.bench.specs.Queue.{queueOutcome, sendOf, loseOf};
 ghost use Rattle.bench.specs.Deliveries.{reactionSays, deliveryOutcome, deliverOf, repeatOf};
 ghost use Rattle.messages.specs.Steps.{took, shifted};
 
@@ -33,7 +33,7 @@ pub struct Decision {
 }
 
 pub struct Decided {
-    pub delivered: Delivered,
+    pub delivered: DeliveryResult,
     pub from: usize,
     pub past: usize,
 }
@@ -137,7 +137,7 @@ pub(crate) fn decide_repeat(
     numbers: [u32; MESSAGES],
     len: usize,
     place: usize,
-) -> Delivered
+) -> DeliveryResult
     ensures { λ r. ⌜ deliveryOutcome (reactionSays (r .reply)) (r .bench) (now (sent .exit)) (now (held .exit)) (took len numbers) ≡ repeatOf (state bench (now (costs .entry)) (now (sent .entry)) (now (held .entry)) (took len numbers)) place ⌝ }
 {
     let all = numbers;

@@ -6,13 +6,13 @@ use crate::copies::read_message;
 use crate::copies::write_numbers;
 use bench::Bench;
 use bench::Changed;
-use bench::Delivered;
+use bench::DeliveryResult;
 use bench::sizes::MESSAGES;
 use bench::sizes::MOST_MESSAGES;
 ghost use mathlib.Core.Path.{_≡_};
 ghost use Rattle.bench.specs.Changes.{number, NoZero};
 ghost use Rattle.bench.specs.State.{state};
-ghost use Rattle.bench.specs.Flights.{queueOutcome, sendOf, loseOf};
+ghost use Rattle.bench.specs.Queue.{queueOutcome, sendOf, loseOf};
 ghost use Rattle.bench.specs.Deliveries.{reactionSays, deliveryOutcome, deliverOf, repeatOf};
 ghost use Rattle.messages.specs.Slices.{numbersIn};
 
@@ -22,7 +22,7 @@ pub struct ChangedNumbers {
 }
 
 pub struct DeliveredNumbers {
-    pub delivered: Delivered,
+    pub delivered: DeliveryResult,
     pub numbers: [u32; MESSAGES],
 }
 
@@ -109,7 +109,7 @@ pub fn repeat(
     held: &mut [u32],
     numbers: [u32; MESSAGES],
     place: usize,
-) -> Delivered
+) -> DeliveryResult
     ensures { λ r. ⌜ deliveryOutcome (reactionSays (r .reply)) (r .bench) (now (sent .exit)) (now (held .exit)) numbers ≡ repeatOf (state bench (now (costs .entry)) (now (sent .entry)) (now (held .entry)) numbers) place ⌝ }
 {
     let ms = messages_in(numbers);

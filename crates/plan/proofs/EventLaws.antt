@@ -14,7 +14,7 @@ use Rattle.bench.specs.Batches.{answerSize}
 use Rattle.bench.specs.declared.Event.{Event}
 use Rattle.plan.specs.Sizes.{mostEvents}
 use Rattle.plan.specs.Reading.{progressInRange, readReply}
-use Rattle.plan.specs.Events.{Placed, placed, ifEvent, eventsAt, eventsOf, endsOf, mostListed, Listing, listing, eventsReply}
+use Rattle.plan.specs.Events.{Placed, placed, ifEvent, eventsAt, eventsOf, endsOf, mostRead, Listing, listing, eventsReply}
 use Rattle.plan.specs.Steps.{noEvent, nextOf, nextEvent}
 use Rattle.plan.specs.declared.Field.{Field}
 use Rattle.plan.specs.declared.Progress.{Progress}
@@ -202,11 +202,11 @@ take-events (suc k) (x ∷ xs) = ap (λ (l : List Event). x .event ∷ l) (take-
 -- ---- the reply's parts
 
 -- where there is room for all
-pub most-listed : (lent : ℕ) → mostEvents < lent → mostListed lent ≡ mostEvents
-most-listed lent h = rw (lt-leb lent mostEvents h)
+pub most-read : (lent : ℕ) → mostEvents < lent → mostRead lent ≡ mostEvents
+most-read lent h = rw (lt-leb lent mostEvents h)
 
 -- a list has no more than the most, and leaves room for its count
-pub listed-within : (lent : ℕ) → (mostListed lent ≤ mostEvents) × (mostListed lent ≤ lent - 1)
+pub listed-within : (lent : ℕ) → (mostRead lent ≤ mostEvents) × (mostRead lent ≤ lent - 1)
 listed-within lent = go (leb lent mostEvents) refl
   where
     go : (b : Bool) → leb lent mostEvents ≡ b → (cond b (lent - 1) mostEvents ≤ mostEvents) × (cond b (lent - 1) mostEvents ≤ lent - 1)
@@ -244,12 +244,12 @@ count-in xs (f ∷ fs) h = number-at xs (f ∷ fs) (omega arith) 0 (omega arith)
 pub listed :
     (rest : List ℕ) (p : Progress) (room : ℕ) (first : List ℕ) {events : List Event} {ends : List ℕ} →
     listing events ends ≡ eventsReply rest p room first →
-    InBuffers (eventsAt (mostListed (length first)) p room 0 rest) events ends
+    InBuffers (eventsAt (mostRead (length first)) p room 0 rest) events ends
 unfolding eventsReply
 listed rest p room first is =
-    let xs : List Placed = eventsAt (mostListed (length first)) p room 0 rest in
+    let xs : List Placed = eventsAt (mostRead (length first)) p room 0 rest in
     let within = listed-within (length first) in
-    let few = events-few (mostListed (length first)) p room 0 rest in
+    let few = events-few (mostRead (length first)) p room 0 rest in
     let same = ap (λ (l : Listing). l .ends) is in
     record {
       few = omega (arith, few, within .0);

@@ -13,7 +13,7 @@ use Rattle.bench.specs.declared.Event.{Event}
 use Rattle.bench.specs.declared.Event.the-variants.{Lose}
 use Rattle.plan.specs.Sizes.{mostEvents}
 use Rattle.plan.specs.Reading.{progressInRange}
-use Rattle.plan.specs.Events.{Placed, placed, eventsAt, eventsOf, endsOf, mostListed, listing, eventsReply}
+use Rattle.plan.specs.Events.{Placed, placed, eventsAt, eventsOf, endsOf, mostRead, listing, eventsReply}
 use Rattle.plan.specs.Steps.{nextEvent}
 use Rattle.plan.specs.declared.Progress.{Progress}
 use Rattle.plan.specs.declared.events.NextEvent.{NextEvent}
@@ -114,7 +114,7 @@ pub record Turned (all : List Placed) (rest : List ℕ) (p : Progress) (most : �
       (not (eqb (n .used) 0))
 
 -- where one more is listed, its end has room
-pub most-within : (lent most count : ℕ) → most ≡ mostListed lent → count < most → (most ≤ mostEvents) × (most < lent)
+pub most-within : (lent most count : ℕ) → most ≡ mostRead lent → count < most → (most ≤ mostEvents) × (most < lent)
 most-within lent most count limit more =
     let within = listed-within lent in
     (omega (arith, within .0), omega (arith, within .1))
@@ -129,7 +129,7 @@ module _
     (left at count : ℕ)
     (old : Underway all rest p most first ends events left at count true)
     (more : count < most)
-    (limit : most ≡ mostListed (length first))
+    (limit : most ≡ mostRead (length first))
     (n : NextEvent)
     (is : n ≡ nextEvent (drop at rest) p left) where
   within-most : (most ≤ mostEvents) × (most < length first)
@@ -223,7 +223,7 @@ with-count xs (f ∷ fs) (e ∷ es) long few is =
 pub ended :
     (rest : List ℕ) (p : Progress) (most room : ℕ) (first ends : List ℕ) (events : List Event) (left at count : ℕ) (going : Bool) →
     Underway (eventsAt most p room 0 rest) rest p most first ends events left at count going →
-    most ≡ mostListed (length first) →
+    most ≡ mostRead (length first) →
     (going ≡ true → most ≤ count) →
     listing events (set ends 0 count) ≡ eventsReply rest p room first
 unfolding eventsReply eventsAt

@@ -49,8 +49,8 @@ endsOf [] = []
 endsOf (x ∷ xs) = x .past ∷ endsOf xs
 
 -- how many a list has room for, with so many lent numbers: one for the count, one for each event
-abbrev pub mostListed : ℕ → ℕ
-mostListed lent = cond (leb lent mostEvents) (lent - 1) mostEvents
+abbrev pub mostRead : ℕ → ℕ
+mostRead lent = cond (leb lent mostEvents) (lent - 1) mostEvents
 
 -- the array of events and the lent numbers
 pub record Listing : Type 0 where
@@ -63,7 +63,7 @@ listing events ends = record { events = events; ends = ends }
 -- the events, and `Lose 0` behind them; how many they are, and the bytes up to the end of each
 unfoldable pub eventsReply : List ℕ → Progress → ℕ → List ℕ → Listing
 eventsReply rest p room ends =
-    let xs : List Placed = eventsAt (mostListed (length ends)) p room 0 rest in
+    let xs : List Placed = eventsAt (mostRead (length ends)) p room 0 rest in
     listing (eventsOf xs ++ replicate (mostEvents - length xs) (Lose 0)) (sets ends 0 (length xs ∷ endsOf xs))
 
 -- for whoever makes the events: how far a plan has come whose network stands in a bench

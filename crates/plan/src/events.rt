@@ -16,7 +16,7 @@ ghost use mathlib.Core.Bool.{true, cond};
 ghost use Prim.Native.Nat.{suc, _<_};
 ghost use lib.Dec.{eqb};
 ghost use Rattle.plan.specs.Reading.{progressInRange};
-ghost use Rattle.plan.specs.Events.{mostListed, listing, eventsReply, listProgress, bytesBy};
+ghost use Rattle.plan.specs.Events.{mostRead, listing, eventsReply, listProgress, bytesBy};
 ghost use Rattle.plan.specs.Steps.{noEvent, nextEvent};
 
 // The next event, the bytes that it takes and the numbers that it answers with; no bytes where a list goes no further.
@@ -60,8 +60,8 @@ fn next_event(rest: &[u8], p: Progress, room: usize) -> NextEvent
 }
 
 // How many events a list has room for, with so many lent numbers.
-fn most_listed(lent: usize) -> usize
-    ensures { λ r. ⌜ r ≡ mostListed lent ⌝ }
+fn most_read(lent: usize) -> usize
+    ensures { λ r. ⌜ r ≡ mostRead lent ⌝ }
 {
     if lent == 0 {
         return 0;
@@ -88,7 +88,7 @@ pub fn read_events(rest: &[u8], p: Progress, room: usize, ends: &mut [u16]) -> [
 {
     let mut going = progress_in_range(p);
     let mut events = [Event::Lose(0); MOST_EVENTS];
-    let most = most_listed(ends.len());
+    let most = most_read(ends.len());
     let mut left = room;
     let mut at = 0;
     let mut count = 0;

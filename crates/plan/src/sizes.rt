@@ -1,12 +1,5 @@
-// Document 01's sizes that a plan is read by.
-
-pub(crate) const LEAST_BRIDGES: usize = 2;
-
-pub(crate) const MOST_BRIDGES: usize = 16;
-
-pub(crate) const MOST_LINKS: usize = 32;
-
-pub(crate) const MOST_VIEWS: usize = 32;
+// Sizes of a plan's fields, and of a list of its events.
+use bench::sizes::MOST_EVENTS;
 
 // A field's header: one byte of tag, two of length.
 pub(crate) const HEADER_BYTES: usize = 3;
@@ -14,5 +7,5 @@ pub(crate) const HEADER_BYTES: usize = 3;
 // A link's cost in a view.
 pub(crate) const COST_BYTES: usize = 4;
 
-// Where each event of a list ends, behind how many there are.
-pub const EVENT_ENDS: usize = 2049;
+// One number for how many events of a list there are, then one for where each ends.
+pub const EVENT_ENDS: usize = MOST_EVENTS + 1;

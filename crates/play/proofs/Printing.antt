@@ -7,7 +7,7 @@ use mathlib.Core.List.{List, []}
 use lib.ListN.{length, take, drop, length-append, length-drop}
 use lib.Seq.{take-all, length-take-le, drop-drop}
 use Rattle.runner.specs.Buffers.{Buffers}
-use Rattle.runner.specs.Turns.{StepOutcome}
+use Rattle.runner.specs.Steps.{StepOutcome}
 use Rattle.runner.specs.Plans.{firstRunner, firstBuffers, prints}
 use Rattle.runner.specs.Fills.{buffersWithOut, fillOf}
 use Rattle.runner.specs.declared.Runner.{Runner}

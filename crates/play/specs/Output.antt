@@ -1,11 +1,12 @@
 -- What is replied for a plan, and for what it was read from. Assumes nothing.
-use Prim.Native.Nat.{ℕ, _≤_, _<_}
+use Prim.Native.Nat.{ℕ, suc, _≤_, _<_}
 use mathlib.Core.Path.{_≡_}
 use mathlib.Core.List.{List}
 use lib.ListN.{length}
 use Rattle.runner.specs.Plans.{printed}
 use Rattle.play.specs.declared.Input.{Input}
 use Rattle.play.specs.declared.Reply.{Reply}
+use Rattle.runner.specs.Sizes.{longestPlan}
 
 -- of a text: all of it was handed on; or a write failed after a proper beginning
 abbrev pub Handed : Reply → List ℕ → Type 0
@@ -17,7 +18,7 @@ Handed Reply.Unread text = ⊥
 -- contract can say that they are those that were read
 pub data Played : Reply → Type 0 where
   unread : Played Reply.Unread
-  read : {r : Reply} (plan : List ℕ) → length plan ≤ 61441 → Handed r (printed plan) → Played r
+  read : {r : Reply} (plan : List ℕ) → length plan ≤ suc longestPlan → Handed r (printed plan) → Played r
 
 -- the bytes that were read lie within those that are lent
 abbrev pub Within : Input → List ℕ → Type 0

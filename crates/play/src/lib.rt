@@ -4,7 +4,6 @@ use agreement::sizes::LIMITS;
 use bench::sizes::COSTS;
 use libc::STDOUT_FILENO;
 use runner::sizes::LONGEST_PLAN;
-use runner::sizes::MOST_COUNTED;
 use text::Written;
 ghost use mathlib.Core.Path.{_≡_};
 ghost use mathlib.Core.Bool.{false};
@@ -16,7 +15,10 @@ ghost use Rattle.runner.specs.Plans.{firstRunner, firstBuffers, prints, printed
 ghost use Rattle.text.specs.Lines.{refusedText};
 
 // One byte more than the longest plan, so that a longer one is noticed.
-const READ_BYTES: usize = 61441;
+const READ_BYTES: usize = LONGEST_PLAN + 1;
+
+// A longer plan is refused at this offset.
+const TOO_LONG_AT: u32 = LONGEST_PLAN as u32;
 
 // What waits to be printed.
 const OUT_BYTES: usize = 49152;
@@ -84,7 +86,7 @@ fn too_long(out: &mut [u8]) -> Reply
     ensures { λ r. ⌜ Handed r (refusedText 18 61440) ⌝ }
     ensures { λ _. ⌜ now (out .exit) ≡ sets (now (out .entry)) 0 (refusedText 18 61440) ⌝ }
 {
-    let text = text::lines::refused(out, 18, MOST_COUNTED);
+    let text = text::lines::refused(out, 18, TOO_LONG_AT);
     // the text has room, so this is never taken
     let Written::Bytes(written) = text else {
         return Reply::Unread;

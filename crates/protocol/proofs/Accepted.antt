@@ -19,7 +19,7 @@ unfolding accepted refuse
 accepted-checks n c e = eqb-true (refuse n c) 0 e
 
 -- an accepted send
-pub record SendListed (n : Network) (b l : ℕ) : Type 0 where
+pub record SendFacts (n : Network) (b l : ℕ) : Type 0 where
   pub bridge : b < n .plan .graph .bridges
   pub link : l < n .plan .graph .links
   pub atBridge : n .plan .graph .bridgeAt (endOf (n .plan .graph) b l) ≡ b
@@ -32,7 +32,7 @@ pub record UpdateListed (n : Network) (b t : ℕ) : Type 0 where
   pub numberLeft : (eqb (n .number b) 65535 && not (eqb (n .view b) t)) ≡ false
 
 module _ (n : Network) where
-  pub send-listed : (b l : ℕ) → accepted n (send b l) ≡ true → SendListed n b l
+  pub send-listed : (b l : ℕ) → accepted n (send b l) ≡ true → SendFacts n b l
   unfolding checks noSuchBridge noSuchLink notOnLink linkCut noRoom
   send-listed b l a =
       let one = passed (noSuchBridge n b) _ (omega arith) (accepted-checks n (send b l) a) in

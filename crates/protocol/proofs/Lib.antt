@@ -12,7 +12,7 @@ pub mod Steps
 pub mod Hops
 pub mod NoRing
 pub mod PathEnds
-pub mod Fates
+pub mod Statuses
 pub mod Deliveries
 pub mod RoundLaws
 pub mod AfterRounds

@@ -18,11 +18,11 @@ use Rattle.protocol.specs.Net.{Network, Message}
 use Rattle.protocol.specs.Calls.{Call, change, send, deliver, repeat, lose, port, report, path, accepted, endOf, messageOf, sentOver, act, step, run}
 use Rattle.protocol.specs.Rounds.{MessageStatus, taken, lost, waits, statusBy, orLater, isDelivered, isSendFrom, isSentAndDelivered, hasRound, hasNoChange}
 use Rattle.protocol.proofs.Links.{end-of-link}
-use Rattle.protocol.proofs.Accepted.{SendListed, send-listed}
+use Rattle.protocol.proofs.Accepted.{SendFacts, send-listed}
 use Rattle.protocol.proofs.Steps.{invariant-step}
 use Rattle.protocol.proofs.Runs.{Allowed, allowed-step, first-allowed, rest-allowed, kept-run, fixed-step}
 use Rattle.protocol.proofs.Places.{Stands, stands-new}
-use Rattle.protocol.proofs.Fates.{stands-step, taken-step}
+use Rattle.protocol.proofs.Statuses.{stands-step, taken-step}
 use Rattle.protocol.proofs.Deliveries.{InformedAt, ClearedAt, OneView, Current, told-now, told-kept, cleared-kept}
 
 module _ (t e : ℕ) (W : Type 0) where
@@ -37,7 +37,7 @@ module _ (t e : ℕ) (W : Type 0) where
       let s : ℕ = endOf (n .plan .graph) b l in
       let parts : (accepted n (send b l) ≡ true) × (eqb s (opposite e) ≡ true) = both-true (accepted n (send b l)) (eqb s (opposite e)) q in
       let from : s ≡ opposite e = eqb-true s (opposite e) (parts .1) in
-      let listed : SendListed n b l = send-listed n b l (parts .0) in
+      let listed : SendFacts n b l = send-listed n b l (parts .0) in
       rw (parts .0) (
         messageOf n b l,
         stands-new (messageOf n b l) (n .messages),

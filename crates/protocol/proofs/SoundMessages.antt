@@ -8,7 +8,7 @@ use Rattle.agreement.proofs.Direction.{InFlight}
 use Rattle.protocol.specs.Net.{Network, Message, sender}
 use Rattle.protocol.specs.Calls.{withMessages, without, endOf, messageOf, sentOver}
 use Rattle.protocol.proofs.Invariant.{InvariantBy}
-use Rattle.protocol.proofs.Accepted.{SendListed}
+use Rattle.protocol.proofs.Accepted.{SendFacts}
 use Rattle.protocol.proofs.Links.{end-of-link}
 use Rattle.protocol.proofs.Places.{Each, each-appended, each-without}
 
@@ -49,7 +49,7 @@ module _ (n : Network) {h : ℕ → ℕ → ℕ} (inv : InvariantBy n h) where
         discarded = omega arith;
       })
 
-  pub kept-sent : (b l : ℕ) → SendListed n b l → InvariantBy (sentOver n b l) h
+  pub kept-sent : (b l : ℕ) → SendFacts n b l → InvariantBy (sentOver n b l) h
   unfolding sentOver messageOf
   kept-sent b l sent =
       with-sound _

@@ -9,7 +9,7 @@ use Rattle.text.specs.Writing.{Outcome, outcome, writing}
 use Rattle.text.specs.declared.Written.{Written}
 use Rattle.text.proofs.Puts.{written}
 use Rattle.runner.specs.Events.{line, lineOf}
-use Rattle.runner.specs.Turns.{countOf}
+use Rattle.runner.specs.Steps.{countOf}
 
 -- the count and the bytes of a text that was let pass
 pub counted :

@@ -11,7 +11,7 @@ use lib.Seq.{sets, length-sets, sets-eq, take-append-seam, take-append-add, leng
 use Rattle.distances.proofs.Booleans.{both-true}
 use Rattle.text.specs.Lines.{refusedText}
 use Rattle.runner.specs.Buffers.{Buffers}
-use Rattle.runner.specs.Turns.{StepOutcome, stepOf}
+use Rattle.runner.specs.Steps.{StepOutcome, stepOf}
 use Rattle.runner.specs.Plans.{firstRunner, firstBuffers, prints, printed}
 use Rattle.runner.specs.Fills.{buffersWithOut, stepOn, stepsOn, fills, fillOf, printsAfter, FillPrints, printsFilled, PlanFilled}
 use Rattle.runner.specs.declared.Runner.{Runner}

@@ -10,7 +10,7 @@ use lib.Seq.{take-all, length-take-le}
 use lib.Dec.{leb}
 use Rattle.distances.proofs.Booleans.{both-true}
 use Rattle.runner.specs.Buffers.{Buffers, buffers}
-use Rattle.runner.specs.Turns.{StepOutcome, stepOutcome, stepOf}
+use Rattle.runner.specs.Steps.{StepOutcome, stepOutcome, stepOf}
 use Rattle.runner.specs.Fills.{buffersWithOut, stepOn, stepsOn, fills, fillOf}
 use Rattle.runner.specs.Lists.{StepsMade}
 use Rattle.runner.specs.declared.Runner.{Runner}
@@ -108,8 +108,8 @@ pub fills-more : (fuel : ℕ) (t : StepOutcome) (rest : List ℕ) → stepsOn t 
 unfolding fills
 fills-more fuel t rest on = rw on
 
-turned : (from : StepOutcome) (rest : List ℕ) (t : StepOutcome) → Underway from rest t → stepsOn t ≡ true → Underway from rest (stepOn t rest)
-turned from rest t w on = go (w .fuel) (w .enough) (w .same)
+stepOutcomeOn : (from : StepOutcome) (rest : List ℕ) (t : StepOutcome) → Underway from rest t → stepsOn t ≡ true → Underway from rest (stepOn t rest)
+stepOutcomeOn from rest t w on = go (w .fuel) (w .enough) (w .same)
   where
     go : (fuel : ℕ) → left t rest ≤ fuel → fills fuel t rest ≡ fills (suc (length rest)) from rest → Underway from rest (stepOn t rest)
     go zero h e = absurd (omega (arith, fewer rest t on, h))
@@ -156,7 +156,7 @@ still-on from rest zero t w = w
 still-on from rest (suc n) t w = go (still-on from rest n) (stepsOn t) refl
   where
     go : ((t : StepOutcome) → Underway from rest t → Underway from rest (fills n t rest)) → (b : Bool) → stepsOn t ≡ b → Underway from rest (cond b (fills n (stepOn t rest) rest) t)
-    go later true on = later (stepOn t rest) (turned from rest t w on)
+    go later true on = later (stepOn t rest) (stepOutcomeOn from rest t w on)
     go later false off = w
 
 pub onward : (from : StepOutcome) (rest : List ℕ) (t u : StepOutcome) → Underway from rest t → StepsMade t rest u → Underway from rest u

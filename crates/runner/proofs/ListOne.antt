@@ -16,7 +16,7 @@ use Rattle.runner.specs.Events.{stateAfter}
 
 -- what it leaves
 pub data Alone (s : State) (e : Event) (first : List ℕ) : BatchOutcome → Type 0 where
-  turned-down : (k : ℕ) → k ≡ replyOf s e → (k ≡ 0 → ⊥) → Alone s e first (batchOutcome 0 0 (Disposition.Refused k) s first)
+  stepOutcomeOn-down : (k : ℕ) → k ≡ replyOf s e → (k ≡ 0 → ⊥) → Alone s e first (batchOutcome 0 0 (Disposition.Refused k) s first)
   carried-out :
       replyOf s e ≡ 0 →
       Alone s e first (batchOutcome 1 (length (answersOf s e)) Disposition.Complete (stateAfter s e) (answersOf s e ++ drop (length (answersOf s e)) first))
@@ -27,7 +27,7 @@ module _ (s : State) (e : Event) (first : List ℕ) (room : 32 ≤ length first)
     where
       go : (b : Batch) → eventBatchIn (length first) s e ≡ b → First (length first) s e b → Alone s e first (batchOutcomeOf (batchFrom (length first) s (e ∷ [])) first)
       go b is (full few) = absurd (omega (arith, few, room, size-few s e ok))
-      go b is (refused some) = rw (runs-unmade (length first) s e [] b is refl) (turned-down _ refl some)
+      go b is (refused some) = rw (runs-unmade (length first) s e [] b is refl) (stepOutcomeOn-down _ refl some)
       go b is (made none fits) = rw (runs-made (length first) s e [] is, runs-none, append-nil) (carried-out none)
 
   pub alone : Alone s e first (batchOf s (replicate 2048 e) 1 first)
@@ -35,7 +35,7 @@ module _ (s : State) (e : Event) (first : List ℕ) (room : 32 ≤ length first)
     where
       go : (b : Bool) → deliveryReady s ≡ b → Alone s e first (batchOf s (replicate 2048 e) 1 first)
       go true q = rw (batch-in s (replicate 2048 e) 1 first q (omega (arith, length-replicate {A = Event} 2048 e))) (in-range q)
-      go false q = rw (batch-out s (replicate 2048 e) 1 first q) (turned-down 17 (sym (refused-out s e q)) (λ z. absurd (omega arith)))
+      go false q = rw (batch-out s (replicate 2048 e) 1 first q) (stepOutcomeOn-down 17 (sym (refused-out s e q)) (λ z. absurd (omega arith)))
 
 -- ---- for the code
 
@@ -48,7 +48,7 @@ module _ (s : State) (e : Event) (first : List ℕ) (room : 32 ≤ length first)
   one-refused some = go _ here refl
     where
       go : (r : BatchOutcome) → Alone s e first r → batchOutcome count answered how after answers ≡ r → (refusalIn how ≡ replyOf s e) × (after ≡ s)
-      go r (turned-down k same other) q = (ap (λ (x : BatchOutcome). refusalIn (x .disposition)) q ∙ same, ap (λ (x : BatchOutcome). x .state) q)
+      go r (stepOutcomeOn-down k same other) q = (ap (λ (x : BatchOutcome). refusalIn (x .disposition)) q ∙ same, ap (λ (x : BatchOutcome). x .state) q)
       go r (carried-out none) q = absurd (some (ap (λ (x : BatchOutcome). refusalIn (x .disposition)) q))
 
   pub record OneMade : Type 0 where
@@ -64,7 +64,7 @@ module _ (s : State) (e : Event) (first : List ℕ) (room : 32 ≤ length first)
   one-made zero = go _ here refl
     where
       go : (r : BatchOutcome) → Alone s e first r → batchOutcome count answered how after answers ≡ r → OneMade
-      go r (turned-down k same other) q = absurd (other (sym (ap (λ (x : BatchOutcome). refusalIn (x .disposition)) q) ∙ zero))
+      go r (stepOutcomeOn-down k same other) q = absurd (other (sym (ap (λ (x : BatchOutcome). refusalIn (x .disposition)) q) ∙ zero))
       go r (carried-out none) q =
           let long = answers-length s e none in
           let counted = ap (λ (x : BatchOutcome). x .answered) q in

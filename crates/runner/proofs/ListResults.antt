@@ -17,13 +17,13 @@ use Rattle.bench.specs.declared.Disposition.{Disposition}
 use Rattle.bench.specs.declared.Event.{Event}
 use Rattle.bench.specs.declared.Event.the-variants.{Lose}
 use Rattle.bench.proofs.BatchRuns.{batches-are-runs, answers-within, runs-few, runs-unchanged, batch-first}
-use Rattle.plan.specs.Events.{Placed, eventsAt, eventsOf, mostListed, Listing, listing, eventsReply, listProgress, bytesBy}
+use Rattle.plan.specs.Events.{Placed, eventsAt, eventsOf, mostRead, Listing, listing, eventsReply, listProgress, bytesBy}
 use Rattle.plan.proofs.Laws.{field-bridges}
 use Rattle.plan.proofs.EventLaws.{ReadAs, reads-as, first-fits, lastEnd, end-within, length-events, InBuffers, listed}
 use Rattle.runner.specs.Buffers.{Buffers, buffers, buffersLong}
-use Rattle.runner.specs.Turns.{StepOutcome, stepOutcome}
+use Rattle.runner.specs.Steps.{StepOutcome, stepOutcome}
 use Rattle.runner.specs.Fills.{stepsOn, fills}
-use Rattle.runner.specs.Lists.{textsOf, ListFits, turned, madeOn, refusedOn, endedOn, SomeNumber, listedOn, ResultFits, StepsMade}
+use Rattle.runner.specs.Lists.{textsOf, ListFits, stepOutcomeOn, madeOn, refusedOn, endedOn, SomeNumber, batchOn, ResultFits, StepsMade}
 use Rattle.runner.specs.declared.Stepped.{Stepped}
 use Rattle.runner.proofs.FillTurns.{goes-on}
 use Rattle.runner.proofs.ListSteps.{stateAt, Roomy}
@@ -113,7 +113,7 @@ module _
   behind = drop (done .used) rest
 
   abbrev xs : List Placed
-  xs = eventsAt (mostListed (length first)) (listProgress (done .runner .bench)) numbers 0 behind
+  xs = eventsAt (mostRead (length first)) (listProgress (done .runner .bench)) numbers 0 behind
 
   is-listed : InBuffers xs events ends
   is-listed = listed behind (listProgress (done .runner .bench)) numbers first (rw (rest-lent rest (done .used)) at read)
@@ -126,7 +126,7 @@ module _
       ∙ omega (arith, length-events xs, length-replicate {A = Event} (2048 - length xs) (Lose 0), is-listed .few)
 
   reads : ReadAs (listProgress (done .runner .bench)) behind 0 xs
-  reads = reads-as (mostListed (length first)) (listProgress (done .runner .bench)) numbers 0 behind
+  reads = reads-as (mostRead (length first)) (listProgress (done .runner .bench)) numbers 0 behind
 
   head : take (getD ends 0 0) events ≡ eventsOf xs
   head = ap (λ (n : ℕ). take n events) (is-listed .count) ∙ is-listed .head
@@ -165,7 +165,7 @@ module _
         go (y ∷ ys) same =
             let one : take (getD ends 0 0) events ≡ y .event ∷ eventsOf ys = head ∙ first-event same in
             let few : getD ends 0 0 ≤ length events = omega (arith, is-listed .count, is-listed .few, every) in
-            let size : answerSize (done .runner .bench .bridges) (y .event) ≤ length answers = rw lent (first-fits (mostListed (length first)) (listProgress (done .runner .bench)) numbers 0 behind same) in
+            let size : answerSize (done .runner .bench .bridges) (y .event) ≤ length answers = rw lent (first-fits (mostRead (length first)) (listProgress (done .runner .bench)) numbers 0 behind same) in
             is ∙ batch-first (stateAt from) events (getD ends 0 0) answers (y .event) (eventsOf ys) one few size ∙ rw (head, lent)
           where
             first-event : xs ≡ y ∷ ys → eventsOf xs ≡ y .event ∷ eventsOf ys
@@ -219,9 +219,9 @@ module _
       pub steps-made :
           (result .made ≡ 0 → refusalIn (result .disposition) ≡ 0 → ⊥) →
           (s : Stepped) {out' : List ℕ} →
-          turned s out' ≡ listedOn done result events ends (answers' ++ more) out →
+          stepOutcomeOn s out' ≡ batchOn done result events ends (answers' ++ more) out →
           StepsMade from rest (turnOf s (buffers costs sent' held' messages' out'))
-      unfolding listedOn
+      unfolding batchOn
       steps-made gone s {out'} left =
           let steps = some-steps (result .disposition) (result .made) gone in
           let count : suc (steps .0) ≡ stepsOf (b .disposition) (b .made) = sym (steps .1) ∙ rw (how-is, made-is) in

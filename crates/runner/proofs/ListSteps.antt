@@ -20,7 +20,7 @@ use Rattle.text.specs.Lines.{refusedText}
 use Rattle.text.proofs.Laws.{length-refusedText}
 use Rattle.runner.specs.Buffers.{buffers, buffersLong, stateOn, progressOf}
 use Rattle.runner.specs.Events.{textOf, stateAfter}
-use Rattle.runner.specs.Turns.{StepOutcome, stepOutcome, lastStep, eventStep, fieldStep, readStep, runnerInRange, stepOf}
+use Rattle.runner.specs.Steps.{StepOutcome, stepOutcome, lastStep, eventStep, fieldStep, readStep, runnerInRange, stepOf}
 use Rattle.runner.specs.Fills.{stepOn, stepsOn}
 use Rattle.runner.specs.Lists.{refusedOn}
 use Rattle.runner.proofs.FillTexts.{text-short}

@@ -16,8 +16,8 @@ use Rattle.text.specs.Writing.{Put}
 use Rattle.text.proofs.Laws.{length-refusedText}
 use Rattle.text.proofs.Puts.{joined, nothing}
 use Rattle.runner.specs.Events.{eventText, NoText, Line, line, lineOf}
-use Rattle.runner.specs.Turns.{StepOutcome, lastText}
-use Rattle.runner.specs.Lists.{textsOf, turned, refusedOn, endedOn, SomeNumber}
+use Rattle.runner.specs.Steps.{StepOutcome, lastText}
+use Rattle.runner.specs.Lists.{textsOf, stepOutcomeOn, refusedOn, endedOn, SomeNumber}
 use Rattle.runner.specs.declared.Stepped.{Stepped}
 use Rattle.runner.proofs.ListSteps.{behind-is}
 
@@ -161,9 +161,9 @@ module _ (done : Stepped) (number : ℕ) (some : 0 < number) (out : List ℕ) (r
     refused-few = omega (arith, ap (λ (l : Line). l .count) put-text, length-refusedText number (done .runner .offset))
 
     pub refused-behind :
-        turned (record { runner = done .runner; messages = done .messages; going = false; used = done .used; written = done .written + count; reply = number })
+        stepOutcomeOn (record { runner = done .runner; messages = done .messages; going = false; used = done .used; written = done .written + count; reply = number })
         (take (done .written) out ++ (after ++ drop (length out - done .written) (drop (done .written) out)))
-        ≡ refusedOn number (turned done out)
+        ≡ refusedOn number (stepOutcomeOn done out)
     unfolding refusedOn
     refused-behind =
         let none = drop-of-length-le (drop (done .written) out) {i = length out - done .written} (omega (arith, length-drop (done .written) out)) in

@@ -23,7 +23,7 @@ use Rattle.text.specs.Writing.{Put}
 use Rattle.text.proofs.Puts.{joined}
 use Rattle.runner.specs.Buffers.{buffers}
 use Rattle.runner.specs.Events.{eventText, textOf}
-use Rattle.runner.specs.Turns.{StepOutcome, stepOutcome}
+use Rattle.runner.specs.Steps.{StepOutcome, stepOutcome}
 use Rattle.runner.specs.Fills.{fills, stepOn}
 use Rattle.runner.specs.Lists.{textsOf, refusedOn, endedOn, SomeNumber}
 use Rattle.runner.proofs.FillTexts.{text-short}

@@ -17,7 +17,7 @@ use Rattle.plan.specs.declared.Field.{Field}
 use Rattle.plan.specs.declared.Read.{Read}
 use Rattle.plan.proofs.Laws.{FieldRead, field-read}
 use Rattle.runner.specs.Buffers.{Buffers, stateOn, progressOf}
-use Rattle.runner.specs.Turns.{StepOutcome, lastStep, eventStep, fieldStep, stepOf}
+use Rattle.runner.specs.Steps.{StepOutcome, lastStep, eventStep, fieldStep, stepOf}
 use Rattle.runner.specs.Whole.{Position, position, stateAt, callRead, calls, leaves}
 use Rattle.runner.specs.declared.Runner.{Runner}
 use Rattle.runner.proofs.RunSteps.{Step, refused, ended, carried, step-is}

@@ -13,7 +13,7 @@ use Rattle.bench.specs.Changes.{ChangeOutcome, changeOutcome, freshBench, fresh
 use Rattle.bench.specs.declared.Bench.{Bench}
 use Rattle.bench.proofs.TieFresh.{FreshLimits, fresh-opens, limits-same}
 use Rattle.plan.proofs.Laws.{ViewRead}
-use Rattle.runner.specs.Turns.{withView, withRow, opened}
+use Rattle.runner.specs.Steps.{withView, withRow, opened}
 use Rattle.runner.proofs.RunSetup.{Begun, view-begun, fresh-begun, lasts}
 use Rattle.runner.proofs.ViewTurns.{opened-reply}
 

@@ -15,7 +15,7 @@ use Rattle.bench.specs.declared.Event.{Event}
 use Rattle.plan.specs.declared.Field.{Field}
 use Rattle.plan.proofs.Laws.{field-size}
 use Rattle.runner.specs.Buffers.{Buffers, stateOn, progressOf}
-use Rattle.runner.specs.Turns.{lastStep, setupStep, withView, withRow, opened, viewStep, eventStep, fieldStep, stepOf}
+use Rattle.runner.specs.Steps.{lastStep, setupStep, withView, withRow, opened, viewStep, eventStep, fieldStep, stepOf}
 use Rattle.runner.specs.Plans.{prints}
 use Rattle.runner.specs.Whole.{setupRead, calls, leaves, setsUp, Same, FuelEnough}
 use Rattle.runner.specs.declared.Runner.{Runner}

@@ -20,7 +20,7 @@ use Rattle.plan.specs.Fields.{costIn}
 use Rattle.plan.specs.Reading.{costsReply}
 use Rattle.plan.proofs.CostRows.{row-length, row-cost}
 use Rattle.plan.proofs.Laws.{ViewRead}
-use Rattle.runner.specs.Turns.{withBridges, withLink, withView, withRow, ViewFits}
+use Rattle.runner.specs.Steps.{withBridges, withLink, withView, withRow, ViewFits}
 use Rattle.runner.specs.Plans.{firstRunner, firstBuffers}
 
 -- the costs with one more row: the rows before it are as they were, and it holds what was read

@@ -8,7 +8,7 @@ use Rattle.plan.specs.Reading.{readReply}
 use Rattle.plan.specs.declared.Field.{Field}
 use Rattle.plan.specs.declared.Read.{Read}
 use Rattle.runner.specs.Buffers.{Buffers, buffersLong, progressOf}
-use Rattle.runner.specs.Turns.{stepOutcome, lastStep, lastText, fieldStep, readStep, runnerInRange, stepOf}
+use Rattle.runner.specs.Steps.{stepOutcome, lastStep, lastText, fieldStep, readStep, runnerInRange, stepOf}
 use Rattle.runner.specs.declared.Runner.{Runner}
 
 pub data Step (r : Runner) (k : Buffers) (rest : List ℕ) : Type 0 where

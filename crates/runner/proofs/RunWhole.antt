@@ -23,7 +23,7 @@ use Rattle.plan.specs.declared.Field.{Field}
 use Rattle.plan.specs.declared.Read.{Read}
 use Rattle.plan.proofs.Laws.{FieldRead, field-read}
 use Rattle.runner.specs.Buffers.{Buffers, buffersLong, stateOn, progressOf}
-use Rattle.runner.specs.Turns.{lastStep, setupStep, withView, withRow, fieldStep, stepOf}
+use Rattle.runner.specs.Steps.{lastStep, setupStep, withView, withRow, fieldStep, stepOf}
 use Rattle.runner.specs.Plans.{firstRunner, firstBuffers}
 use Rattle.runner.specs.Whole.{Position, position, stateAt, planAt, calls, leaves, setsUp, NoEvent, RunsFrom, PlanRuns}
 use Rattle.runner.specs.declared.Runner.{Runner}
@@ -59,7 +59,7 @@ record Opens (p : Position) (end : Position) (cs : List Call) : Type 0 where
   stage : end .runner .stage ≡ 3
   inRange : net.PlanInRange (planAt p)
   fresh : Represents (stateAt p) (net.fresh (planAt p))
-  ran : stateAt end ≡ runBy (stateAt p) cs
+  reached : stateAt end ≡ runBy (stateAt p) cs
 
 abbrev Outcome : Position → Position → List Call → Type 0
 Outcome p end cs = NoEvent end cs ⊎ Opens p end cs
@@ -87,7 +87,7 @@ module _ (fuel : ℕ) (v : Event) (used : ℕ) (r : Runner) (k : Buffers) (rest 
       go : (b : Bool) → accepts r k v ≡ b → Outcome (position r k) (end fuel v used r k rest) (made fuel v used r k rest)
       go true q =
           let e = event-ran fuel v used r k rest (follows fuel) q in
-          inr (record { stage = e .stage; inRange = plan-in-range (r .bench) (k .costs) lasting; fresh = stands; ran = e .state })
+          inr (record { stage = e .stage; inRange = plan-in-range (r .bench) (k .costs) lasting; fresh = stands; reached = e .state })
       go false q =
           let left = event-stopped fuel v used r k rest q in
           inl (record { stage = omega (arith, left .1, two); none = left .2 })
@@ -127,4 +127,4 @@ plan-runs plan = go _ _ _ (set-up (suc (length plan)) firstRunner firstBuffers p
     go p end cs (inl n) = inl n
     go p end cs (inr o) =
         let all = whole-from (stateAt p) (planAt p) (o .inRange) (o .fresh) cs in
-        inr (record { stage = o .stage; fresh = o .fresh; ran = o .ran; holds = all .0; stands = rw (o .ran) (all .1); answers = rw (o .ran) (all .2) })
+        inr (record { stage = o .stage; fresh = o .fresh; reached = o .reached; holds = all .0; stands = rw (o .reached) (all .1); answers = rw (o .reached) (all .2) })

@@ -19,7 +19,7 @@ use Rattle.plan.specs.declared.Read.{Read}
 use Rattle.plan.proofs.Laws.{FieldRead, field-size, field-read}
 use Rattle.runner.specs.Buffers.{Buffers, buffers, buffersLong, stateOn, progressOf}
 use Rattle.runner.specs.Events.{textOf, stateAfter, Line, line, lineOf}
-use Rattle.runner.specs.Turns.{StepOutcome, stepOutcome, lastStep, lastText, setupStep, eventStep, fieldStep, readStep, stepOf, stopNumber, runnerInRange, fieldFits}
+use Rattle.runner.specs.Steps.{StepOutcome, stepOutcome, lastStep, lastText, setupStep, eventStep, fieldStep, readStep, stepOf, stopNumber, runnerInRange, fieldFits}
 use Rattle.runner.specs.declared.Runner.{Runner}
 
 -- a private call is lent nothing, or the bytes to be printed alone: its turn on all of the buffers
@@ -80,7 +80,7 @@ module _ (e : Event) (used : ℕ) (r : Runner) (k : Buffers) where
 
 -- ---- what a step's checks tell
 
-pub record StepTold (r : Runner) (k : Buffers) : Type 0 where
+pub record StepFacts (r : Runner) (k : Buffers) : Type 0 where
   pub events : r .events ≤ 61440
   pub offset : r .offset ≤ 61440
   pub costs : 1024 ≤ length (k .costs)
@@ -88,7 +88,7 @@ pub record StepTold (r : Runner) (k : Buffers) : Type 0 where
   pub held : 1024 ≤ length (k .held)
   pub out : 544 ≤ length (k .out)
 
-pub step-told : (r : Runner) (k : Buffers) → (runnerInRange r && buffersLong k) ≡ true → StepTold r k
+pub step-told : (r : Runner) (k : Buffers) → (runnerInRange r && buffersLong k) ≡ true → StepFacts r k
 unfolding runnerInRange buffersLong
 step-told r k ok =
     let all = both-true (leb (r .events) 61440 && leb (r .offset) 61440) _ ok in
@@ -140,7 +140,7 @@ unfolding readStep
 field-turn rest r k read same = rw same
 
 module _ (rest : List ℕ) (r : Runner) (k : Buffers) where
-  -- turned down, or read
+  -- stepOutcomeOn down, or read
   pub step-out : (runnerInRange r && buffersLong k) ≡ false → stepOutcome 17 false 0 0 r k ≡ stepOf r k rest
   unfolding stepOf
   step-out e = rw e

@@ -14,7 +14,7 @@ use Rattle.bench.specs.declared.Bench.{Bench}
 use Rattle.bench.proofs.FreshCalls.{fresh-reply}
 use Rattle.text.specs.Lines.{refusedText}
 use Rattle.runner.specs.Buffers.{Buffers, buffers}
-use Rattle.runner.specs.Turns.{lastStep, lastText, setupStep, withView, withRow, opened, viewStep, mayView, ViewFits}
+use Rattle.runner.specs.Steps.{lastStep, lastText, setupStep, withView, withRow, opened, viewStep, mayView, ViewFits}
 use Rattle.runner.specs.declared.Runner.{Runner}
 use Rattle.runner.proofs.RunSetup.{row-kept, row-passes}
 

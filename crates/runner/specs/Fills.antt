@@ -7,7 +7,7 @@ use mathlib.Core.List.{List, [], _++_}
 use lib.ListN.{length, take, drop}
 use lib.Dec.{leb}
 use Rattle.runner.specs.Buffers.{Buffers, buffers}
-use Rattle.runner.specs.Turns.{StepOutcome, stepOutcome, stepOf}
+use Rattle.runner.specs.Steps.{StepOutcome, stepOutcome, stepOf}
 use Rattle.runner.specs.Plans.{firstRunner, firstBuffers, prints}
 use Rattle.runner.specs.declared.Runner.{Runner}
 use Rattle.text.specs.Writing.{longestText}
@@ -36,7 +36,7 @@ fills (suc fuel) t rest = cond (stepsOn t) (fills fuel (stepOn t rest) rest) t
 unfoldable pub fillOf : Runner → Buffers → List ℕ → StepOutcome
 fillOf r k rest = fills (suc (length rest)) (stepOf r k rest) rest
 
--- what is printed from a turn on: its own bytes, and where the plan goes on what is printed from there
+-- what is printed from a step on: its own bytes, and where the plan goes on what is printed from there
 abbrev pub printsAfter : StepOutcome → List ℕ → List ℕ
 printsAfter t rest =
     take (t .written) (t .buffers .out)

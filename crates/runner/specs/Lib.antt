@@ -1,7 +1,7 @@
 pub mod Sizes
 pub mod Buffers
 pub mod Events
-pub mod Turns
+pub mod Steps
 pub mod Plans
 pub mod Fills
 pub mod Lists

@@ -15,12 +15,13 @@ use Rattle.plan.specs.Events.{bytesBy}
 use Rattle.text.specs.Lines.{refusedText}
 use Rattle.runner.specs.Buffers.{buffers}
 use Rattle.runner.specs.Events.{eventText}
-use Rattle.runner.specs.Turns.{StepOutcome, stepOutcome}
+use Rattle.runner.specs.Steps.{StepOutcome, stepOutcome}
 use Rattle.runner.specs.Fills.{buffersWithOut, fills}
 use Rattle.runner.specs.declared.Runner.{Runner}
 use Rattle.runner.specs.declared.Stepped.{Stepped}
 use Rattle.runner.specs.Sizes.{longestPlan}
 use Rattle.text.specs.Writing.{longestText}
+use Rattle.plan.specs.Sizes.{mostEvents}
 
 -- the texts of events, one behind the other, by the numbers that they answered with
 unfoldable pub textsOf : ℕ → List Event → List ℕ → List ℕ
@@ -31,12 +32,12 @@ textsOf bridges (e ∷ es) answers =
 -- a list is in range from here on: its events, and the bytes that are left
 pub record ListFits (r : Runner) (left : ℕ) : Type 0 where
   pub stage : r .stage ≡ 3
-  pub events : r .events + 2048 ≤ longestPlan
+  pub events : r .events + mostEvents ≤ longestPlan
   pub offset : r .offset + left ≤ longestPlan
 
--- a turn of which only the bytes to be printed are lent
-abbrev pub turned : Stepped → List ℕ → StepOutcome
-turned s out = stepOutcome (s .reply) (s .going) (s .used) (s .written) (s .runner) (buffers [] [] [] [] out)
+-- a step of which only the bytes to be printed are lent
+abbrev pub stepOutcomeOn : Stepped → List ℕ → StepOutcome
+stepOutcomeOn s out = stepOutcome (s .reply) (s .going) (s .used) (s .written) (s .runner) (buffers [] [] [] [] out)
 
 -- with so many events of so many bytes made, and their texts up to an end
 abbrev pub madeOn : Stepped → List Message → Bench → ℕ → ℕ → ℕ → Stepped
@@ -64,11 +65,11 @@ endedOn (Disposition.Refused k) t = refusedOn k t
 endedOn Disposition.Full t = t
 
 -- the events that were made, with their lines, and the refusal of the next one if it was refused
-unfoldable pub listedOn : Stepped → BatchResult → List Event → List ℕ → List ℕ → List ℕ → StepOutcome
-listedOn done batch events ends answers out =
+unfoldable pub batchOn : Stepped → BatchResult → List Event → List ℕ → List ℕ → List ℕ → StepOutcome
+batchOn done batch events ends answers out =
     let texts : List ℕ = textsOf (done .runner .bench .bridges) (take (batch .made) events) answers in
     endedOn (batch .disposition)
-    (turned (madeOn done [] (batch .bench) (batch .made) (bytesBy ends (batch .made)) (done .written + length texts))
+    (stepOutcomeOn (madeOn done [] (batch .bench) (batch .made) (bytesBy ends (batch .made)) (done .written + length texts))
     (sets out (done .written) texts))
 
 -- a refusal has a number
@@ -80,7 +81,7 @@ SomeNumber Disposition.Full = Unit {0}
 -- all of it has room and stays in range
 pub record ResultFits (done : Stepped) (batch : BatchResult) (events : List Event) (ends answers : List ℕ) (out : ℕ) : Type 0 where
   pub most : done .runner .bench .bridges ≤ 16
-  pub few : batch .made ≤ 2048
+  pub few : batch .made ≤ mostEvents
   pub ended : batch .made < length ends
   pub sizes : answerSizes (done .runner .bench .bridges) (take (batch .made) events) ≤ length answers
   pub room : done .written + length (textsOf (done .runner .bench .bridges) (take (batch .made) events) answers) + longestText ≤ out

@@ -7,7 +7,7 @@ use lib.Dec.{ltb}
 use Rattle.agreement.specs.Record.{freshRecord}
 use Rattle.text.specs.Lines.{refusedText}
 use Rattle.runner.specs.Buffers.{Buffers, buffers}
-use Rattle.runner.specs.Turns.{StepOutcome, stepOf}
+use Rattle.runner.specs.Steps.{StepOutcome, stepOf}
 use Rattle.runner.specs.declared.Runner.{Runner}
 use Rattle.agreement.specs.Sizes.{limitNumbers}
 use Rattle.bench.specs.Sizes.{costNumbers, flightNumbers}

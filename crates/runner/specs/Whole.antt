@@ -17,7 +17,7 @@ use Rattle.plan.specs.Reading.{readReply}
 use Rattle.plan.specs.declared.Field.{Field}
 use Rattle.plan.specs.declared.Read.{Read}
 use Rattle.runner.specs.Buffers.{Buffers, stateOn, progressOf}
-use Rattle.runner.specs.Turns.{StepOutcome, stepOf}
+use Rattle.runner.specs.Steps.{StepOutcome, stepOf}
 use Rattle.runner.specs.Plans.{firstRunner, firstBuffers, prints}
 use Rattle.runner.specs.declared.Runner.{Runner}
 
@@ -93,7 +93,7 @@ pub record NoEvent (end : Position) (cs : List Call) : Type 0 where
 pub record RunsFrom (p : Position) (end : Position) (cs : List Call) : Type 0 where
   pub stage : end .runner .stage ≡ 3
   pub fresh : Represents (stateAt p) (net.fresh (planAt p))
-  pub ran : stateAt end ≡ runBy (stateAt p) cs
+  pub reached : stateAt end ≡ runBy (stateAt p) cs
   pub holds : Holds (planAt p) cs
   pub stands : Represents (stateAt end) (run (net.fresh (planAt p)) cs)
   pub answers : Answers (stateAt end) (run (net.fresh (planAt p)) cs)

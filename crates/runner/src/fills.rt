@@ -2,8 +2,8 @@
 use crate::Runner;
 use crate::Stepped;
 use crate::lists::answer_room;
+use crate::lists::batch_on;
 use crate::lists::list_fits;
-use crate::lists::listed_on;
 use crate::lists::nothing_made;
 use crate::sizes::ANSWERS;
 use crate::steps::buffers_long;
@@ -22,7 +22,7 @@ ghost use lib.ListN.{length};
 ghost use lib.Dec.{leb};
 ghost use Rattle.messages.specs.Slices.{numbersIn};
 ghost use Rattle.runner.specs.Buffers.{buffers, buffersLong};
-ghost use Rattle.runner.specs.Turns.{stepOutcome};
+ghost use Rattle.runner.specs.Steps.{stepOutcome};
 ghost use Rattle.runner.specs.Fills.{stepOn, stepsOn, fillOf};
 ghost use Rattle.runner.specs.Lists.{ListFits, StepsMade};
 
@@ -65,7 +65,7 @@ fn step_on(
 }
 
 // Several steps more by a list of events, or one where no event comes next.
-fn steps_listed(
+fn steps_by_list(
     done: Stepped,
     rest: &[u8],
     costs: &mut [u32],
@@ -90,7 +90,7 @@ fn steps_listed(
         return step_on(done, rest, costs, sent, held, out);
     }
     let mut answers = [0u32; ANSWERS];
-    let listed = run_by_value(
+    let reply = run_by_value(
         bench,
         costs,
         sent,
@@ -100,10 +100,10 @@ fn steps_listed(
         count,
         &mut answers[..room],
     );
-    if nothing_made(listed) {
+    if nothing_made(reply) {
         return step_on(done, rest, costs, sent, held, out);
     }
-    listed_on(done, listed, events, &ends, &answers, out)
+    batch_on(done, reply, events, &ends, &answers, out)
 }
 
 // One step more, or several.
@@ -123,7 +123,7 @@ fn steps_more(
     let fits = list_fits(r, rest.len() - used);
     let long = buffers_long(costs.len(), sent.len(), held.len(), MESSAGES, out.len());
     if both(fits, long) {
-        return steps_listed(done, rest, costs, sent, held, out);
+        return steps_by_list(done, rest, costs, sent, held, out);
     }
     step_on(done, rest, costs, sent, held, out)
 }

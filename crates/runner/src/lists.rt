@@ -15,7 +15,7 @@ use bench::sizes::MOST_EVENTS;
 use bench::sizes::MOST_MESSAGES;
 use distances::ready::both;
 use messages::Message;
-use messages::batches::MessageBatchResult;
+use messages::batches::BatchAndMessages;
 use text::LONGEST;
 ghost use mathlib.Core.Path.{_≡_};
 ghost use mathlib.Core.Bool.{true, _&&_};
@@ -24,7 +24,7 @@ ghost use lib.ListN.{length, take};
 ghost use lib.Dec.{eqb};
 ghost use Rattle.bench.specs.Batches.{refusalIn, answerSizes};
 ghost use Rattle.text.specs.Writing.{Put};
-ghost use Rattle.runner.specs.Lists.{textsOf, ListFits, turned, madeOn, refusedOn, ResultFits, listedOn};
+ghost use Rattle.runner.specs.Lists.{textsOf, ListFits, stepOutcomeOn, madeOn, refusedOn, ResultFits, batchOn};
 
 // A list of events from here on stays in range.
 pub(crate) fn list_fits(r: Runner, left: usize) -> bool
@@ -83,10 +83,10 @@ fn put_texts(
 }
 
 // Nothing was made, and nothing refused.
-pub(crate) fn nothing_made(listed: MessageBatchResult) -> bool
-    ensures { λ b. ⌜ b ≡ (eqb (listed .batch .made) 0 && eqb (refusalIn (listed .batch .disposition)) 0) ⌝ }
+pub(crate) fn nothing_made(reply: BatchAndMessages) -> bool
+    ensures { λ b. ⌜ b ≡ (eqb (reply .batch .made) 0 && eqb (refusalIn (reply .batch .disposition)) 0) ⌝ }
 {
-    let batch = listed.batch;
+    let batch = reply.batch;
     let how = batch.disposition;
     both(batch.made == 0, refusal_in(how) == 0)
 }
@@ -123,7 +123,7 @@ fn made_on(
 // The plan ends with the refusal of its next event, behind what is written.
 fn refused_on(done: Stepped, number: u8, out: &mut [u8]) -> Stepped
     requires { ⌜ (0 < number) × (done .written + 544 ≤ length (now out)) ⌝ }
-    ensures { λ s. ⌜ turned s (now (out .exit)) ≡ refusedOn number (turned done (now (out .entry))) ⌝ }
+    ensures { λ s. ⌜ stepOutcomeOn s (now (out .exit)) ≡ refusedOn number (stepOutcomeOn done (now (out .entry))) ⌝ }
     ensures { λ s. ⌜ s .messages ≡ done .messages ⌝ }
 {
     let written = done.written;
@@ -141,22 +141,22 @@ fn refused_on(done: Stepped, number: u8, out: &mut [u8]) -> Stepped
 }
 
 // The events that were made, with their lines, and the refusal of the next one if it was refused.
-pub(crate) fn listed_on(
+pub(crate) fn batch_on(
     done: Stepped,
-    listed: MessageBatchResult,
+    reply: BatchAndMessages,
     events: [Event; MOST_EVENTS],
     ends: &[u16],
     answers: &[u32],
     out: &mut [u8],
 ) -> Stepped
-    requires { ⌜ ResultFits done (listed .batch) events (now ends) (now answers) (length (now out)) ⌝ }
-    ensures { λ s. ⌜ turned s (now (out .exit)) ≡ listedOn done (listed .batch) events (now (ends .entry)) (now (answers .entry)) (now (out .entry)) ⌝ }
-    ensures { λ s. ⌜ s .messages ≡ listed .messages ⌝ }
+    requires { ⌜ ResultFits done (reply .batch) events (now ends) (now answers) (length (now out)) ⌝ }
+    ensures { λ s. ⌜ stepOutcomeOn s (now (out .exit)) ≡ batchOn done (reply .batch) events (now (ends .entry)) (now (answers .entry)) (now (out .entry)) ⌝ }
+    ensures { λ s. ⌜ s .messages ≡ reply .messages ⌝ }
 {
     let r = done.runner;
     let old = r.bench;
-    let batch = listed.batch;
-    let left = listed.messages;
+    let batch = reply.batch;
+    let left = reply.messages;
     let made = batch.made;
     let after = batch.bench;
     let how = batch.disposition;

@@ -4,7 +4,7 @@ ghost use mathlib.Core.Path.{_≡_};
 ghost use Prim.Native.Nat.{_≤_, _<_};
 ghost use lib.ListN.{length};
 ghost use Rattle.bench.specs.Changes.{changeOutcome};
-ghost use Rattle.runner.specs.Turns.{withBridges, withLink, withView, withRow, mayView, opened};
+ghost use Rattle.runner.specs.Steps.{withBridges, withLink, withView, withRow, mayView, opened};
 
 pub(crate) fn with_bridges(bench: Bench, count: u8) -> Bench
     ensures { λ r. ⌜ r ≡ withBridges bench count ⌝ }

@@ -3,7 +3,7 @@
 // The longest plan, in bytes; neither its events nor its bytes are more.
 pub const LONGEST_PLAN: usize = 61440;
 
-pub const MOST_COUNTED: u32 = 61440;
+pub(crate) const MOST_COUNTED: u32 = LONGEST_PLAN as u32;
 
 // So many events may be counted where a list of 2,048 comes.
 pub(crate) const MOST_BEFORE_A_LIST: u32 = 59392;

@@ -29,7 +29,7 @@ ghost use lib.ListN.{length, replicate};
 ghost use lib.Dec.{leb};
 ghost use Rattle.messages.specs.Slices.{numbersIn};
 ghost use Rattle.runner.specs.Buffers.{buffers};
-ghost use Rattle.runner.specs.Turns.{stepOutcome, setupStep, lastStep, lastText, fieldStep, ViewFits, fieldFits, runnerInRange, stepOf};
+ghost use Rattle.runner.specs.Steps.{stepOutcome, setupStep, lastStep, lastText, fieldStep, ViewFits, fieldFits, runnerInRange, stepOf};
 ghost use Rattle.runner.specs.Plans.{firstRunner};
 
 // Before the first field.
@@ -153,9 +153,9 @@ fn event_step(
     let bench = r.bench;
     let events = [event; MOST_EVENTS];
     let mut answers = [0u32; 32];
-    let listed = run_by_value(bench, costs, sent, held, messages, events, 1, &mut answers);
-    let batch = listed.batch;
-    let left = listed.messages;
+    let reply = run_by_value(bench, costs, sent, held, messages, events, 1, &mut answers);
+    let batch = reply.batch;
+    let left = reply.messages;
     let how = batch.disposition;
     let number = refusal_in(how);
     if number != 0 {

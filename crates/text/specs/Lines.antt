@@ -12,9 +12,13 @@ space = 32 ∷ []
 abbrev pub lineFeed : List ℕ
 lineFeed = 10 ∷ []
 
+-- the number that stands for none
+abbrev pub NONE : ℕ
+NONE = 4294967295
+
 -- `-` for NONE or no port, else the number
 unfoldable pub orDash : ℕ → List ℕ
-orDash n = cond (eqb n 4294967295) (45 ∷ []) (decimal n)
+orDash n = cond (eqb n NONE) (45 ∷ []) (decimal n)
 
 -- the words, as bytes
 abbrev pub wordDest : List ℕ

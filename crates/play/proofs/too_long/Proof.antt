@@ -11,7 +11,7 @@ use Rattle.text.specs.Writing.{outcome, writing}
 use Rattle.text.specs.declared.Written.{Written}
 use Rattle.text.proofs.Laws.{length-refusedText}
 use Rattle.runner.specs.Events.{Line, line, lineOf}
-use Rattle.runner.specs.Turns.{countOf}
+use Rattle.runner.specs.Steps.{countOf}
 use Rattle.runner.proofs.EventSteps.{counted}
 use borrow.Author.Needs.{needs}
 use Rattle.play.proofs.too_long.Statement.{statement}

@@ -46,9 +46,9 @@ slice-aggregate-end-chains c = sym (placed (c .before .before .before .before .b
 end-chains-requires : tie.Need-end-chains-requires
 end-chains-requires c κs = ends-told _ _ _ _ (sym (c .before .before .before .before .before .network-in-range .ensures) ∙ not-false _ (c .before .before .before .before .if1 .left))
 
-port-of-requires : tie.Need-port-of-requires
+port-in-requires : tie.Need-port-in-requires
 unfolding refuse checks
-port-of-requires c κs =
+port-in-requires c κs =
     let s = (c .before .before .before .before .before .before .before .before .before .before .before .before .before) in
     let passes = sym (c .before .before .before .before .before .before .before .port-refusal .ensures (c .before .before .before .before .before .before .before .before .before .before .before .before .before .args .bench) refl) ∙ c .before .before .before .before .before .before .if2 .left in
     (ports-told _ _ _ _ (sym (c .before .before .before .before .before .before .before .before .before .network-in-range .ensures) ∙ not-false _ (c .before .before .before .before .before .before .before .before .if1 .left)), let two = bridges-listed (networkOf (s .args .bench) []) (s .args .bridge) (s .args .dest) _ passes in (two .0, two .1, tables-none (s .args .bench) _, c .before .before .before .end-chains .ensures))
@@ -56,18 +56,18 @@ port-of-requires c κs =
 returns-3 : tie.Need-returns-3
 unfolding portOf refuse checks noSuchBridge
 returns-3 c =
-    rw (c .before .before .port-of .ensures .0)
+    rw (c .before .before .port-in .ensures .0)
     (goes-on _ _ _ refusedBy _ (sym (c .before .before .before .before .before .before .before .before .before .before .before .before .network-in-range .ensures) ∙ not-false _ (c .before .before .before .before .before .before .before .before .before .before .before .if1 .left)) _
     (c .before .before .before .before .before .before .before .before .before .before .port-refusal .ensures (c .before .before .before .before .before .before .before .before .before .before .before .before .before .before .before .before .args .bench) refl) (c .before .before .before .before .before .before .before .before .before .if2 .left))
 
-slice-aggregate-port-of : tie.Need-slice-aggregate-port-of
-slice-aggregate-port-of c = refl
+slice-aggregate-port-in : tie.Need-slice-aggregate-port-in
+slice-aggregate-port-in c = refl
 
-slice-aggregate-port-of-2 : tie.Need-slice-aggregate-port-of-2
-slice-aggregate-port-of-2 c = refl
+slice-aggregate-port-in-2 : tie.Need-slice-aggregate-port-in-2
+slice-aggregate-port-in-2 c = refl
 
-slice-aggregate-port-of-3 : tie.Need-slice-aggregate-port-of-3
-slice-aggregate-port-of-3 c = sym (c .before .before .before .end-chains .ensures .long)
+slice-aggregate-port-in-3 : tie.Need-slice-aggregate-port-in-3
+slice-aggregate-port-in-3 c = sym (c .before .before .before .end-chains .ensures .long)
 
 pub port-spec : {M : Type 1} → statement M
 port-spec =
@@ -79,8 +79,8 @@ port-spec =
     returns-2
     slice-aggregate-end-chains
     end-chains-requires
-    slice-aggregate-port-of
-    slice-aggregate-port-of-2
-    slice-aggregate-port-of-3
-    port-of-requires
+    slice-aggregate-port-in
+    slice-aggregate-port-in-2
+    slice-aggregate-port-in-3
+    port-in-requires
     returns-3)

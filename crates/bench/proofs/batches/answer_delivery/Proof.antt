@@ -25,7 +25,7 @@ unfolding answeredNumbers
 returns c = rw (c .before .before .reception .given .1) (c .event-result .ensures, refl)
 
 same-length : tie.Need-same-length
-same-length c = c .before .before .before .put-answer .kept .0
+same-length c = c .before .before .before .put-answer .kept .1 .0
 
 returns-2 : tie.Need-returns-2
 unfolding answeredNumbers

@@ -10,10 +10,10 @@ enum-known-way : tie.Need-enum-known-way
 enum-known-way c = c .match .keys1
 
 cast-put-three : tie.Need-cast-put-three
-cast-put-three c = let fits = subst WayFits (c .before .before .way .given .1) (c .before .before .before .before .before .pre .1) in omega (arith, fits)
+cast-put-three c = let fits = subst WayFits (c .before .way .given .1) (c .before .before .before .before .pre .1) in omega (arith, fits)
 
 put-three-requires : tie.Need-put-three-requires
-put-three-requires c κs = omega arith
+put-three-requires c κs = tt
 
 event-result-requires : tie.Need-event-result-requires
 event-result-requires c κs = tt
@@ -22,13 +22,13 @@ enum-known-way-2 : tie.Need-enum-known-way-2
 enum-known-way-2 c = c .match .keys2
 
 cast-put-three-2 : tie.Need-cast-put-three-2
-cast-put-three-2 c = let fits = subst WayFits (c .before .before .way2 .given .1) (c .before .before .before .before .before .pre .1) in omega (arith, fits .0)
+cast-put-three-2 c = let fits = subst WayFits (c .before .way2 .given .1) (c .before .before .before .before .pre .1) in omega (arith, fits .0)
 
 cast-put-three-3 : tie.Need-cast-put-three-3
-cast-put-three-3 c = let fits = subst WayFits (c .before .before .way2 .given .1) (c .before .before .before .before .before .pre .1) in omega (arith, fits .1)
+cast-put-three-3 c = let fits = subst WayFits (c .before .way2 .given .1) (c .before .before .before .before .pre .1) in omega (arith, fits .1)
 
 put-three-requires-2 : tie.Need-put-three-requires-2
-put-three-requires-2 c κs = omega arith
+put-three-requires-2 c κs = tt
 
 event-result-requires-2 : tie.Need-event-result-requires-2
 event-result-requires-2 c κs = tt
@@ -40,14 +40,14 @@ event-result-requires-3 : tie.Need-event-result-requires-3
 event-result-requires-3 c κs = tt
 
 same-length : tie.Need-same-length
-same-length c = c .before .before .before .put-three .kept .0
+same-length c = c .before .before .before .put-three .kept .1 .1 .1 .0
 
 returns : tie.Need-returns
 unfolding wayNumbers
 returns c = rw (c .before .before .before .before .before .before .way .given .1) (c .event-result .ensures, c .before .before .before .put-three .ensures)
 
 same-length-2 : tie.Need-same-length-2
-same-length-2 c = c .before .before .before .put-three2 .kept .0
+same-length-2 c = c .before .before .before .put-three2 .kept .1 .1 .1 .0
 
 returns-2 : tie.Need-returns-2
 unfolding wayNumbers

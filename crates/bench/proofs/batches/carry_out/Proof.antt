@@ -5,13 +5,13 @@ use mathlib.Core.Bool.{true}
 use lib.ListN.{length}
 use Rattle.distances.proofs.Booleans.{both-true}
 use Rattle.bench.specs.State.{State, state}
-use Rattle.bench.specs.Flights.{QueueOutcome}
+use Rattle.bench.specs.Queue.{QueueOutcome}
 use Rattle.bench.specs.Changes.{stateInRange}
 use Rattle.bench.specs.Answers.{waySays}
 use Rattle.bench.specs.Batches.{answerSize}
 use Rattle.bench.specs.declared.Event.the-variants.{Deliver, Repeat}
 use Rattle.bench.proofs.TieRanges.{StateReady, told, ready, few}
-use Rattle.bench.proofs.FlightRanges.{network-told}
+use Rattle.bench.proofs.QueueRanges.{network-told}
 use Rattle.bench.proofs.RangesSteps.{flightInRange, flight-of, update-stays, cut-stays, restore-stays, send-stays, lose-stays, deliver-stays, repeat-stays}
 use Rattle.bench.proofs.BatchSteps.{full-leaves, room-leaves, leaves-by, told-by, update-leaves, update-told, cut-leaves, cut-told, restore-leaves, restore-told, send-leaves, lose-leaves, queue-told, deliver-receives, repeat-receives, received-leaves, reception-effect-told, report-leaves, report-told, path-leaves, quiet-told}
 use Rattle.bench.proofs.AnswerRanges.{way-fits}

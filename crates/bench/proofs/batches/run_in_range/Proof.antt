@@ -25,7 +25,7 @@ use Rattle.bench.proofs.CallLengths.{records-long}
 use Rattle.bench.proofs.ChainSteps.{ends-told}
 use Rattle.bench.proofs.ChainLaws.{chained-same}
 use Rattle.bench.proofs.ChoiceReads.{record-fits}
-use Rattle.bench.proofs.FlightRanges.{network-told}
+use Rattle.bench.proofs.QueueRanges.{network-told}
 use Rattle.bench.proofs.TableSteps.{tables-none, tables-same, tables-filled}
 use Rattle.bench.proofs.TieRanges.{told, few}
 use Rattle.bench.proofs.ChangeSteps.{length-mapped}

@@ -6,7 +6,7 @@ use mathlib.Core.Path.{ap}
 use lib.ListN.{getD}
 use Rattle.agreement.proofs.Ends.{opposite-below}
 use Rattle.bench.specs.Effects.{endStateIn}
-use Rattle.bench.proofs.FlightReads.{from-low}
+use Rattle.bench.proofs.QueueReads.{from-low}
 use Rattle.bench.proofs.ChoiceReads.{bridge-fits}
 use Rattle.bench.proofs.ViewReads.{number-fits}
 use Rattle.bench.proofs.deliveries.arrival_state.Statement.{statement}

@@ -16,7 +16,7 @@ use Rattle.bench.specs.Deliveries.{deliveryReady, deliveryOutcome, recei
 use Rattle.bench.proofs.TieRefusals.{refusal-ready}
 use Rattle.bench.proofs.TieRanges.{told, few}
 use Rattle.bench.proofs.TieChecks.{message-told}
-use Rattle.bench.proofs.FlightCalls.{delivery-told, deliver-refused, deliver-done}
+use Rattle.bench.proofs.QueueCalls.{delivery-told, deliver-refused, deliver-done}
 use Rattle.bench.proofs.ReceiveSteps.{reception-counted, reception-told}
 use Rattle.bench.proofs.messages.deliver_ready.Statement.{statement}
 use Rattle.bench.proofs.messages.deliver_ready.Tie as tie

@@ -1,6 +1,6 @@
 -- `messages::flight_in_range` meets its contract. Assumes nothing.
 use mathlib.Core.Path.{sym, _∙_}
-use Rattle.bench.proofs.FlightRanges.{bench-told}
+use Rattle.bench.proofs.QueueRanges.{bench-told}
 use Rattle.bench.proofs.messages.flight_in_range.Statement.{statement}
 use Rattle.bench.proofs.messages.flight_in_range.Tie as tie
 

@@ -1,10 +1,10 @@
 -- `messages::lose_ready` meets its contract. Each refusal is the table's, and an accepted place is one of those in flight. Assumes nothing.
 use native.Mathlib.Omega.{arith}
 use mathlib.Core.Path.{refl, sym, _∙_}
-use Rattle.bench.specs.Flights.{queueOutcome, loseOf}
+use Rattle.bench.specs.Queue.{queueOutcome, loseOf}
 use Rattle.bench.proofs.EntrySettled.{turned-down, goes-on}
-use Rattle.bench.proofs.FlightRanges.{flight-told}
-use Rattle.bench.proofs.FlightCalls.{lose-same, lose-told}
+use Rattle.bench.proofs.QueueRanges.{flight-told}
+use Rattle.bench.proofs.QueueCalls.{lose-same, lose-told}
 use Rattle.bench.proofs.messages.lose_ready.Statement.{statement}
 use Rattle.bench.proofs.messages.lose_ready.Tie as tie
 

@@ -1,7 +1,7 @@
 -- `messages::queued` meets its contract. Assumes nothing.
 use borrow.Author.Needs.{needs}
 use mathlib.Core.Path.{refl, subst}
-use Rattle.bench.specs.Effects.{QueueingFits}
+use Rattle.bench.specs.Effects.{QueueChangeFits}
 use Rattle.bench.proofs.messages.queued.Statement.{statement}
 use Rattle.bench.proofs.messages.queued.Tie as tie
 
@@ -9,7 +9,7 @@ enum-known-queue : tie.Need-enum-known-queue
 enum-known-queue c = c .match .keys1
 
 refused-requires : tie.Need-refused-requires
-refused-requires c κs = subst QueueingFits (c .before .queue .given .1) (c .before .before .before .pre)
+refused-requires c κs = subst QueueChangeFits (c .before .queue .given .1) (c .before .before .before .pre)
 
 enum-known-queue-2 : tie.Need-enum-known-queue-2
 enum-known-queue-2 c = c .match .keys2

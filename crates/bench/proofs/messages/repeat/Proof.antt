@@ -15,7 +15,7 @@ use Rattle.bench.proofs.ArrivalSteps.{arrival-told}
 use borrow.Author.Tests.{not-true, not-false}
 use Rattle.bench.specs.State.{State, state}
 use Rattle.bench.proofs.TieRefusals.{refusal-out}
-use Rattle.bench.proofs.FlightCalls.{repeat-refused}
+use Rattle.bench.proofs.QueueCalls.{repeat-refused}
 use Rattle.bench.proofs.TableSteps.{tables-none}
 use Rattle.bench.proofs.messages.repeat.Statement.{statement}
 use Rattle.bench.proofs.messages.repeat.Tie as tie

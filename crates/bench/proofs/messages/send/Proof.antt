@@ -9,12 +9,12 @@ use borrow.Author.Tests.{not-true, not-false}
 use Rattle.agreement.proofs.Basics.{getD-default}
 use Rattle.agreement.specs.Record.{freshRecord}
 use Rattle.bench.specs.Ranges.{benchInRange, messagesInRange}
-use Rattle.bench.specs.Flights.{queueOutcome, sendOf}
+use Rattle.bench.specs.Queue.{queueOutcome, sendOf}
 use Rattle.bench.proofs.ChangeSteps.{length-mapped}
 use Rattle.bench.proofs.ChoiceReads.{record-fits}
-use Rattle.bench.proofs.FlightRanges.{flight-told}
+use Rattle.bench.proofs.QueueRanges.{flight-told}
 use Rattle.bench.proofs.EntrySettled.{out-of-range}
-use Rattle.bench.proofs.FlightCalls.{flown-refused}
+use Rattle.bench.proofs.QueueCalls.{flown-refused}
 use Rattle.bench.proofs.messages.send.Statement.{statement}
 use Rattle.bench.proofs.messages.send.Tie as tie
 

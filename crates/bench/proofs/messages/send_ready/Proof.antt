@@ -13,11 +13,11 @@ use Rattle.agreement.specs.Call.{Response, says, carryingSays}
 use Rattle.agreement.specs.declared.Agreement.{Agreement}
 use Rattle.protocol.specs.Calls.{send, refuse, messageOf}
 use Rattle.bench.specs.State.{networkOf}
-use Rattle.bench.specs.Flights.{queueOutcome, sendOf}
+use Rattle.bench.specs.Queue.{queueOutcome, sendOf}
 use Rattle.bench.proofs.RangesSteps.{sent-stays}
 use Rattle.bench.proofs.EntrySettled.{turned-down, goes-on}
-use Rattle.bench.proofs.FlightRanges.{flight-told}
-use Rattle.bench.proofs.FlightCalls.{send-same, SendTold, send-told, sent-numbers, said-same}
+use Rattle.bench.proofs.QueueRanges.{flight-told}
+use Rattle.bench.proofs.QueueCalls.{send-same, SendTold, send-told, sent-numbers, said-same}
 use Rattle.bench.proofs.messages.send_ready.Statement.{statement}
 use Rattle.bench.proofs.messages.send_ready.Tie as tie
 

@@ -3,8 +3,8 @@ use Prim.Native.Nat.{_*_}
 use borrow.Author.Needs.{needs}
 use lib.ListN.{length-set}
 use lib.Dec.{lit<}
-use Rattle.bench.proofs.FlightSteps.{stored-five}
-use Rattle.bench.proofs.FlightReads.{first-fits, first-scaled, first-there, place-fits, place-scaled, place-there}
+use Rattle.bench.proofs.QueueSteps.{stored-five}
+use Rattle.bench.proofs.QueueReads.{first-fits, first-scaled, first-there, place-fits, place-scaled, place-there}
 use Rattle.bench.proofs.queue.put.Statement.{statement}
 use Rattle.bench.proofs.queue.put.Tie as tie
 

@@ -2,7 +2,7 @@
 use native.Mathlib.Omega.{arith}
 use borrow.Author.Needs.{needs}
 use Rattle.agreement.proofs.Ends.{opposite-below}
-use Rattle.bench.proofs.FlightReads.{from-low}
+use Rattle.bench.proofs.QueueReads.{from-low}
 use Rattle.bench.proofs.queue.receiving_end.Statement.{statement}
 use Rattle.bench.proofs.queue.receiving_end.Tie as tie
 

@@ -5,8 +5,8 @@ use native.Mathlib.Omega.{arith}
 use mathlib.Core.Path.{_≡_, refl}
 use lib.ListN.{length, length-set, getD}
 use Rattle.distances.specs.Table.{rewritten}
-use Rattle.bench.specs.Flights.{takenOut}
-use Rattle.bench.proofs.FlightSteps.{between, moved-none, moved-more}
+use Rattle.bench.specs.Queue.{takenOut}
+use Rattle.bench.proofs.QueueSteps.{between, moved-none, moved-more}
 use Rattle.bench.proofs.queue.take_out.Statement.{statement}
 use Rattle.bench.proofs.queue.take_out.Tie as tie
 

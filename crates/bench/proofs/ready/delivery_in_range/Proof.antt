@@ -1,6 +1,6 @@
 -- `ready::delivery_in_range` meets its contract. Each return cites the checks that led to it. Assumes nothing.
 use mathlib.Core.Path.{sym, _∙_}
-use Rattle.bench.proofs.FlightRanges.{bench-told, network-bench}
+use Rattle.bench.proofs.QueueRanges.{bench-told, network-bench}
 use Rattle.bench.proofs.ready.delivery_in_range.Statement.{statement}
 use Rattle.bench.proofs.ready.delivery_in_range.Tie as tie
 

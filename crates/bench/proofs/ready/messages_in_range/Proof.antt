@@ -8,7 +8,7 @@ use Rattle.distances.specs.Call.{allBelow}
 use Rattle.distances.proofs.Ranges.{allBelow-none}
 use Rattle.agreement.proofs.Basics.{all-more}
 use Rattle.bench.specs.Ranges.{messageInRange, messagesInRange}
-use Rattle.bench.proofs.FlightReads.{first-fits, first-scaled, first-there, place-fits, place-scaled, place-there}
+use Rattle.bench.proofs.QueueReads.{first-fits, first-scaled, first-there, place-fits, place-scaled, place-there}
 use Rattle.bench.proofs.LoopSteps.{next-fits, next-low, fewer-left}
 use Rattle.bench.proofs.ready.messages_in_range.Statement.{statement}
 use Rattle.bench.proofs.ready.messages_in_range.Tie as tie

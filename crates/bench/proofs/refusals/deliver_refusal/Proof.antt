@@ -3,7 +3,7 @@ use native.Mathlib.Omega.{arith}
 use borrow.Author.Tests.{lt-ltb, le-ltb}
 use Rattle.distances.proofs.Refusals.{First.none, First.here, First.next, first}
 use Rattle.protocol.specs.Calls.{refuse, checks, noMessage, linkCut}
-use Rattle.bench.proofs.TieFlights.{messages-length, message-at}
+use Rattle.bench.proofs.TieQueue.{messages-length, message-at}
 use Rattle.bench.proofs.refusals.deliver_refusal.Statement.{statement}
 use Rattle.bench.proofs.refusals.deliver_refusal.Tie as tie
 

@@ -2,7 +2,7 @@
 use borrow.Author.Tests.{lt-ltb, le-ltb}
 use Rattle.distances.proofs.Refusals.{First.none, First.here, First.next, first}
 use Rattle.protocol.specs.Calls.{refuse, checks, noMessage}
-use Rattle.bench.proofs.TieFlights.{messages-length}
+use Rattle.bench.proofs.TieQueue.{messages-length}
 use Rattle.bench.proofs.refusals.lose_refusal.Statement.{statement}
 use Rattle.bench.proofs.refusals.lose_refusal.Tie as tie
 

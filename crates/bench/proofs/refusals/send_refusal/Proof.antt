@@ -5,7 +5,7 @@ use borrow.Author.Tests.{lt-ltb, le-ltb, le-leb, lt-leb}
 use Rattle.distances.proofs.Refusals.{First.none, First.here, First.next, first}
 use Rattle.protocol.specs.Calls.{refuse, checks, noSuchBridge, noSuchLink, notOnLink, linkCut, noRoom}
 use Rattle.bench.proofs.EntryChecks.{neither}
-use Rattle.bench.proofs.TieFlights.{messages-length}
+use Rattle.bench.proofs.TieQueue.{messages-length}
 use Rattle.bench.proofs.refusals.send_refusal.Statement.{statement}
 use Rattle.bench.proofs.refusals.send_refusal.Tie as tie
 

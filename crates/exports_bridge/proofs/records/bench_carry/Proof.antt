@@ -1,8 +1,8 @@
 -- `records::bench_carry` meets its contract: what it tests itself, then each case of the reply. Assumes nothing.
 use borrow.Author.Tests.{lt-leb, le-leb}
 use borrow.Author.Needs.{needs}
-use Rattle.numbers.specs.Outcome.{withValue}
-use Rattle.numbers.proofs.Entry.{passed, failed}
+use Rattle.encoding.specs.Replies.{withValue}
+use Rattle.encoding.proofs.Entry.{passed, failed}
 use Rattle.exports_bridge.specs.Call.{carryReply}
 use Rattle.exports_bridge.proofs.records.bench_carry.Statement.{statement}
 use Rattle.exports_bridge.proofs.records.bench_carry.Tie as tie
@@ -30,8 +30,8 @@ enum-told c = search needs
 enum-known-carrying : tie.Need-enum-known-carrying
 enum-known-carrying c = search needs
 
-put-message-requires : tie.Need-put-message-requires
-put-message-requires c κs = search needs
+put-agreement-requires : tie.Need-put-agreement-requires
+put-agreement-requires c κs = search needs
 
 returns-3 : tie.Need-returns-3
 unfolding carryReply withValue
@@ -56,7 +56,7 @@ returns-4 c =
       ← c .before .before .before .before .before .before .before .before .record-at .ensures,
       ← c .before .before .before .before .before .before .before .carry .ensures,
       c .before .before .before .before .before .carrying .given .1,
-      c .before .before .put-message .ensures,
+      c .before .before .put-agreement .ensures,
     )
 
 pub bench-carry-spec : {M : Type 1} → statement M
@@ -70,7 +70,7 @@ bench-carry-spec =
     carry-requires
     enum-told
     enum-known-carrying
-    put-message-requires
+    put-agreement-requires
     returns-3
     same-length
     returns-4)

@@ -1,8 +1,8 @@
 -- `records::bench_deliver_end` meets its contract: what it tests itself, then each case of the reply. Assumes nothing.
 use borrow.Author.Tests.{lt-leb, le-leb}
 use borrow.Author.Needs.{needs}
-use Rattle.numbers.specs.Outcome.{withValue}
-use Rattle.numbers.proofs.Entry.{passed, failed}
+use Rattle.encoding.specs.Replies.{withValue}
+use Rattle.encoding.proofs.Entry.{passed, failed}
 use Rattle.exports_bridge.specs.Call.{deliverReply}
 use Rattle.exports_bridge.proofs.records.bench_deliver_end.Statement.{statement}
 use Rattle.exports_bridge.proofs.records.bench_deliver_end.Tie as tie
@@ -17,28 +17,28 @@ returns : tie.Need-returns
 unfolding deliverReply
 returns c = rw (failed (c .before .holds-record .ensures) (c .if1 .taken))
 
-holds-message-requires : tie.Need-holds-message-requires
-holds-message-requires c κs = search needs
+holds-agreement-requires : tie.Need-holds-agreement-requires
+holds-agreement-requires c κs = search needs
 
 same-length-2 : tie.Need-same-length-2
 same-length-2 c = search needs
 
 returns-2 : tie.Need-returns-2
 unfolding deliverReply
-returns-2 c = rw (passed (c .before .before .before .holds-record .ensures) (c .before .before .if1 .left), failed (c .before .holds-message .ensures) (c .if2 .taken))
+returns-2 c = rw (passed (c .before .before .before .holds-record .ensures) (c .before .before .if1 .left), failed (c .before .holds-agreement .ensures) (c .if2 .taken))
 
 same-length-3 : tie.Need-same-length-3
 same-length-3 c = search needs
 
 returns-3 : tie.Need-returns-3
 unfolding deliverReply
-returns-3 c = rw (passed (c .before .before .before .before .holds-record .ensures) (c .before .before .before .if1 .left), passed (c .before .before .holds-message .ensures) (c .before .if2 .left), lt-leb _ _ (c .if3 .taken))
+returns-3 c = rw (passed (c .before .before .before .before .holds-record .ensures) (c .before .before .before .if1 .left), passed (c .before .before .holds-agreement .ensures) (c .before .if2 .left), lt-leb _ _ (c .if3 .taken))
 
 record-at-requires : tie.Need-record-at-requires
 record-at-requires c κs = search needs
 
-message-in-requires : tie.Need-message-in-requires
-message-in-requires c κs = search needs
+agreement-in-requires : tie.Need-agreement-in-requires
+agreement-in-requires c κs = search needs
 
 deliver-end-requires : tie.Need-deliver-end-requires
 deliver-end-requires c κs = search needs
@@ -69,10 +69,10 @@ unfolding deliverReply withValue
 returns-4 c =
     rw (
       passed (c .before .before .before .before .before .before .before .before .before .before .before .before .before .before .before .before .holds-record .ensures) (c .before .before .before .before .before .before .before .before .before .before .before .before .before .before .before .if1 .left),
-      passed (c .before .before .before .before .before .before .before .before .before .before .before .before .before .before .holds-message .ensures) (c .before .before .before .before .before .before .before .before .before .before .before .before .before .if2 .left),
+      passed (c .before .before .before .before .before .before .before .before .before .before .before .before .before .before .holds-agreement .ensures) (c .before .before .before .before .before .before .before .before .before .before .before .before .before .if2 .left),
       le-leb _ _ (c .before .before .before .before .before .before .before .before .before .before .before .before .if3 .left),
       ← c .before .before .before .before .before .before .before .before .before .before .record-at .ensures,
-      ← c .before .before .before .before .before .before .before .before .before .message-in .ensures,
+      ← c .before .before .before .before .before .before .before .before .before .agreement-in .ensures,
       ← c .before .before .before .before .before .before .deliver-end .ensures,
       c .enum-told .given .1,
     )
@@ -94,10 +94,10 @@ unfolding deliverReply withValue
 returns-5 c =
     rw (
       passed (c .before .before .before .before .before .before .before .before .before .before .before .before .before .before .before .before .before .before .before .before .before .before .before .before .before .holds-record .ensures) (c .before .before .before .before .before .before .before .before .before .before .before .before .before .before .before .before .before .before .before .before .before .before .before .before .if1 .left),
-      passed (c .before .before .before .before .before .before .before .before .before .before .before .before .before .before .before .before .before .before .before .before .before .before .before .holds-message .ensures) (c .before .before .before .before .before .before .before .before .before .before .before .before .before .before .before .before .before .before .before .before .before .before .if2 .left),
+      passed (c .before .before .before .before .before .before .before .before .before .before .before .before .before .before .before .before .before .before .before .before .before .before .before .holds-agreement .ensures) (c .before .before .before .before .before .before .before .before .before .before .before .before .before .before .before .before .before .before .before .before .before .before .if2 .left),
       le-leb _ _ (c .before .before .before .before .before .before .before .before .before .before .before .before .before .before .before .before .before .before .before .before .before .if3 .left),
       ← c .before .before .before .before .before .before .before .before .before .before .before .before .before .before .before .before .before .before .before .record-at .ensures,
-      ← c .before .before .before .before .before .before .before .before .before .before .before .before .before .before .before .before .before .before .message-in .ensures,
+      ← c .before .before .before .before .before .before .before .before .before .before .before .before .before .before .before .before .before .before .agreement-in .ensures,
       ← c .before .before .before .before .before .before .before .before .before .before .before .before .before .before .before .deliver-end .ensures,
       c .before .before .before .before .before .before .before .before .before .reply .given .1,
       c .before .before .before .before .before .before .put-record .ensures,
@@ -111,13 +111,13 @@ bench-deliver-end-spec =
     holds-record-requires
     same-length
     returns
-    holds-message-requires
+    holds-agreement-requires
     same-length-2
     returns-2
     same-length-3
     returns-3
     record-at-requires
-    message-in-requires
+    agreement-in-requires
     deliver-end-requires
     enum-told
     enum-known-reply

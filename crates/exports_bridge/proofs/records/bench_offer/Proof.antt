@@ -1,7 +1,7 @@
 -- `records::bench_offer` meets its contract. Assumes nothing.
 use borrow.Author.Tests.{le-leb, lt-leb}
 use borrow.Author.Needs.{needs}
-use Rattle.numbers.specs.Outcome.{withValue}
+use Rattle.encoding.specs.Replies.{withValue}
 use Rattle.exports_bridge.specs.Call.{offerReply}
 use Rattle.exports_bridge.proofs.records.bench_offer.Statement.{statement}
 use Rattle.exports_bridge.proofs.records.bench_offer.Tie as tie

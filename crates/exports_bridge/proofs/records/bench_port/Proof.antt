@@ -1,8 +1,8 @@
 -- `records::bench_port` meets its contract: what it tests itself, then each case of the reply. Assumes nothing.
 use borrow.Author.Tests.{lt-leb, le-leb}
 use borrow.Author.Needs.{needs}
-use Rattle.numbers.specs.Outcome.{withValue}
-use Rattle.numbers.proofs.Entry.{passed, failed}
+use Rattle.encoding.specs.Replies.{withValue}
+use Rattle.encoding.proofs.Entry.{passed, failed}
 use Rattle.exports_bridge.specs.Call.{portReply}
 use Rattle.exports_bridge.proofs.records.bench_port.Statement.{statement}
 use Rattle.exports_bridge.proofs.records.bench_port.Tie as tie
@@ -37,8 +37,8 @@ enum-told c = search needs
 enum-known-found : tie.Need-enum-known-found
 enum-known-found c = search needs
 
-port-number-requires : tie.Need-port-number-requires
-port-number-requires c κs = search needs
+link-number-requires : tie.Need-link-number-requires
+link-number-requires c κs = search needs
 
 slice-write-out : tie.Need-slice-write-out
 slice-write-out c = search needs
@@ -70,7 +70,7 @@ returns-5 c =
       ← c .before .before .before .before .before .records-in .ensures,
       ← c .before .before .before .before .port .ensures,
       c .before .before .found .given .1,
-      ← c .port-number .ensures,
+      ← c .link-number .ensures,
     )
 
 pub bench-port-spec : {M : Type 1} → statement M
@@ -86,7 +86,7 @@ bench-port-spec =
     port-requires
     enum-told
     enum-known-found
-    port-number-requires
+    link-number-requires
     slice-write-out
     returns-4
     same-length

@@ -1,6 +1,6 @@
 -- `records::bench_update_end` meets its contract. Assumes nothing.
 use borrow.Author.Needs.{needs}
-use Rattle.numbers.proofs.Entry.{passed, failed}
+use Rattle.encoding.proofs.Entry.{passed, failed}
 use Rattle.exports_bridge.specs.Call.{updateReply}
 use Rattle.exports_bridge.proofs.records.bench_update_end.Statement.{statement}
 use Rattle.exports_bridge.proofs.records.bench_update_end.Tie as tie

@@ -5,7 +5,7 @@ use Prim.Native.Nat.{_≤_, _<_, _-_, _+_, _%_}
 use native.Mathlib.Omega.{arith}
 use mathlib.Core.Path.{_≡_, _∙_, refl}
 use lib.ListN.{length, getD}
-use Rattle.numbers.proofs.Filled.{filled, filled-none, filled-more, filled-all}
+use Rattle.encoding.proofs.Filled.{filled, filled-none, filled-more, filled-all}
 use Rattle.exports_network.proofs.benches.agreement_numbers_in.Statement.{statement}
 use Rattle.exports_network.proofs.benches.agreement_numbers_in.Tie as tie
 

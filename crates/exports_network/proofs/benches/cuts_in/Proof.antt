@@ -4,8 +4,8 @@ use Prim.Native.Nat.{_≤_, _<_, _-_, _+_}
 use native.Mathlib.Omega.{arith}
 use mathlib.Core.Path.{_≡_, _∙_, refl}
 use lib.ListN.{length, getD}
-use Rattle.numbers.specs.Numbers.{isSet}
-use Rattle.numbers.proofs.Filled.{filled, filled-none, filled-more, filled-all}
+use Rattle.encoding.specs.Numbers.{isSet}
+use Rattle.encoding.proofs.Filled.{filled, filled-none, filled-more, filled-all}
 use Rattle.exports_network.proofs.benches.cuts_in.Statement.{statement}
 use Rattle.exports_network.proofs.benches.cuts_in.Tie as tie
 

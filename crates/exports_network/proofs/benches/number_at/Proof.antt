@@ -1,5 +1,5 @@
 -- `benches::number_at` meets its contract. Each branch is one of the definition's. Assumes nothing.
-use Rattle.numbers.specs.Numbers.{recordNumbers}
+use Rattle.encoding.specs.Numbers.{recordNumbers}
 use lib.ListN.{length, getD}
 use Prim.Native.Nat.{ℕ, _<_, _-_, _/_, _%_}
 use mathlib.Core.Path.{_≡_}

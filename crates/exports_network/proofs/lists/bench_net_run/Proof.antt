@@ -1,8 +1,8 @@
 -- `lists::bench_net_run` meets its contract. A list that holds no bench or is too short is refused first; else the contracts of the calls
 -- give the outcome. Assumes nothing.
-use Rattle.numbers.proofs.Entry.{passed, failed}
+use Rattle.encoding.proofs.Entry.{passed, failed}
 use Rattle.exports_network.proofs.Room.{room}
-use Rattle.exports_network.specs.Lists.{withMade, countsOf, listedIn, netRunReply}
+use Rattle.exports_network.specs.Lists.{storedIfMade, countsOf, eventsIn, netRunReply}
 use Prim.Native.Nat.{ℕ, _≤_}
 use native.Mathlib.Omega.{arith}
 use mathlib.Core.Path.{_≡_}
@@ -15,7 +15,7 @@ use Rattle.bench.specs.State.{state}
 use Rattle.bench.specs.Batches.{BatchOutcome, refusalIn, batchOf}
 use Rattle.plan.specs.Events.{Listing, bytesBy}
 use Rattle.plan.proofs.EventLaws.{listed}
-use Rattle.numbers.specs.Outcome.{callOutcome}
+use Rattle.encoding.specs.Replies.{callOutcome}
 use Rattle.exports_network.specs.Network.{holdsBench, benchIn}
 use borrow.Author.Needs.{needs}
 use Rattle.exports_network.proofs.lists.bench_net_run.Statement.{statement}
@@ -26,10 +26,10 @@ told-so :
     (xs costs sent held messages rest answers out : List ℕ) {l : Listing} {o : BatchOutcome} {used reply : ℕ} {xs' out' : List ℕ} →
     holdsBench xs ≡ true →
     3 ≤ length out →
-    l ≡ listedIn (benchIn xs) rest answers →
+    l ≡ eventsIn (benchIn xs) rest answers →
     o ≡ batchOf (state (benchIn xs) costs sent held messages) (l .events) (getD (l .ends) 0 0) answers →
     used ≡ bytesBy (l .ends) (o .made) →
-    (reply ≡ refusalIn (o .disposition)) × (xs' ≡ withMade (o .made) (o .state .bench) xs) × (out' ≡ sets out 0 (countsOf (o .made) used (o .answered))) →
+    (reply ≡ refusalIn (o .disposition)) × (xs' ≡ storedIfMade (o .made) (o .state .bench) xs) × (out' ≡ sets out 0 (countsOf (o .made) used (o .answered))) →
     callOutcome reply (xs' ∷ out' ∷ o .state .sent ∷ o .state .held ∷ o .state .messages ∷ o .answers ∷ [])
     ≡ netRunReply xs costs sent held messages rest answers out
 unfolding netRunReply

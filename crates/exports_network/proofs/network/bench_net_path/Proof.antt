@@ -1,10 +1,10 @@
 -- `network::bench_net_path` meets its contract. A list that holds no bench or is too short is refused first; else the call's own
 -- contract, over the bench that was read, gives the outcome. Assumes nothing.
 use Rattle.exports_network.specs.Network.{netPathReply}
-use Rattle.numbers.specs.Outcome.{withValue}
+use Rattle.encoding.specs.Replies.{withValue}
 use borrow.Author.Tests.{lt-leb, le-leb}
 use borrow.Author.Needs.{needs}
-use Rattle.numbers.proofs.Entry.{passed, failed}
+use Rattle.encoding.proofs.Entry.{passed, failed}
 use Rattle.exports_network.proofs.Room.{room}
 use Rattle.exports_network.proofs.network.bench_net_path.Statement.{statement}
 use Rattle.exports_network.proofs.network.bench_net_path.Tie as tie

@@ -1,10 +1,10 @@
 -- `network::bench_net_port` meets its contract. A list that holds no bench or is too short is refused first; else the call's own
 -- contract, over the bench that was read, gives the outcome. Assumes nothing.
 use Rattle.exports_network.specs.Network.{netPortReply}
-use Rattle.numbers.specs.Outcome.{withValue}
+use Rattle.encoding.specs.Replies.{withValue}
 use borrow.Author.Tests.{lt-leb, le-leb}
 use borrow.Author.Needs.{needs}
-use Rattle.numbers.proofs.Entry.{passed, failed}
+use Rattle.encoding.proofs.Entry.{passed, failed}
 use Rattle.exports_network.proofs.Room.{room}
 use Rattle.exports_network.proofs.network.bench_net_port.Statement.{statement}
 use Rattle.exports_network.proofs.network.bench_net_port.Tie as tie
@@ -32,8 +32,8 @@ enum-known-found c = search needs
 enum-known-found-2 : tie.Need-enum-known-found-2
 enum-known-found-2 c = search needs
 
-port-number-requires : tie.Need-port-number-requires
-port-number-requires c κs = search needs
+link-number-requires : tie.Need-link-number-requires
+link-number-requires c κs = search needs
 
 slice-write-out : tie.Need-slice-write-out
 slice-write-out c = search needs
@@ -47,7 +47,7 @@ same-length c = search needs
 
 returns-4 : tie.Need-returns-4
 unfolding netPortReply withValue
-returns-4 c = rw (passed (c .before .before .before .before .before .before .before .before .holds .ensures) (c .before .before .before .before .before .before .before .if1 .left), le-leb _ _ (c .before .before .before .before .before .before .if2 .left), ← c .before .before .before .before .before .load .ensures, ← c .before .before .before .before .port .ensures, c .before .before .found2 .given .1, ← c .port-number .ensures)
+returns-4 c = rw (passed (c .before .before .before .before .before .before .before .before .holds .ensures) (c .before .before .before .before .before .before .before .if1 .left), le-leb _ _ (c .before .before .before .before .before .before .if2 .left), ← c .before .before .before .before .before .load .ensures, ← c .before .before .before .before .port .ensures, c .before .before .found2 .given .1, ← c .link-number .ensures)
 
 pub bench-net-port-spec : {M : Type 1} → statement M
 bench-net-port-spec =
@@ -60,7 +60,7 @@ bench-net-port-spec =
     port-requires
     enum-known-found
     enum-known-found-2
-    port-number-requires
+    link-number-requires
     slice-write-out
     returns-3
     same-length

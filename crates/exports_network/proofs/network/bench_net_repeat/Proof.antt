@@ -3,7 +3,7 @@
 use Rattle.exports_network.specs.Network.{netRepeatReply}
 use borrow.Author.Tests.{lt-leb, le-leb}
 use borrow.Author.Needs.{needs}
-use Rattle.numbers.proofs.Entry.{passed, failed}
+use Rattle.encoding.proofs.Entry.{passed, failed}
 use Rattle.exports_network.proofs.Room.{room}
 use Rattle.exports_network.proofs.network.bench_net_repeat.Statement.{statement}
 use Rattle.exports_network.proofs.network.bench_net_repeat.Tie as tie

@@ -2,7 +2,7 @@
 -- own contract, over the bench that was read, gives the outcome. Assumes nothing.
 use Rattle.exports_network.specs.Network.{netUpdateReply}
 use borrow.Author.Needs.{needs}
-use Rattle.numbers.proofs.Entry.{passed, failed}
+use Rattle.encoding.proofs.Entry.{passed, failed}
 use Rattle.exports_network.proofs.Room.{room}
 use Rattle.exports_network.proofs.network.bench_net_update.Statement.{statement}
 use Rattle.exports_network.proofs.network.bench_net_update.Tie as tie

@@ -1,7 +1,7 @@
 -- `network::settle_delivery` meets its contract. The bench and the answer are stored where there is an answer. Assumes nothing.
 use mathlib.Core.Path.{_≡_, refl}
 use Rattle.exports_network.specs.Network.{withAnswered}
-use Rattle.numbers.specs.Outcome.{withValue}
+use Rattle.encoding.specs.Replies.{withValue}
 use borrow.Author.Needs.{needs}
 use Rattle.exports_network.proofs.network.settle_delivery.Statement.{statement}
 use Rattle.exports_network.proofs.network.settle_delivery.Tie as tie

@@ -6,7 +6,7 @@ use Rattle.exports_network.specs.SliceCalls.{followed, sliceDeliverReply
 use lib.ListN.{take-append-drop}
 use borrow.Author.Tests.{lt-leb, le-leb}
 use borrow.Author.Needs.{needs}
-use Rattle.numbers.proofs.Entry.{passed, failed}
+use Rattle.encoding.proofs.Entry.{passed, failed}
 use Rattle.exports_network.proofs.Room.{room}
 use Rattle.exports_network.proofs.slices.bench_slice_deliver.Statement.{statement}
 use Rattle.exports_network.proofs.slices.bench_slice_deliver.Tie as tie

@@ -218,13 +218,13 @@ module _ {M : Type 1} (𝓤 : URA M) (H : Heap 𝓤) (A : Atoms 𝓤) (W : Given
         (fact 𝓤 (length ns ≡ 320)) sized (factI 𝓤 (length ns ≡ 320) (emp 𝓤) z)
 
     -- what is known once it has returned w, with the last numbers ms
-    abbrev RanWith : Val → Answer → List ℕ → Type 0
-    RanWith w y ms = RunsHere (took size ns) y (took size ms) × Returned y w
+    abbrev RunWith : Val → Answer → List ℕ → Type 0
+    RunWith w y ms = RunsHere (took size ns) y (took size ms) × Returned y w
 
     leaves :
         (ν : ℕ) (δ : GName) (w : Val) →
         ent 𝓤 (RunNumbers 𝓤 H A mem run .post (to-run ν δ) w)
-        (H .⇛ (ex 𝓤 (λ (y : Answer). ex 𝓤 (λ (ms : List ℕ). guard 𝓤 (RanWith w y ms) (sep 𝓤 (sem 𝓤 H A (finally u32 δ ms)) (sep 𝓤 (A .lft (ν ∷ []) fullShare) (mean 𝓤 H A (Left y))))))))
+        (H .⇛ (ex 𝓤 (λ (y : Answer). ex 𝓤 (λ (ms : List ℕ). guard 𝓤 (RunWith w y ms) (sep 𝓤 (sem 𝓤 H A (finally u32 δ ms)) (sep 𝓤 (A .lft (ν ∷ []) fullShare) (mean 𝓤 H A (Left y))))))))
     leaves ν δ w =
         qed W (raw (RunNumbers 𝓤 H A mem run .post (to-run ν δ) w) ∷ []) ∵ updating ! $
         use1 W (later (some (λ (r : BatchResult). (AllToks (ν ∷ []) fullShare ⊛ ‵ (R.the-row .own r (w ∷ []))) ⊛ raw (ensured 𝓤 H A run-numbers.ended (run-numbers.clauses 𝓤 H A mem run) (batch.with-messages 𝓤 H A κs′ qs′ c s e κₐ qₐ a (ν ∷ [])) (handed δ) tt r)))) (id⊢ 𝓤 _) $ await ! tt $ pick ! (λ r.
@@ -233,8 +233,8 @@ module _ {M : Type 1} (𝓤 : URA M) (H : Heap 𝓤) (A : Atoms 𝓤) (W : Given
         split ! $ move ! (1 ∷ []) $ heard ! (RunsHere (took size ns) (answered r ws) (took size (ws .1 .1 .1 .1 .0))) (λ f.
         use2 W (given (Returned (answered r ws) w) (‵ (finally u32 δ (ws .1 .1 .1 .1 .0)) ⊛ ‵ (flft (ν ∷ []) fullShare) ⊛ Left (answered r ws)))
         (batch.gets 𝓤 H A κs′ qs′ c s e κₐ qₐ a W u32 (at-list u32 320 l δ ns) (ν ∷ []) fullShare (answered r ws) w (ws .1 .1 .1 .1 .0) (fsep ftrue ftrue)) $ learn ! (λ m. at-once ! $
-        show ! (λ (y : Answer). ex 𝓤 (λ (ms : List ℕ). guard 𝓤 (RanWith w y ms) (sep 𝓤 (sem 𝓤 H A (finally u32 δ ms)) (sep 𝓤 (A .lft (ν ∷ []) fullShare) (mean 𝓤 H A (Left y)))))) (answered r ws) $
-        show ! (λ (ms : List ℕ). guard 𝓤 (RanWith w (answered r ws) ms) (sep 𝓤 (sem 𝓤 H A (finally u32 δ ms)) (sep 𝓤 (A .lft (ν ∷ []) fullShare) (mean 𝓤 H A (Left (answered r ws)))))) (ws .1 .1 .1 .1 .0) $
+        show ! (λ (y : Answer). ex 𝓤 (λ (ms : List ℕ). guard 𝓤 (RunWith w y ms) (sep 𝓤 (sem 𝓤 H A (finally u32 δ ms)) (sep 𝓤 (A .lft (ν ∷ []) fullShare) (mean 𝓤 H A (Left y)))))) (answered r ws) $
+        show ! (λ (ms : List ℕ). guard 𝓤 (RunWith w (answered r ws) ms) (sep 𝓤 (sem 𝓤 H A (finally u32 δ ms)) (sep 𝓤 (A .lft (ν ∷ []) fullShare) (mean 𝓤 H A (Left (answered r ws)))))) (ws .1 .1 .1 .1 .0) $
         check ! (f, m) $ done !))))
 
   -- what the callees say, as the contract has it
@@ -295,8 +295,8 @@ module _ {M : Type 1} (𝓤 : URA M) (H : Heap 𝓤) (A : Atoms 𝓤) (W : Given
         -- [what is asked; Kept; the lender's part; what the messages own; their token; _28; …; (_9's right to be freed); _8; …]
         calls-at ! fm (RunNumbers 𝓤 H A mem run) known-run (to-run l₉ ns z ν′ δ′)
         (and-then ! (load ! (from ! (stop !)) (look ! 58 refl)) (and-then ! (load ! (from ! (stop !)) (look ! 56 refl)) (and-then ! (load ! (from ! (stop !)) (look ! 29 refl)) (and-then ! (load ! (from ! (stop !)) (look ! 25 refl)) (and-then ! (load ! (from ! (stop !)) (look ! 21 refl)) (and-then ! (load ! (from ! (stop !)) (look ! 48 refl)) (and-then ! (load ! (from ! (stop !)) (look ! 46 refl)) (and-then ! (load ! (from ! (stop !)) (look ! 17 refl)) (and-then ! (load ! (from ! (stop !)) (look ! 41 refl)) (no-more !)))))))))) (λ w.
-        move ! (0 ∷ 2 ∷ []) $ use2 W (later (some (λ (y : Answer). some (λ (ms : List ℕ). given (RanWith l₉ ns z w y ms × (length ms ≡ 320)) (‵ (rowOf u32 320 ms l₉) ⊛ Left y)))))
-        (array.back the-numbers 𝓤 H A W l₉ ν′ (RunNumbers 𝓤 H A mem run .post (to-run l₉ ns z ν′ δ′) w) δ′ (RanWith l₉ ns z w) Left (leaves l₉ ns z ν′ δ′ w)) $ await ! tt $ pick ! (λ y. pick ! (λ ms. learn ! (λ f. split ! $
+        move ! (0 ∷ 2 ∷ []) $ use2 W (later (some (λ (y : Answer). some (λ (ms : List ℕ). given (RunWith l₉ ns z w y ms × (length ms ≡ 320)) (‵ (rowOf u32 320 ms l₉) ⊛ Left y)))))
+        (array.back the-numbers 𝓤 H A W l₉ ν′ (RunNumbers 𝓤 H A mem run .post (to-run l₉ ns z ν′ δ′) w) δ′ (RunWith l₉ ns z w) Left (leaves l₉ ns z ν′ δ′ w)) $ await ! tt $ pick ! (λ y. pick ! (λ ms. learn ! (λ f. split ! $
         move ! (1 ∷ []) $ split ! $ move ! (2 ∷ 4 ∷ 5 ∷ 0 ∷ 1 ∷ 3 ∷ []) $
         -- [the local's numbers; what the messages own; their token; Toks; LastLists; Kept; _28; …]
         land ! (from ! (stop !)) (init ! 40 refl (LL.lawful R.the-type R′.the-laws 𝓤 H A W .typed (y .0) _ (f .0 .1 .1) .0)) $

@@ -57,8 +57,8 @@ use Rattle.messages.specs.declared.Message.{Message}
 use Rattle.messages.specs.Slices.{numbersIn, flight}
 use Rattle.messages.proofs.Message as T
 use Rattle.messages.proofs.Message.Laws as T′
-use Rattle.messages.proofs.batches.MessageBatchResult as P
-use Rattle.messages.proofs.batches.MessageBatchResult.Laws as P′
+use Rattle.messages.proofs.batches.BatchAndMessages as P
+use Rattle.messages.proofs.batches.BatchAndMessages.Laws as P′
 use Rattle.messages.proofs.LocalArray as array
 use Rattle.messages.proofs.LocalArray.{arrayTy, rowOf, at-list}
 use Rattle.messages.proofs.LimitsCall as limits
@@ -189,13 +189,13 @@ module _ {M : Type 1} (𝓤 : URA M) (H : Heap 𝓤) (A : Atoms 𝓤) (W : Given
     goes ν δ = batch.hands 𝓤 H A κs′ qs′ c s e κₐ qₐ a W h hv h-is events ev ev-is n n-fits (ν ∷ []) fullShare (array.Writes T.the-row 64 (named 0) (ν ∷ []) b δ ys) ftrue (emp 𝓤) (id⊢ 𝓤 _) (id⊢ 𝓤 _)
 
     -- what is known once it has returned w, with the last messages zs
-    abbrev RanWith : Val → Answer → List Message → Type 0
-    RanWith w y zs = RunsHere (flight ys) y (flight zs) × Returned y w
+    abbrev RunWith : Val → Answer → List Message → Type 0
+    RunWith w y zs = RunsHere (flight ys) y (flight zs) × Returned y w
 
     leaves :
         (ν : ℕ) (δ : GName) (w : Val) →
         ent 𝓤 (Run 𝓤 H A mem run .post (to-run ν δ) w)
-        (H .⇛ (ex 𝓤 (λ (y : Answer). ex 𝓤 (λ (zs : List Message). guard 𝓤 (RanWith w y zs) (sep 𝓤 (sem 𝓤 H A (finally T.the-row δ zs)) (sep 𝓤 (A .lft (ν ∷ []) fullShare) (mean 𝓤 H A (Left y))))))))
+        (H .⇛ (ex 𝓤 (λ (y : Answer). ex 𝓤 (λ (zs : List Message). guard 𝓤 (RunWith w y zs) (sep 𝓤 (sem 𝓤 H A (finally T.the-row δ zs)) (sep 𝓤 (A .lft (ν ∷ []) fullShare) (mean 𝓤 H A (Left y))))))))
     leaves ν δ w =
         qed W (raw (Run 𝓤 H A mem run .post (to-run ν δ) w) ∷ []) ∵ updating ! $
         use1 W (later (some (λ (r : BatchResult). (batch.AllToks 𝓤 H A κs′ qs′ c s e κₐ qₐ a (ν ∷ []) fullShare ⊛ ‵ (R.the-row .own r (w ∷ []))) ⊛ raw (ensured 𝓤 H A called.ended (called.clauses 𝓤 H A mem run) (batch.with-messages 𝓤 H A κs′ qs′ c s e κₐ qₐ a (ν ∷ [])) (handed δ) tt r)))) (id⊢ 𝓤 _) $ await ! tt $ pick ! (λ r.
@@ -204,8 +204,8 @@ module _ {M : Type 1} (𝓤 : URA M) (H : Heap 𝓤) (A : Atoms 𝓤) (W : Given
         split ! $ move ! (1 ∷ []) $ split ! $ heard ! (RunsHere (flight ys) (answered r ws) (flight (ws .1 .1 .1 .1 .0))) (λ f. drop ! $
         use2 W (given (Returned (answered r ws) w) (‵ (finally T.the-row δ (ws .1 .1 .1 .1 .0)) ⊛ ‵ (flft (ν ∷ []) fullShare) ⊛ Left (answered r ws)))
         (batch.gets 𝓤 H A κs′ qs′ c s e κₐ qₐ a W T.the-row (at-list T.the-row 64 b δ ys) (ν ∷ []) fullShare (answered r ws) w (ws .1 .1 .1 .1 .0) ftrue) $ learn ! (λ m. at-once ! $
-        show ! (λ (y : Answer). ex 𝓤 (λ (zs : List Message). guard 𝓤 (RanWith w y zs) (sep 𝓤 (sem 𝓤 H A (finally T.the-row δ zs)) (sep 𝓤 (A .lft (ν ∷ []) fullShare) (mean 𝓤 H A (Left y)))))) (answered r ws) $
-        show ! (λ (zs : List Message). guard 𝓤 (RanWith w (answered r ws) zs) (sep 𝓤 (sem 𝓤 H A (finally T.the-row δ zs)) (sep 𝓤 (A .lft (ν ∷ []) fullShare) (mean 𝓤 H A (Left (answered r ws)))))) (ws .1 .1 .1 .1 .0) $
+        show ! (λ (y : Answer). ex 𝓤 (λ (zs : List Message). guard 𝓤 (RunWith w y zs) (sep 𝓤 (sem 𝓤 H A (finally T.the-row δ zs)) (sep 𝓤 (A .lft (ν ∷ []) fullShare) (mean 𝓤 H A (Left y)))))) (answered r ws) $
+        show ! (λ (zs : List Message). guard 𝓤 (RunWith w (answered r ws) zs) (sep 𝓤 (sem 𝓤 H A (finally T.the-row δ zs)) (sep 𝓤 (A .lft (ν ∷ []) fullShare) (mean 𝓤 H A (Left (answered r ws)))))) (ws .1 .1 .1 .1 .0) $
         check ! (f, m) $ done !))))
 
   -- what the callee says, as the contract has it
@@ -251,8 +251,8 @@ module _ {M : Type 1} (𝓤 : URA M) (H : Heap 𝓤) (A : Atoms 𝓤) (W : Given
         -- [what is asked; Kept; the lender's part; _19; …; (_9's right to be freed); _8; …]
         calls-at ! fm (Run 𝓤 H A mem run) known-run (to-run l₉ ν δ)
         (and-then ! (load ! (from ! (stop !)) (look ! 38 refl)) (and-then ! (load ! (from ! (stop !)) (look ! 36 refl)) (and-then ! (load ! (from ! (stop !)) (look ! 17 refl)) (and-then ! (load ! (from ! (stop !)) (look ! 13 refl)) (and-then ! (load ! (from ! (stop !)) (look ! 9 refl)) (and-then ! (load ! (from ! (stop !)) (look ! 28 refl)) (and-then ! (load ! (from ! (stop !)) (look ! 26 refl)) (and-then ! (load ! (from ! (stop !)) (look ! 5 refl)) (no-more !))))))))) (λ w.
-        move ! (0 ∷ 2 ∷ []) $ use2 W (later (some (λ (y : Answer). some (λ (zs : List Message). given (RanWith l₉ w y zs × (length zs ≡ 64)) (‵ (rowOf T.the-row 64 zs l₉) ⊛ Left y)))))
-        (array.back messages 𝓤 H A W l₉ ν (Run 𝓤 H A mem run .post (to-run l₉ ν δ) w) δ (RanWith l₉ w) Left (leaves l₉ ν δ w)) $ await ! tt $ pick ! (λ y. pick ! (λ zs. learn ! (λ f. split ! $
+        move ! (0 ∷ 2 ∷ []) $ use2 W (later (some (λ (y : Answer). some (λ (zs : List Message). given (RunWith l₉ w y zs × (length zs ≡ 64)) (‵ (rowOf T.the-row 64 zs l₉) ⊛ Left y)))))
+        (array.back messages 𝓤 H A W l₉ ν (Run 𝓤 H A mem run .post (to-run l₉ ν δ) w) δ (RunWith l₉ w) Left (leaves l₉ ν δ w)) $ await ! tt $ pick ! (λ y. pick ! (λ zs. learn ! (λ f. split ! $
         use1 W (some (λ (u : Val). given (Is Messages zs (u ∷ [])) (‵ (fat fullShare (arrayTy T.the-row 64) l₉ 0 u)))) (array.whole messages 𝓤 H A W l₉ zs (f .1)) $ pick ! (λ u. learn ! (λ u-is. move ! (1 ∷ []) $ split ! $ move ! (0 ∷ 1 ∷ 3 ∷ 2 ∷ []) $
         -- [Toks; LastLists; Kept; _9; _19; …; and so on to _10; …; (_9's right to be freed); _8; …]
         land ! (from ! (stop !)) (init ! 22 refl (LL.lawful R.the-type R′.the-laws 𝓤 H A W .typed (y .0) _ (f .0 .1 .1) .0)) $

@@ -40,13 +40,13 @@ use denote.Triple.Walked.{Stays, stay-none, stay-none-slice, gave-slice, walkOf,
 use denote.Exit.{yes}
 use denote.Signature.{plain}
 use Rattle.bench.specs.declared.Bench.{Bench}
-use Rattle.bench.specs.declared.Delivered.{Delivered}
+use Rattle.bench.specs.declared.DeliveryResult.{DeliveryResult}
 use Rattle.bench.specs.State.{state}
 use Rattle.bench.specs.Deliveries.{reactionSays, deliveryOutcome, deliverOf}
 use Rattle.bench.proofs.Bench as B
 use Rattle.bench.proofs.Bench.Laws as B′
-use Rattle.bench.proofs.Delivered as R
-use Rattle.bench.proofs.Delivered.Laws as R′
+use Rattle.bench.proofs.DeliveryResult as R
+use Rattle.bench.proofs.DeliveryResult.Laws as R′
 use Rattle.messages.specs.declared.Message.{Message}
 use Rattle.messages.specs.declared.decisions.Decided.{Decided}
 use Rattle.messages.specs.Slices.{flight}
@@ -90,7 +90,7 @@ stayed = (
 )
 
 -- what `decide_deliver` ensures of its result and of the limit tables
-abbrev Delivers : Bench → List ℕ → List ℕ → List ℕ → List ℕ → ℕ → Delivered → List ℕ → List ℕ → List ℕ → Type 0
+abbrev Delivers : Bench → List ℕ → List ℕ → List ℕ → List ℕ → ℕ → DeliveryResult → List ℕ → List ℕ → List ℕ → Type 0
 Delivers h costs sent held m p r ss hs zs =
     deliveryOutcome (reactionSays (r .reply)) (r .bench) ss hs zs ≡ deliverOf (state h costs sent held m) p
 

@@ -41,7 +41,7 @@ use denote.Exit.{yes}
 use denote.Signature.{plain}
 use Rattle.bench.specs.declared.Bench.{Bench}
 use Rattle.bench.specs.Changes.{number, NoZero}
-use Rattle.bench.specs.Flights.{queueOutcome, loseOf}
+use Rattle.bench.specs.Queue.{queueOutcome, loseOf}
 use Rattle.bench.proofs.Bench as B
 use Rattle.bench.proofs.Bench.Laws as B′
 use Rattle.bench.proofs.Changed as R

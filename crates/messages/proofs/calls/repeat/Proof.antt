@@ -38,13 +38,13 @@ use denote.Triple.Walked.{says, Stays, stay-none, stay-none-slice, gave-slice, w
 use denote.Exit.{yes}
 use denote.Signature.{plain}
 use Rattle.bench.specs.declared.Bench.{Bench}
-use Rattle.bench.specs.declared.Delivered.{Delivered}
+use Rattle.bench.specs.declared.DeliveryResult.{DeliveryResult}
 use Rattle.bench.specs.State.{state}
 use Rattle.bench.specs.Deliveries.{reactionSays, deliveryOutcome, repeatOf}
 use Rattle.bench.proofs.Bench as B
 use Rattle.bench.proofs.Bench.Laws as B′
-use Rattle.bench.proofs.Delivered as R
-use Rattle.bench.proofs.Delivered.Laws as R′
+use Rattle.bench.proofs.DeliveryResult as R
+use Rattle.bench.proofs.DeliveryResult.Laws as R′
 use Rattle.messages.specs.declared.Message.{Message}
 use Rattle.messages.specs.Slices.{flight}
 use Rattle.messages.specs.Steps.{took}
@@ -77,7 +77,7 @@ stayed = (
 )
 
 -- what `decide_repeat` ensures of its result and of the limit tables
-abbrev Repeats : Bench → List ℕ → List ℕ → List ℕ → List ℕ → ℕ → Delivered → List ℕ → List ℕ → Type 0
+abbrev Repeats : Bench → List ℕ → List ℕ → List ℕ → List ℕ → ℕ → DeliveryResult → List ℕ → List ℕ → Type 0
 Repeats h costs sent held m p r ss hs =
     deliveryOutcome (reactionSays (r .reply)) (r .bench) ss hs m ≡ repeatOf (state h costs sent held m) p
 
@@ -145,12 +145,12 @@ module _ {M : Type 1} (𝓤 : URA M) (H : Heap 𝓤) (A : Atoms 𝓤) (W : Given
   to-decide ns v = ((κs′, qs′, tt, args ns, (hv ∷ [], (slice-vals c, (slice-vals s, (slice-vals l, (v ∷ [], (vint w64 (length (x .now)) ∷ [], (vint w64 p ∷ [], tt)))))))), tt)
 
   -- what the callees say, as the contract has it
-  repeated : (ns : List ℕ) (r : Delivered) (ss hs : List ℕ) → took (length (x .now)) ns ≡ flight (x .now)
+  repeated : (ns : List ℕ) (r : DeliveryResult) (ss hs : List ℕ) → took (length (x .now)) ns ≡ flight (x .now)
       → Repeats h (c .now) (s .now) (l .now) (took (length (x .now)) ns) p r ss hs → Repeats h (c .now) (s .now) (l .now) (flight (x .now)) p r ss hs
   repeated ns r ss hs e f = subst (λ (m : List ℕ). Repeats h (c .now) (s .now) (l .now) m p r ss hs) e f
 
   exits :
-      (r : Delivered) (w : Val) (ss hs : List ℕ) → Is R.the-row r (w ∷ []) → Repeats h (c .now) (s .now) (l .now) (flight (x .now)) p r ss hs
+      (r : DeliveryResult) (w : Val) (ss hs : List ℕ) → Is R.the-row r (w ∷ []) → Repeats h (c .now) (s .now) (l .now) (flight (x .now)) p r ss hs
       → limits.SameLengths 𝓤 H A κs′ qs′ c s l ss hs
       → ent 𝓤 (⋆ 𝓤 H A (Toks ∷ LastLists ss hs ∷ Kept ∷ ‵ (flft κ q) ∷ ‵ Messages ∷ [])) (Post w)
   exits r w ss hs is e n =
@@ -188,7 +188,7 @@ module _ {M : Type 1} (𝓤 : URA M) (H : Heap 𝓤) (A : Atoms 𝓤) (W : Given
         move ! (2 ∷ []) $ use1 W (raw (DecideRepeat 𝓤 H A mem run .pre (to-decide ns v)) ⊛ Kept) (limits.hands-numbers 𝓤 H A κs′ qs′ c s l W h hv h-is p p-fits ns v (g .1) (length (x .now)) (x-room .0)) $ split ! $
         calls-at ! fm (DecideRepeat 𝓤 H A mem run) known-decide (to-decide ns v)
         (and-then ! (load ! (from ! (stop !)) (look ! 26 refl)) (and-then ! (load ! (from ! (stop !)) (look ! 24 refl)) (and-then ! (load ! (from ! (stop !)) (look ! 10 refl)) (and-then ! (load ! (from ! (stop !)) (look ! 6 refl)) (and-then ! (load ! (from ! (stop !)) (look ! 14 refl)) (and-then ! (load ! (from ! (stop !)) (look ! 4 refl)) (and-then ! (load ! (from ! (stop !)) (look ! 16 refl)) (no-more !)))))))) (λ w.
-        use1 W (later (some (λ (r : Delivered). (Toks ⊛ ‵ (R.the-row .own r (w ∷ []))) ⊛ raw (ensured 𝓤 H A decide-repeat.ended (decide-repeat.clauses 𝓤 H A mem run) κs′ (args ns) tt r)))) (id⊢ 𝓤 _) $ await ! tt $ pick ! (λ r.
+        use1 W (later (some (λ (r : DeliveryResult). (Toks ⊛ ‵ (R.the-row .own r (w ∷ []))) ⊛ raw (ensured 𝓤 H A decide-repeat.ended (decide-repeat.clauses 𝓤 H A mem run) κs′ (args ns) tt r)))) (id⊢ 𝓤 _) $ await ! tt $ pick ! (λ r.
         split ! $ move ! (1 ∷ []) $ use1 W (some (λ (ws : Lasting). ‵ (lasts decide-repeat.ended κs′ (args ns) ws) ⊛ raw (fact 𝓤 (Repeats h (c .now) (s .now) (l .now) (took (length (x .now)) ns) p r (ws .1 .1 .0) (ws .1 .1 .1 .0))))) (id⊢ 𝓤 _) $ pick ! (λ ws.
         split ! $ move ! (1 ∷ []) $ heard ! (Repeats h (c .now) (s .now) (l .now) (took (length (x .now)) ns) p r (ws .1 .1 .0) (ws .1 .1 .1 .0)) (λ e.
         use1 W (given (limits.SameLengths 𝓤 H A κs′ qs′ c s l (ws .1 .1 .0) (ws .1 .1 .1 .0)) (LastLists (ws .1 .1 .0) (ws .1 .1 .1 .0) ⊛ ‵ limits.nones))

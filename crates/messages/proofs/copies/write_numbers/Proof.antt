@@ -3,7 +3,7 @@ use Prim.Native.Nat.{_*_}
 use native.Mathlib.Omega.{arith}
 use borrow.Author.Needs.{needs}
 use lib.ListN.{length-set}
-use Rattle.bench.proofs.FlightSteps.{stored-five}
+use Rattle.bench.proofs.QueueSteps.{stored-five}
 use Rattle.messages.specs.Slices.{numbersIn}
 use Rattle.messages.proofs.copies.write_numbers.Statement.{statement}
 use Rattle.messages.proofs.copies.write_numbers.Tie as tie

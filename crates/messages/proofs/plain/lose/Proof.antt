@@ -43,7 +43,7 @@ use denote.Exit.{yes}
 use Rattle.bench.specs.declared.Bench.{Bench}
 use Rattle.bench.specs.declared.Changed.{Changed}
 use Rattle.bench.specs.Changes.{number, NoZero}
-use Rattle.bench.specs.Flights.{queueOutcome, loseOf}
+use Rattle.bench.specs.Queue.{queueOutcome, loseOf}
 use Rattle.bench.proofs.Bench as B
 use Rattle.bench.proofs.Bench.Laws as B′
 use Rattle.bench.proofs.Changed as R

@@ -42,13 +42,13 @@ use denote.Triple.Walked.{says, Stays, stay-none, stay-none-slice, gave-slice, w
 use denote.Exit.{yes}
 use denote.Signature.{plain}
 use Rattle.bench.specs.declared.Bench.{Bench}
-use Rattle.bench.specs.declared.Delivered.{Delivered}
+use Rattle.bench.specs.declared.DeliveryResult.{DeliveryResult}
 use Rattle.bench.specs.State.{state}
 use Rattle.bench.specs.Deliveries.{reactionSays, deliveryOutcome, repeatOf}
 use Rattle.bench.proofs.Bench as B
 use Rattle.bench.proofs.Bench.Laws as B′
-use Rattle.bench.proofs.Delivered as R
-use Rattle.bench.proofs.Delivered.Laws as R′
+use Rattle.bench.proofs.DeliveryResult as R
+use Rattle.bench.proofs.DeliveryResult.Laws as R′
 use Rattle.messages.specs.declared.Message.{Message}
 use Rattle.messages.specs.Slices.{flight}
 use Rattle.messages.proofs.Message as T
@@ -82,7 +82,7 @@ stayed = (
 )
 
 -- what is said of the answer r and of the limit tables' last lists, where the messages' numbers are m
-abbrev Repeats : Bench → List ℕ → List ℕ → List ℕ → List ℕ → ℕ → Delivered → List ℕ → List ℕ → Type 0
+abbrev Repeats : Bench → List ℕ → List ℕ → List ℕ → List ℕ → ℕ → DeliveryResult → List ℕ → List ℕ → Type 0
 Repeats h costs sent held m p r ss es = deliveryOutcome (reactionSays (r .reply)) (r .bench) ss es m ≡ repeatOf (state h costs sent held m) p
 
 -- the last values of `calls::repeat`'s parameters: those of the limit tables are lists
@@ -91,7 +91,7 @@ Lasting = Unit {0} × (Unit {0} × (List ℕ × (List ℕ × (Unit {0} × (Unit 
 
 -- an answer, with the limit tables' last lists
 abbrev Answer : Type 0
-Answer = Delivered × (List ℕ × List ℕ)
+Answer = DeliveryResult × (List ℕ × List ℕ)
 
 -- the contract that the proof cites
 abbrev Repeat : {M : Type 1} (𝓤 : URA M) (H : Heap 𝓤) (A : Atoms 𝓤) (mem : Memory → SProp 𝓤) (run : Routine → Fun 𝓤) → Contract 𝓤
@@ -150,7 +150,7 @@ module _ {M : Type 1} (𝓤 : URA M) (H : Heap 𝓤) (A : Atoms 𝓤) (W : Given
         ent 𝓤 (Repeat 𝓤 H A mem run .post (to-repeat ν δ) w) (H .⇛ (ex 𝓤 (λ (x : Answer). guard 𝓤 (Repeated w x) (sep 𝓤 (A .lft (ν ∷ []) fullShare) (mean 𝓤 H A (Left x))))))
     leaves ν δ w =
         qed W (raw (Repeat 𝓤 H A mem run .post (to-repeat ν δ) w) ∷ []) ∵ updating ! $
-        use1 W (later (some (λ (r : Delivered). (limits.AllToks 𝓤 H A κs qs c s e (ν ∷ []) fullShare ⊛ ‵ (R.the-row .own r (w ∷ []))) ⊛ raw (ensured 𝓤 H A called.ended (called.clauses 𝓤 H A mem run) (limits.with-last 𝓤 H A κs qs c s e (ν ∷ [])) (args δ) tt r)))) (id⊢ 𝓤 _) $ await ! tt $ pick ! (λ r.
+        use1 W (later (some (λ (r : DeliveryResult). (limits.AllToks 𝓤 H A κs qs c s e (ν ∷ []) fullShare ⊛ ‵ (R.the-row .own r (w ∷ []))) ⊛ raw (ensured 𝓤 H A called.ended (called.clauses 𝓤 H A mem run) (limits.with-last 𝓤 H A κs qs c s e (ν ∷ [])) (args δ) tt r)))) (id⊢ 𝓤 _) $ await ! tt $ pick ! (λ r.
         split ! $ move ! (1 ∷ []) $
         use1 W (some (λ (ws : Lasting). ‵ (lasts called.ended (limits.with-last 𝓤 H A κs qs c s e (ν ∷ [])) (args δ) ws) ⊛ raw (fact 𝓤 (Repeats h (c .now) (s .now) (e .now) (flight ys) p r (ws .1 .1 .0) (ws .1 .1 .1 .0))))) (id⊢ 𝓤 _) $ pick ! (λ ws.
         split ! $ move ! (1 ∷ []) $ heard ! (Repeats h (c .now) (s .now) (e .now) (flight ys) p r (ws .1 .1 .0) (ws .1 .1 .1 .0)) (λ f.

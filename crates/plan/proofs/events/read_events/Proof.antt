@@ -34,32 +34,32 @@ module _ (c : tie.Then1 Inv-loop μ-loop) where
   on : c .before .before .loop .going ≡ true
   on = goes {count = c .before .before .loop .count} (c .before .both .ensures) (c .if1 .taken) .0
 
-  more : c .before .before .loop .count < c .before .before .before .most-listed .result
+  more : c .before .before .loop .count < c .before .before .before .most-read .result
   more = goes {going = c .before .before .loop .going} (c .before .both .ensures) (c .if1 .taken) .1
 
   within :
-      let most = c .before .before .before .most-listed .result in
+      let most = c .before .before .before .most-read .result in
       (most ≤ 2048) × (most < length (c .before .before .before .before .before .before .before .args .ends .now))
-  within = most-within _ _ _ (c .before .before .before .most-listed .ensures) more
+  within = most-within _ _ _ (c .before .before .before .most-read .ensures) more
 
 -- what is known after it
 turn :
     (c : tie.After-next-event Inv-loop μ-loop) →
     let l = c .before .before .before .before .loop in
     let a = c .before .before .before .before .before .before .before .before .before .args in
-    let most = c .before .before .before .before .before .most-listed .result in
+    let most = c .before .before .before .before .before .most-read .result in
     Turned (eventsAt most (a .p) (a .room) 0 (a .rest .now)) (a .rest .now) (a .p) most (a .ends .now) (l .ends) (l .events) (l .left) (l .at) (l .count) (c .next-event .result)
 turn c =
     let l = c .before .before .before .before .loop in
     let rest = c .before .before .before .before .before .before .before .before .before .args .rest .now in
-    turned _ _ _ _ _ _ _ _ _ _ (rw (on (c .before .before)) at (l .inv)) (more (c .before .before)) (c .before .before .before .before .before .most-listed .ensures) _
+    turned _ _ _ _ _ _ _ _ _ _ (rw (on (c .before .before)) at (l .inv)) (more (c .before .before)) (c .before .before .before .before .before .most-read .ensures) _
     (c .next-event .ensures ∙ rw (behind-all rest (l .at)))
 
 progress-in-range-requires : tie.Need-progress-in-range-requires Inv-loop μ-loop
 progress-in-range-requires c κs = search needs
 
-most-listed-requires : tie.Need-most-listed-requires Inv-loop μ-loop
-most-listed-requires c κs = search needs
+most-read-requires : tie.Need-most-read-requires Inv-loop μ-loop
+most-read-requires c κs = search needs
 
 loop-holds : tie.Need-loop-holds Inv-loop μ-loop
 loop-holds c = begins _ _ _ _ _ _ (c .before .progress-in-range .ensures)
@@ -95,7 +95,7 @@ counted-requires : tie.Need-counted-requires Inv-loop μ-loop
 counted-requires c κs = omega (arith, more (c .before .before .before), within (c .before .before .before) .0)
 
 -- the count after it
-counted-few : (c : tie.After-counted Inv-loop μ-loop) → c .counted .result ≤ c .before .before .before .before .before .before .before .most-listed .result
+counted-few : (c : tie.After-counted Inv-loop μ-loop) → c .counted .result ≤ c .before .before .before .before .before .before .before .most-read .result
 counted-few c = rw (c .counted .ensures) (turn (c .before .before) .then .few)
 
 -- it and the bytes so far fit 16 bits
@@ -120,7 +120,7 @@ loop-again c = rw (c .counted .ensures) (turn (c .before .before) .then)
 cast-ends-2 : tie.Need-cast-ends-2 Inv-loop μ-loop
 cast-ends-2 c =
     let l = c .before .before .before .loop in
-    record { fits = omega (arith, l .inv .few, c .before .before .before .before .most-listed .ensures, listed-within (length (c .before .before .before .before .before .before .before .before .args .ends .now)) .0) }
+    record { fits = omega (arith, l .inv .few, c .before .before .before .before .most-read .ensures, listed-within (length (c .before .before .before .before .before .before .before .before .args .ends .now)) .0) }
 
 slice-write-ends-2 : tie.Need-slice-write-ends-2 Inv-loop μ-loop
 slice-write-ends-2 c = search needs
@@ -133,7 +133,7 @@ finished :
     listing (l .events) (set (l .ends) 0 (l .count)) ≡ eventsReply (a .rest .now) (a .p) (a .room) (a .ends .now)
 finished c =
     let l = c .before .before .loop in
-    ended _ _ _ _ _ _ _ _ _ _ _ (l .inv) (c .before .before .before .most-listed .ensures) (past {going = l .going} {count = l .count} (c .before .both .ensures) (c .if1 .left))
+    ended _ _ _ _ _ _ _ _ _ _ _ (l .inv) (c .before .before .before .most-read .ensures) (past {going = l .going} {count = l .count} (c .before .both .ensures) (c .if1 .left))
 
 same-length : tie.Need-same-length Inv-loop μ-loop
 same-length c = length-set (c .before .before .before .loop .ends) 0 (c .before .before .before .loop .count) ∙ c .before .before .before .loop .inv .long
@@ -154,7 +154,7 @@ read-events-spec =
     Inv-loop
     μ-loop
     progress-in-range-requires
-    most-listed-requires
+    most-read-requires
     loop-holds
     both-requires
     sub-next-event

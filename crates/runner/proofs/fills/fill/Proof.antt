@@ -6,7 +6,7 @@ use borrow.Author.Needs.{needs}
 use lib.ListN.{length}
 use Rattle.messages.specs.Slices.{numbersIn}
 use Rattle.runner.specs.declared.Stepped.{Stepped}
-use Rattle.runner.specs.Turns.{StepOutcome, stepOutcome}
+use Rattle.runner.specs.Steps.{StepOutcome, stepOutcome}
 use Rattle.runner.specs.Buffers.{Buffers, buffers}
 use Rattle.runner.proofs.FillTurns.{left, Underway, begun, tested, onward, shrinks, filled}
 use Rattle.runner.proofs.fills.fill.Statement.{statement}

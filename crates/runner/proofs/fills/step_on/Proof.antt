@@ -4,7 +4,7 @@ use mathlib.Core.Path.{ap}
 use borrow.Author.Needs.{needs}
 use Rattle.messages.specs.Slices.{numbersIn}
 use Rattle.runner.specs.Buffers.{buffers}
-use Rattle.runner.specs.Turns.{StepOutcome, stepOutcome}
+use Rattle.runner.specs.Steps.{StepOutcome, stepOutcome}
 use Rattle.runner.proofs.FillTurns.{step-on-is, step-on-used, step-on-written}
 use Rattle.runner.proofs.fills.step_on.Statement.{statement}
 use Rattle.runner.proofs.fills.step_on.Tie as tie

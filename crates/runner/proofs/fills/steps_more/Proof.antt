@@ -9,7 +9,7 @@ use lib.ListN.{length}
 use Rattle.bench.proofs.ChangeSteps.{length-mapped}
 use Rattle.messages.proofs.Flight.{numbers-length}
 use Rattle.distances.proofs.Booleans.{both-true}
-use Rattle.runner.specs.Turns.{StepOutcome, stepOutcome}
+use Rattle.runner.specs.Steps.{StepOutcome, stepOutcome}
 use Rattle.runner.specs.Buffers.{buffers}
 use Rattle.runner.proofs.FillTurns.{one-made}
 use Rattle.runner.proofs.fills.steps_more.Statement.{statement}
@@ -35,9 +35,9 @@ list-fits-requires c κs = search needs
 both-requires : tie.Need-both-requires
 both-requires c κs = search needs
 
-steps-listed-requires : tie.Need-steps-listed-requires
+steps-by-list-requires : tie.Need-steps-by-list-requires
 unfolding buffersLong
-steps-listed-requires c κs = let ok = both-true _ _ (sym (c .before .before .before .before .before .both .ensures) ∙ c .before .before .before .before .if1 .taken) in
+steps-by-list-requires c κs = let ok = both-true _ _ (sym (c .before .before .before .before .before .both .ensures) ∙ c .before .before .before .before .if1 .taken) in
     ((c .before .before .before .before .before .before .before .before .before .before .before .before .before .before .pre .0, c .before .before .before .before .before .before .before .before .before .before .before .before .before .before .pre .1, c .before .before .before .before .before .before .before .before .before .before .before .before .before .before .pre .2), (c .before .before .before .before .before .before .before .list-fits .ensures (ok .0), rw (all-numbers (c .before .before .before .before .before .before .before .before .before .before .before .before .before .before)) (sym (c .before .before .before .before .before .before .buffers-long .ensures) ∙ ok .1)))
 
 same-length : tie.Need-same-length
@@ -62,7 +62,7 @@ same-length-7 : tie.Need-same-length-7
 same-length-7 c = search needs
 
 returns : tie.Need-returns
-returns c = c .before .before .before .before .before .before .before .before .steps-listed .ensures
+returns c = c .before .before .before .before .before .before .before .before .steps-by-list .ensures
 
 step-on-requires : tie.Need-step-on-requires
 step-on-requires c κs = (c .before .before .before .before .before .before .before .before .before .before .before .before .before .before .pre .0, c .before .before .before .before .before .before .before .before .before .before .before .before .before .before .pre .1)
@@ -84,7 +84,7 @@ steps-more-spec =
     list-fits-requires
     buffers-long-requires
     both-requires
-    steps-listed-requires
+    steps-by-list-requires
     same-length
     same-length-2
     same-length-3

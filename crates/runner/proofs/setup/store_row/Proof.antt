@@ -3,7 +3,7 @@ use native.Mathlib.Nat.{add-sub-cancel-left}
 use mathlib.Core.Path.{ap}
 use borrow.Author.Needs.{needs}
 use Rattle.plan.specs.Reading.{Stored}
-use Rattle.runner.specs.Turns.{withRow}
+use Rattle.runner.specs.Steps.{withRow}
 use Rattle.runner.proofs.setup.store_row.Statement.{statement}
 use Rattle.runner.proofs.setup.store_row.Tie as tie
 

@@ -3,7 +3,7 @@ use mathlib.Core.List.{[]}
 use mathlib.Core.Bool.{false}
 use mathlib.Core.Path.{ap, refl}
 use borrow.Author.Needs.{needs}
-use Rattle.runner.specs.Turns.{stepOutcome, lastStep}
+use Rattle.runner.specs.Steps.{stepOutcome, lastStep}
 use Rattle.runner.specs.Events.{Line}
 use Rattle.runner.specs.Buffers.{buffers}
 use Rattle.runner.proofs.steps.ended.Statement.{statement}

@@ -10,7 +10,7 @@ use Prim.Native.Nat.{ℕ, _≤_}
 use native.Mathlib.Omega.{arith}
 use mathlib.Core.Path.{_∙_}
 use borrow.Author.Needs.{needs}
-use Rattle.runner.specs.Turns.{fieldStep}
+use Rattle.runner.specs.Steps.{fieldStep}
 use Rattle.runner.specs.Buffers.{Buffers, buffers}
 use Rattle.runner.proofs.StepTurns.{ended-on, accepted-turn, refused-turn}
 use Rattle.runner.proofs.steps.event_step.Statement.{statement}

@@ -1,6 +1,6 @@
 -- `steps::runner_in_range` meets its contract. Assumes nothing.
 use borrow.Author.Needs.{needs}
-use Rattle.runner.specs.Turns.{runnerInRange}
+use Rattle.runner.specs.Steps.{runnerInRange}
 use Rattle.runner.proofs.steps.runner_in_range.Statement.{statement}
 use Rattle.runner.proofs.steps.runner_in_range.Tie as tie
 

@@ -1,7 +1,7 @@
 -- `steps::set_up` meets its contract. Assumes nothing.
 use mathlib.Core.Path.{refl}
 use borrow.Author.Needs.{needs}
-use Rattle.runner.specs.Turns.{setupStep}
+use Rattle.runner.specs.Steps.{setupStep}
 use Rattle.runner.proofs.steps.set_up.Statement.{statement}
 use Rattle.runner.proofs.steps.set_up.Tie as tie
 

@@ -5,7 +5,7 @@ use borrow.Author.Tests.{not-true, not-false}
 use borrow.Author.Needs.{needs}
 use Rattle.messages.specs.Slices.{numbersIn}
 use Rattle.runner.specs.Buffers.{Buffers, buffers}
-use Rattle.runner.specs.Turns.{withView, withRow, opened, mayView, fieldStep}
+use Rattle.runner.specs.Steps.{withView, withRow, opened, mayView, fieldStep}
 use Rattle.runner.proofs.StepTurns.{setup-on, ended-on}
 use Rattle.runner.proofs.ViewTurns.{opened-reply, view-ends, view-turn}
 use Rattle.runner.proofs.steps.view_step.Statement.{statement}

@@ -2,7 +2,7 @@
 use mathlib.Core.Path.{refl}
 use borrow.Author.Tests.{eq-eqb, ne-eqb}
 use borrow.Author.Needs.{needs}
-use Rattle.runner.specs.Turns.{lastText}
+use Rattle.runner.specs.Steps.{lastText}
 use Rattle.runner.proofs.EventSteps.{counted}
 use Rattle.runner.proofs.stops.last_line.Statement.{statement}
 use Rattle.runner.proofs.stops.last_line.Tie as tie

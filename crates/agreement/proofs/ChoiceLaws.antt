@@ -27,7 +27,7 @@ use Rattle.agreement.specs.Forwarding.{
   portFrom,
   port,
 }
-use Rattle.agreement.specs.Choice.{reachesDistance, isChosen, firstChoice, nextChoice, portBy, choiceWith, choiceBelow, ChoiceIsPort}
+use Rattle.agreement.specs.Choice.{reachesDistance, becomesChosen, firstChoice, nextChoice, portBy, choiceWith, choiceBelow, ChoiceIsPort}
 use Rattle.agreement.specs.declared.Choice.{Choice}
 use Rattle.agreement.specs.declared.Port.the-variants.{Closed, Open}
 use Rattle.agreement.proofs.Firsts.{atFirst, found-more, at-first-more}
@@ -52,7 +52,7 @@ module _ (old : Choice) (link cost far : ℕ) (cut holding : Bool) (sent held : 
       (doesReach : reach ≡ reachesDistance old cost far)
       (isAllowed : allowed ≡ (old .allowed && allows))
       (doesAllow : allows ≡ (cut || ltb (old .distance) sent)) where
-    first-is-chosen : first ≡ isChosen old cost far
+    first-is-chosen : first ≡ becomesChosen old cost far
     first-is-chosen = isFirst ∙ rw doesReach
 
     allowed-is : allowed ≡ allowedBy
@@ -66,7 +66,7 @@ module _ (old : Choice) (link cost far : ℕ) (cut holding : Bool) (sent held : 
         choice (old .distance) true link usable allowed ≡ nextChoice old link cost far cut holding sent held
     unfolding nextChoice
     next-chosen t u s =
-        let e : isChosen old cost far ≡ true = sym first-is-chosen ∙ t in
+        let e : becomesChosen old cost far ≡ true = sym first-is-chosen ∙ t in
         let h = both-true (not (old .found)) (reachesDistance old cost far) e in
         rw (e, u, s, allowed-is, not-true (old .found) (h .0), h .1)
 
@@ -75,7 +75,7 @@ module _ (old : Choice) (link cost far : ℕ) (cut holding : Bool) (sent held : 
         choice (old .distance) (old .found) (old .link) (old .usable) allowed ≡ nextChoice old link cost far cut holding sent held
     unfolding nextChoice
     next-kept t =
-        let e : isChosen old cost far ≡ false = sym first-is-chosen ∙ t in
+        let e : becomesChosen old cost far ≡ false = sym first-is-chosen ∙ t in
         rw (e, allowed-is) (go (old .found) (reachesDistance old cost far) e)
       where
         go :
@@ -98,10 +98,10 @@ module _ (old : Choice) (link cost far : ℕ) (cut holding : Bool) (sent held : 
     where
       go :
           (b : Bool) →
-          choice (old .distance) (old .found || reachesDistance old cost far) (cond (isChosen old cost far) link (old .link))
-          (cond (isChosen old cost far) usableBy (old .usable)) (old .allowed && (b || ltb (old .distance) sent))
-          ≡ choice (old .distance) (old .found || reachesDistance old cost far) (cond (isChosen old cost far) link (old .link))
-          (cond (isChosen old cost far) usableBy (old .usable)) (old .allowed && (not (not b) || ltb (old .distance) sent))
+          choice (old .distance) (old .found || reachesDistance old cost far) (cond (becomesChosen old cost far) link (old .link))
+          (cond (becomesChosen old cost far) usableBy (old .usable)) (old .allowed && (b || ltb (old .distance) sent))
+          ≡ choice (old .distance) (old .found || reachesDistance old cost far) (cond (becomesChosen old cost far) link (old .link))
+          (cond (becomesChosen old cost far) usableBy (old .usable)) (old .allowed && (not (not b) || ltb (old .distance) sent))
       go true = refl
       go false = refl
   next-if false = rw and-true (go (old .found))

@@ -25,8 +25,8 @@ abbrev pub reachesDistance : Choice → ℕ → ℕ → Bool
 reachesDistance old cost far = not (eqb cost 0) && eqb (cost + far) (old .distance)
 
 -- is it the first link that does
-abbrev pub isChosen : Choice → ℕ → ℕ → Bool
-isChosen old cost far = not (old .found) && reachesDistance old cost far
+abbrev pub becomesChosen : Choice → ℕ → ℕ → Bool
+becomesChosen old cost far = not (old .found) && reachesDistance old cost far
 
 -- with one end more of the bridge: its link, the link's cost and the far bridge's distance in the bridge's view, whether the link is cut,
 -- whether a view is held from the neighbour, and the sent and held limits for the destination.
@@ -37,8 +37,8 @@ nextChoice old link cost far cut holding sent held =
     record {
       distance = old .distance;
       found = old .found || reachesDistance old cost far;
-      link = cond (isChosen old cost far) link (old .link);
-      usable = cond (isChosen old cost far) (not cut && leb (cond holding held NONE) (old .distance)) (old .usable);
+      link = cond (becomesChosen old cost far) link (old .link);
+      usable = cond (becomesChosen old cost far) (not cut && leb (cond holding held NONE) (old .distance)) (old .usable);
       allowed = old .allowed && (cut || ltb (old .distance) sent);
     }
 

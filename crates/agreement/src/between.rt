@@ -13,6 +13,7 @@ use crate::rows;
 use crate::sizes::ENDS;
 use crate::sizes::LIMITS;
 use distances::ready::both;
+use distances::sizes::LEAST_BRIDGES;
 use distances::sizes::MAX_COST;
 use distances::sizes::MOST_BRIDGES;
 use distances::sizes::TABLE;
@@ -42,7 +43,7 @@ fn between_in_range(
         both(cost <= MAX_COST, both(TABLE <= table, limits)),
     );
     both(
-        2 <= bridges,
+        LEAST_BRIDGES <= bridges,
         both(
             bridges <= MOST_BRIDGES,
             both(near < bridges, both(far < bridges, rest)),

@@ -29,7 +29,7 @@ use Rattle.bench.specs.Batches.{callOf, wayNumbers}
 use Rattle.bench.specs.Batches.{replyOf, reportNumbers, answeredNumbers, answersOf, answerSize, Batch, batch, eventBatch, eventBatchIn}
 use Rattle.bench.specs.Whole.{stepBy}
 use Rattle.bench.specs.Effects.{queueChangeNumber, queueChangeBench, queueChangeEffect, receptionSays, receptionBench, receptionEffect, ReceptionFits, updatingTo, updatingNumber, updatingEffect, UpdatingFits, stateOf, appliedTo, CanApply, eventResult}
-use Rattle.bench.specs.Steps.{ReportsTo, Leaves}
+use Rattle.bench.specs.Steps.{ReportsTo, BatchLeft}
 use Rattle.bench.specs.declared.Bench.{Bench}
 use Rattle.bench.specs.declared.effects.EventResult.{EventResult}
 use Rattle.bench.specs.declared.effects.Effect.the-variants.{Same}
@@ -53,8 +53,8 @@ pub leaves-by :
     (s z : State) {answers after : List ℕ} {e is : Event} {r by : EventResult} →
     e ≡ is →
     r ≡ by →
-    Leaves (eventBatch s is) answers (by .made) (by .disposition) (appliedTo (by .effect) z) (by .answered) after →
-    Leaves (eventBatch s e) answers (r .made) (r .disposition) (appliedTo (r .effect) z) (r .answered) after
+    BatchLeft (eventBatch s is) answers (by .made) (by .disposition) (appliedTo (by .effect) z) (by .answered) after →
+    BatchLeft (eventBatch s e) answers (r .made) (r .disposition) (appliedTo (r .effect) z) (r .answered) after
 leaves-by s z event result leaves = rw (event, result) leaves
 
 -- and that its effect can be carried out
@@ -66,8 +66,8 @@ renumbered :
     {done : Batch} {answers out : List ℕ} {j k : ℕ} (n : ℕ) {z next : State} →
     j ≡ k →
     z ≡ next →
-    Leaves done answers (cond (eqb j 0) 1 0) (cond (eqb j 0) Complete (Refused j)) z (cond (eqb j 0) n 0) out →
-    Leaves done answers (cond (eqb k 0) 1 0) (cond (eqb k 0) Complete (Refused k)) next (cond (eqb k 0) n 0) out
+    BatchLeft done answers (cond (eqb j 0) 1 0) (cond (eqb j 0) Complete (Refused j)) z (cond (eqb j 0) n 0) out →
+    BatchLeft done answers (cond (eqb k 0) 1 0) (cond (eqb k 0) Complete (Refused k)) next (cond (eqb k 0) n 0) out
 renumbered n number state leaves = rw (← number, ← state) leaves
 
 flag-told : (k l : ℕ) (so : Bool) (b : Bench) (known : List Bool) → (k ≡ 0 → l < 32) → CanApply (cond (eqb k 0) (CutFlag l so) Same) b known
@@ -131,7 +131,7 @@ module _ (s : State) (e : Event) where
       (k ≡ 0 → (n ≡ length (answersOf s e)) × (out ≡ answersOf s e ++ drop n answers)) →
       ((k ≡ 0 → ⊥) → out ≡ answers) →
       deliveryReady (stepBy s (callOf e)) ≡ true →
-      Leaves (eventBatch s e) answers (cond (eqb k 0) 1 0) (cond (eqb k 0) Complete (Refused k)) after (cond (eqb k 0) n 0) out
+      BatchLeft (eventBatch s e) answers (cond (eqb k 0) 1 0) (cond (eqb k 0) Complete (Refused k)) after (cond (eqb k 0) n 0) out
   unfolding eventBatch
   settled k after n answers out asks leaves kept done refused ok = rw asks (go (eqb k 0) refl)
     where
@@ -141,7 +141,7 @@ module _ (s : State) (e : Event) where
       go :
           (b : Bool) →
           eqb k 0 ≡ b →
-          Leaves (cond b (batch 1 Complete (stepBy s (callOf e)) (answersOf s e)) (batch 0 (Refused k) s [])) answers (cond b 1 0)
+          BatchLeft (cond b (batch 1 Complete (stepBy s (callOf e)) (answersOf s e)) (batch 0 (Refused k) s [])) answers (cond b 1 0)
           (cond b Complete (Refused k)) after (cond b n 0) out
       go true is =
           let h = done (eqb-true k 0 is) in
@@ -164,7 +164,7 @@ module _ (s : State) (e : Event) where
       stepBy s (callOf e) ≡ after →
       ((k ≡ 0 → ⊥) → stepBy s (callOf e) ≡ s) →
       deliveryReady (stepBy s (callOf e)) ≡ true →
-      Leaves (eventBatch s e) answers (cond (eqb k 0) 1 0) (cond (eqb k 0) Complete (Refused k)) after (cond (eqb k 0) 0 0) answers
+      BatchLeft (eventBatch s e) answers (cond (eqb k 0) 1 0) (cond (eqb k 0) Complete (Refused k)) after (cond (eqb k 0) 0 0) answers
   quiet k after answers none asks leaves kept ok =
       settled k after 0 answers answers asks leaves kept (λ z. (ap (λ (l : List ℕ). length l) (sym none), rw none)) (λ z. refl) ok
 
@@ -261,7 +261,7 @@ module _ (b : Bench) (costs sent held m answers : List ℕ) where
       o ≡ updateOf Whole y t →
       deliveryReady (stepBy Whole (callOf (Update y t))) ≡ true →
       let k = o .reply in
-      Leaves (eventBatch Whole (Update y t)) answers (cond (eqb k 0) 1 0) (cond (eqb k 0) Complete (Refused k)) (stateOf Whole o)
+      BatchLeft (eventBatch Whole (Update y t)) answers (cond (eqb k 0) 1 0) (cond (eqb k 0) Complete (Refused k)) (stateOf Whole o)
       (cond (eqb k 0) 0 0) answers
   unfolding answersOf
   updated y t o ready is ok =
@@ -274,7 +274,7 @@ module _ (b : Bench) (costs sent held m answers : List ℕ) where
       updatingTo u Whole y t ≡ updateOf Whole y t →
       deliveryReady (stepBy Whole (callOf (Update y t))) ≡ true →
       let k = updatingNumber u in
-      Leaves (eventBatch Whole (Update y t)) answers (cond (eqb k 0) 1 0) (cond (eqb k 0) Complete (Refused k))
+      BatchLeft (eventBatch Whole (Update y t)) answers (cond (eqb k 0) 1 0) (cond (eqb k 0) Complete (Refused k))
       (appliedTo (cond (eqb k 0) (updatingEffect u y t) Same) Whole) (cond (eqb k 0) 0 0) answers
   update-leaves y t (Updating.Refused k) ready is ok = rw (same-either (eqb k 0) Whole) (updated y t _ ready is ok)
   update-leaves y t Updating.Stays ready is ok = updated y t _ ready is ok
@@ -324,7 +324,7 @@ module _ (b : Bench) (costs sent held m answers : List ℕ) where
 
     pub cut-leaves :
         deliveryReady (stepBy Whole (callOf (Cut l))) ≡ true →
-        Leaves (eventBatch Whole (Cut l)) answers (cond (eqb cutNumber 0) 1 0) (cond (eqb cutNumber 0) Complete (Refused cutNumber))
+        BatchLeft (eventBatch Whole (Cut l)) answers (cond (eqb cutNumber 0) 1 0) (cond (eqb cutNumber 0) Complete (Refused cutNumber))
         (appliedTo (cond (eqb cutNumber 0) (CutFlag l true) Same) Whole) (cond (eqb cutNumber 0) 0 0) answers
     unfolding answersOf
     cut-leaves ok =
@@ -333,7 +333,7 @@ module _ (b : Bench) (costs sent held m answers : List ℕ) where
 
     pub restore-leaves :
         deliveryReady (stepBy Whole (callOf (Restore l))) ≡ true →
-        Leaves (eventBatch Whole (Restore l)) answers (cond (eqb restoreNumber 0) 1 0) (cond (eqb restoreNumber 0) Complete (Refused restoreNumber))
+        BatchLeft (eventBatch Whole (Restore l)) answers (cond (eqb restoreNumber 0) 1 0) (cond (eqb restoreNumber 0) Complete (Refused restoreNumber))
         (appliedTo (cond (eqb restoreNumber 0) (CutFlag l false) Same) Whole) (cond (eqb restoreNumber 0) 0 0) answers
     unfolding answersOf
     restore-leaves ok =
@@ -358,9 +358,9 @@ module _ (b : Bench) (costs sent held m answers : List ℕ) where
   queued :
       (e : Event) (q : QueueChange) (m' : List ℕ) →
       let k = queueChangeNumber q in
-      Leaves (eventBatch Whole e) answers (cond (eqb k 0) 1 0) (cond (eqb k 0) Complete (Refused k)) (state (queueChangeBench q b) costs sent held m')
+      BatchLeft (eventBatch Whole e) answers (cond (eqb k 0) 1 0) (cond (eqb k 0) Complete (Refused k)) (state (queueChangeBench q b) costs sent held m')
       (cond (eqb k 0) 0 0) answers →
-      Leaves (eventBatch Whole e) answers (cond (eqb k 0) 1 0) (cond (eqb k 0) Complete (Refused k))
+      BatchLeft (eventBatch Whole e) answers (cond (eqb k 0) 1 0) (cond (eqb k 0) Complete (Refused k))
       (appliedTo (cond (eqb k 0) (queueChangeEffect q) Same) (state b costs sent held m')) (cond (eqb k 0) 0 0) answers
   queued e (QueueChange.Refused k) m' leaves = rw (same-either (eqb k 0) (state b costs sent held m')) leaves
   queued e (QueueChange.Length n) m' leaves = leaves
@@ -375,7 +375,7 @@ module _ (b : Bench) (costs sent held m answers : List ℕ) where
       o ≡ sendOf b m y l →
       deliveryReady (stepBy Whole (callOf (Send y l))) ≡ true →
       let k = o .reply in
-      Leaves (eventBatch Whole (Send y l)) answers (cond (eqb k 0) 1 0) (cond (eqb k 0) Complete (Refused k))
+      BatchLeft (eventBatch Whole (Send y l)) answers (cond (eqb k 0) 1 0) (cond (eqb k 0) Complete (Refused k))
       (state (o .bench) costs sent held (o .messages)) (cond (eqb k 0) 0 0) answers
   unfolding answersOf
   sent-by y l o ready is ok = rw is (quiet Whole (Send y l) (sendOf b m y l .reply) _ answers refl (send-reply Whole ready y l) (send-step Whole y l) (send-kept Whole y l) ok)
@@ -386,7 +386,7 @@ module _ (b : Bench) (costs sent held m answers : List ℕ) where
       queueOutcome (queueChangeNumber q) (queueChangeBench q b) m' ≡ sendOf b m y l →
       deliveryReady (stepBy Whole (callOf (Send y l))) ≡ true →
       let k = queueChangeNumber q in
-      Leaves (eventBatch Whole (Send y l)) answers (cond (eqb k 0) 1 0) (cond (eqb k 0) Complete (Refused k))
+      BatchLeft (eventBatch Whole (Send y l)) answers (cond (eqb k 0) 1 0) (cond (eqb k 0) Complete (Refused k))
       (appliedTo (cond (eqb k 0) (queueChangeEffect q) Same) (state b costs sent held m')) (cond (eqb k 0) 0 0) answers
   send-leaves y l q {m'} ready is ok = queued (Send y l) q m' (sent-by y l _ ready is ok)
 
@@ -396,7 +396,7 @@ module _ (b : Bench) (costs sent held m answers : List ℕ) where
       o ≡ loseOf b m p →
       deliveryReady (stepBy Whole (callOf (Lose p))) ≡ true →
       let k = o .reply in
-      Leaves (eventBatch Whole (Lose p)) answers (cond (eqb k 0) 1 0) (cond (eqb k 0) Complete (Refused k))
+      BatchLeft (eventBatch Whole (Lose p)) answers (cond (eqb k 0) 1 0) (cond (eqb k 0) Complete (Refused k))
       (state (o .bench) costs sent held (o .messages)) (cond (eqb k 0) 0 0) answers
   unfolding answersOf
   lost-by p o ready is ok = rw is (quiet Whole (Lose p) (loseOf b m p .reply) _ answers refl (lose-reply Whole ready p) (lose-step Whole p) (lose-kept Whole p) ok)
@@ -407,7 +407,7 @@ module _ (b : Bench) (costs sent held m answers : List ℕ) where
       queueOutcome (queueChangeNumber q) (queueChangeBench q b) m' ≡ loseOf b m p →
       deliveryReady (stepBy Whole (callOf (Lose p))) ≡ true →
       let k = queueChangeNumber q in
-      Leaves (eventBatch Whole (Lose p)) answers (cond (eqb k 0) 1 0) (cond (eqb k 0) Complete (Refused k))
+      BatchLeft (eventBatch Whole (Lose p)) answers (cond (eqb k 0) 1 0) (cond (eqb k 0) Complete (Refused k))
       (appliedTo (cond (eqb k 0) (queueChangeEffect q) Same) (state b costs sent held m')) (cond (eqb k 0) 0 0) answers
   lose-leaves p q {m'} ready is ok = queued (Lose p) q m' (lost-by p _ ready is ok)
 
@@ -442,7 +442,7 @@ module _ (b : Bench) (costs sent held m answers : List ℕ) where
       out ≡ sets answers 0 (answeredNumbers (x .reply .value)) →
       deliveryReady (stepBy Whole (callOf e)) ≡ true →
       let k = x .reply .number in
-      Leaves (eventBatch Whole e) answers (cond (eqb k 0) 1 0) (cond (eqb k 0) Complete (Refused k))
+      BatchLeft (eventBatch Whole e) answers (cond (eqb k 0) 1 0) (cond (eqb k 0) Complete (Refused k))
       (state (x .bench) costs (x .sent) (x .held) (x .messages)) (cond (eqb k 0) 3 0) out
   received-by e o is x out same room set ok =
       rw (set, same)
@@ -455,9 +455,9 @@ module _ (b : Bench) (costs sent held m answers : List ℕ) where
   received :
       (e : Event) (r : Reception) (count : ℕ) (sent' held' m' out : List ℕ) →
       let k = receptionSays r .number in
-      Leaves (eventBatch Whole e) answers (cond (eqb k 0) 1 0) (cond (eqb k 0) Complete (Refused k))
+      BatchLeft (eventBatch Whole e) answers (cond (eqb k 0) 1 0) (cond (eqb k 0) Complete (Refused k))
       (state (receptionBench r b count) costs sent' held' m') (cond (eqb k 0) 3 0) out →
-      Leaves (eventBatch Whole e) answers (cond (eqb k 0) 1 0) (cond (eqb k 0) Complete (Refused k))
+      BatchLeft (eventBatch Whole e) answers (cond (eqb k 0) 1 0) (cond (eqb k 0) Complete (Refused k))
       (appliedTo (cond (eqb k 0) (receptionEffect r count) Same) (state b costs sent' held' m')) (cond (eqb k 0) 3 0) out
   received e (Reception.Refused k) count sent' held' m' out leaves = rw (same-either (eqb k 0) (state b costs sent' held' m')) leaves
   received e (Reception.Accepted a end after) count sent' held' m' out leaves = leaves
@@ -475,7 +475,7 @@ module _ (b : Bench) (costs sent held m answers : List ℕ) where
       out ≡ sets answers 0 (answeredNumbers (receptionSays r .value)) →
       deliveryReady (stepBy Whole (callOf e)) ≡ true →
       let k = receptionSays r .number in
-      Leaves (eventBatch Whole e) answers (cond (eqb k 0) 1 0) (cond (eqb k 0) Complete (Refused k))
+      BatchLeft (eventBatch Whole e) answers (cond (eqb k 0) 1 0) (cond (eqb k 0) Complete (Refused k))
       (appliedTo (cond (eqb k 0) (receptionEffect r count) Same) (state b costs sent' held' m')) (cond (eqb k 0) 3 0) out
   received-leaves e o r count {sent'} {held'} {m'} {out} is same room set ok =
       received e r count sent' held' m' out (received-by e o is _ out same room set ok)
@@ -487,7 +487,7 @@ module _ (b : Bench) (costs sent held m answers : List ℕ) where
       out ≡ sets answers 0 (wayNumbers (o .value)) →
       deliveryReady Whole ≡ true →
       let k = o .number in
-      Leaves (eventBatch Whole (Path y d)) answers (cond (eqb k 0) 1 0) (cond (eqb k 0) Complete (Refused k))
+      BatchLeft (eventBatch Whole (Path y d)) answers (cond (eqb k 0) 1 0) (cond (eqb k 0) Complete (Refused k))
       (appliedTo (cond (eqb k 0) Same Same) Whole) (cond (eqb k 0) 3 0) out
   unfolding answersOf
   path-leaves y d {o} is room set ok =
@@ -517,7 +517,7 @@ module _ (b : Bench) (costs sent held m answers : List ℕ) where
       2 * b .bridges ≤ length answers →
       out ≡ cond (eqb k 0) (reported Short d (b .bridges) answers) answers →
       deliveryReady Whole ≡ true →
-      Leaves (eventBatch Whole (Report d)) answers (cond (eqb k 0) 1 0) (cond (eqb k 0) Complete (Refused k))
+      BatchLeft (eventBatch Whole (Report d)) answers (cond (eqb k 0) 1 0) (cond (eqb k 0) Complete (Refused k))
       (appliedTo (cond (eqb k 0) Same Same) Whole) (cond (eqb k 0) (2 * b .bridges) 0) out
   unfolding answersOf
   report-leaves d room rows ok =
@@ -545,7 +545,7 @@ module _ (s : State) (ok : stateInRange s ≡ true) (d : ℕ) (answers : List �
 
 -- an answer that has no room, and one that has
 module _ (s : State) (e : Event) (answers : List ℕ) (ok : deliveryReady s ≡ true) where
-  pub full-leaves : length answers < answerSize (s .bench .bridges) e → Leaves (eventBatchIn (length answers) s e) answers 0 Full s 0 answers
+  pub full-leaves : length answers < answerSize (s .bench .bridges) e → BatchLeft (eventBatchIn (length answers) s e) answers 0 Full s 0 answers
   unfolding eventBatchIn
   full-leaves few =
       rw (lt-ltb _ _ few) (record { made = refl; disposition = refl; state = refl; counted = refl; rest = refl; ready = ok })
@@ -553,7 +553,7 @@ module _ (s : State) (e : Event) (answers : List ℕ) (ok : deliveryReady s ≡ 
   pub room-leaves :
       answerSize (s .bench .bridges) e ≤ length answers →
       {count answered : ℕ} {how : Disposition} {next : State} {after : List ℕ} →
-      Leaves (eventBatch s e) answers count how next answered after →
-      Leaves (eventBatchIn (length answers) s e) answers count how next answered after
+      BatchLeft (eventBatch s e) answers count how next answered after →
+      BatchLeft (eventBatchIn (length answers) s e) answers count how next answered after
   unfolding eventBatchIn
   room-leaves room leaves = rw (le-ltb _ _ room) leaves

@@ -16,7 +16,7 @@ use Rattle.bench.specs.State.{State}
 use Rattle.bench.specs.Batches.{callOf}
 use Rattle.bench.specs.Batches.{replyOf, answersOf, answerSize, Batch, batch, eventBatch, eventBatchIn, batchFrom, batchOutcome, batchOutcomeOf}
 use Rattle.bench.specs.Whole.{stepBy}
-use Rattle.bench.specs.Steps.{Leaves}
+use Rattle.bench.specs.Steps.{BatchLeft}
 use Rattle.bench.specs.declared.Disposition.{Disposition}
 use Rattle.bench.specs.declared.Disposition.the-variants.{Complete, Refused, Full}
 
@@ -106,7 +106,7 @@ module _
     {m n : ℕ}
     {by : Disposition}
     {next : State}
-    (done : Leaves (eventBatchIn (length lent) s e) lent m by next n after) where
+    (done : BatchLeft (eventBatchIn (length lent) s e) lent m by next n after) where
   abbrev b : Batch
   b = eventBatchIn (length lent) s e
 

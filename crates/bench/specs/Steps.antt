@@ -91,7 +91,7 @@ ReportsTo s d answers r after =
     × (after ≡ cond (eqb k 0) (reported s d (s .bench .bridges) answers) answers)
 
 -- what a list of one event leaves: the batch b, its answers at the head of the lent numbers; a state in range stays so
-pub record Leaves (b : Batch) (answers : List ℕ) (count : ℕ) (how : Disposition) (s : State) (answered : ℕ) (after : List ℕ) : Type 0 where
+pub record BatchLeft (b : Batch) (answers : List ℕ) (count : ℕ) (how : Disposition) (s : State) (answered : ℕ) (after : List ℕ) : Type 0 where
   pub made : count ≡ b .made
   pub disposition : how ≡ b .disposition
   pub state : s ≡ b .state

@@ -43,7 +43,7 @@ ghost use Rattle.bench.specs.Effects.{queueChangeNumber, queueChangeEffe
 ghost use Rattle.agreement.specs.Record.{freshRecord};
 ghost use Rattle.agreement.specs.declared.EndRecord.{EndRecord};
 ghost use Rattle.bench.specs.declared.Bench.{Bench};
-ghost use Rattle.bench.specs.Steps.{Tables, ReportsTo, Leaves};
+ghost use Rattle.bench.specs.Steps.{Tables, ReportsTo, BatchLeft};
 ghost use Rattle.bench.specs.declared.effects.Effect.the-variants.{Same};
 ghost use Rattle.bench.specs.declared.effects.Effect.the-variants.{Cut as CutFlag};
 
@@ -228,7 +228,7 @@ fn carry_out(
 ) -> EventResult
     requires { ⌜ deliveryReady (state bench (now costs) (now sent) (now held) (now flight)) ≡ true ⌝ }
     requires { ⌜ (bench .bridges ≤ 16) × Tables bench (now costs) (now tables) (now known) × Chained (bench .links) (bench .ends) (now chain) × HasRecord event bench (now flight) old ⌝ }
-    ensures { λ r. ⌜ Leaves (eventBatchIn (length (now (answers .entry))) (state bench (now (costs .entry)) (now (sent .entry)) (now (held .entry)) (now (flight .entry))) event) (now (answers .entry)) (r .made) (r .disposition) (appliedTo (r .effect) (state bench (now (costs .entry)) (now (sent .exit)) (now (held .exit)) (now (flight .exit)))) (r .answered) (now (answers .exit)) ⌝ }
+    ensures { λ r. ⌜ BatchLeft (eventBatchIn (length (now (answers .entry))) (state bench (now (costs .entry)) (now (sent .entry)) (now (held .entry)) (now (flight .entry))) event) (now (answers .entry)) (r .made) (r .disposition) (appliedTo (r .effect) (state bench (now (costs .entry)) (now (sent .exit)) (now (held .exit)) (now (flight .exit)))) (r .answered) (now (answers .exit)) ⌝ }
     ensures { λ r. ⌜ CanApply (r .effect) bench (now (known .exit)) × Tables bench (now (costs .entry)) (now (tables .exit)) (now (known .exit)) ⌝ }
 {
     let size = answer_size(bench.bridges as u8, event);

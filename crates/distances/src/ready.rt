@@ -1,5 +1,6 @@
 // The call's entry check: document 01's ranges, and lent buffers that are long enough. Ends and costs are tested in loops of their own,
 // each over numbers of one width, which the compiler makes vector code of.
+use crate::sizes::LEAST_BRIDGES;
 use crate::sizes::MAX_COST;
 use crate::sizes::MOST_BRIDGES;
 use crate::sizes::MOST_LINKS;
@@ -57,7 +58,7 @@ fn links_in_range(bridges: u8, links: usize, ends: &[u8]) -> bool
 pub fn graph_passes(bridges: usize, links: usize, ends: &[u8]) -> bool
     ensures { λ r. ⌜ r ≡ graphPasses bridges links (now (ends .entry)) ⌝ }
 {
-    if bridges < 2 {
+    if bridges < LEAST_BRIDGES {
         return false;
     }
     if MOST_BRIDGES < bridges {

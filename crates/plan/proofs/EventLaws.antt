@@ -15,7 +15,7 @@ use Rattle.bench.specs.declared.Event.{Event}
 use Rattle.plan.specs.Sizes.{mostEvents}
 use Rattle.plan.specs.Reading.{progressInRange, readReply}
 use Rattle.plan.specs.Events.{Placed, placed, ifEvent, eventsAt, eventsOf, endsOf, mostRead, Listing, listing, eventsReply}
-use Rattle.plan.specs.Steps.{noEvent, nextOf, nextEvent}
+use Rattle.plan.specs.Steps.{noneRead, nextOf, nextEvent}
 use Rattle.plan.specs.declared.Field.{Field}
 use Rattle.plan.specs.declared.Progress.{Progress}
 use Rattle.plan.specs.declared.Read.{Read}
@@ -28,11 +28,11 @@ use Rattle.plan.proofs.Laws.{field-size}
 pub no-event-read :
     (rest : List ℕ) (p : Progress) (room : ℕ) →
     ((e : Event) (k : ℕ) → readReply rest p ≡ Read.Field (Field.Event e) k → ⊥) →
-    nextEvent rest p room ≡ noEvent
+    nextEvent rest p room ≡ noneRead
 unfolding nextOf
 no-event-read rest p room other = go (readReply rest p) refl
   where
-    go : (r : Read) → readReply rest p ≡ r → nextOf r (p .bridges) room ≡ noEvent
+    go : (r : Read) → readReply rest p ≡ r → nextOf r (p .bridges) room ≡ noneRead
     go (Read.Field (Field.Event e) used) is = absurd (other e used is)
     go (Read.Field (Field.Bridges n) used) is = refl
     go (Read.Field (Field.Link x y) used) is = refl
@@ -55,7 +55,7 @@ module _ (p : Progress) (room : ℕ) (rest : List ℕ) where
     pub list : xs ≡ then most at n
 
   pub record Ends (n : NextEvent) (xs : List Placed) : Type 0 where
-    pub none : n ≡ noEvent
+    pub none : n ≡ noneRead
     pub list : xs ≡ []
 
   pub next-or-none : (most at : ℕ) → GoesOn most at (nextEvent rest p room) (eventsAt (suc most) p room at rest) ⊎ Ends (nextEvent rest p room) (eventsAt (suc most) p room at rest)
@@ -71,7 +71,7 @@ module _ (p : Progress) (room : ℕ) (rest : List ℕ) where
           (e : Event) (used : ℕ) → readReply rest p ≡ Read.Field (Field.Event e) used →
           (b : Bool) → ltb room (answerSize (p .bridges) e) ≡ b →
           let one : NextEvent = record { event = e; used = used; size = answerSize (p .bridges) e } in
-          GoesOn most at (cond b noEvent one) (cond b [] (then most at one)) ⊎ Ends (cond b noEvent one) (cond b [] (then most at one))
+          GoesOn most at (cond b noneRead one) (cond b [] (then most at one)) ⊎ Ends (cond b noneRead one) (cond b [] (then most at one))
       fit e used is true q = inr (record { none = refl; list = refl })
       fit e used is false q = inl (record { goes = record { read = is; size = refl; fits = ltb-false _ _ q }; list = refl })
 

@@ -17,7 +17,7 @@ ghost use Prim.Native.Nat.{suc, _<_};
 ghost use lib.Dec.{eqb};
 ghost use Rattle.plan.specs.Reading.{progressInRange};
 ghost use Rattle.plan.specs.Events.{mostRead, listing, eventsReply, listProgress, bytesBy};
-ghost use Rattle.plan.specs.Steps.{noEvent, nextEvent};
+ghost use Rattle.plan.specs.Steps.{noneRead, nextEvent};
 
 // The next event, the bytes that it takes and the numbers that it answers with; no bytes where a list goes no further.
 pub(crate) struct NextEvent {
@@ -27,7 +27,7 @@ pub(crate) struct NextEvent {
 }
 
 fn no_event() -> NextEvent
-    ensures { λ r. ⌜ r ≡ noEvent ⌝ }
+    ensures { λ r. ⌜ r ≡ noneRead ⌝ }
 {
     NextEvent {
         event: Event::Lose(0),

@@ -13,7 +13,7 @@ use Rattle.agreement.specs.declared.EndRecord.{EndRecord}
 use Rattle.agreement.proofs.RecordLaws.{updated-adopts, updated-keeps, held-adopts, held-keeps, sent-updated, agreed-view, stale-recorded, agreed-recorded, noted-recorded, stale-held, agreed-held, noted-held, sent-cleared, sent-kept}
 use Rattle.protocol.specs.Net.{Network, Plan, Message, sender, offerIn, fresh}
 use Rattle.protocol.specs.Calls.{Call, change, update, cut, restore, send, deliver, repeat, lose, port, report, path, accepted, messageAt, moved, updatedTo, withCut, sentOver, receivedAt, afterDelivery, afterChange, act, step, run}
-use Rattle.protocol.specs.LimitViews.{movesTo, receives, nothing, updateBrings, deliveryBrings, acceptedBrings, brings, only, EndViews, freshViews, viewsAfter, viewsRun, leastOver, offerHeld, Limits, LimitsAsDefined}
+use Rattle.protocol.specs.LimitViews.{movesTo, receives, nothing, updateEffect, deliveryEffect, acceptedEffect, endEffect, only, EndViews, freshViews, viewsAfter, viewsRun, leastOver, offerHeld, Limits, LimitsAsDefined}
 use Rattle.protocol.proofs.Runs.{plan-run}
 
 module _ (n : Network) (e d : ℕ) (v : EndViews) (old : Limits (n .plan) (n .records) e d v) where
@@ -46,8 +46,8 @@ module _ (n : Network) (e d : ℕ) (v : EndViews) (old : Limits (n .plan) (n .re
         }
     limits-moved false is = record { sent = rw is (old .sent); held = rw is (old .held) }
 
-    limits-updated : Limits (updatedTo n b t .plan) (updatedTo n b t .records) e d (viewsAfter n e (updateBrings n e b t) v)
-    unfolding updatedTo updateBrings viewsAfter moved
+    limits-updated : Limits (updatedTo n b t .plan) (updatedTo n b t .records) e d (viewsAfter n e (updateEffect n e b t) v)
+    unfolding updatedTo updateEffect viewsAfter moved
     limits-updated = go (eqb (n .plan .graph .bridgeAt e) b) (eqb (n .view b) t) refl
       where
         go : (here same : Bool) → eqb (n .plan .graph .bridgeAt e) b ≡ here → Limits (cond same n (moved n b t) .plan) (cond same n (moved n b t) .records) e d (viewsAfter n e (cond (here && not same) (movesTo t) nothing) v)
@@ -92,13 +92,13 @@ module _ (n : Network) (e d : ℕ) (v : EndViews) (old : Limits (n .plan) (n .re
         limits-here
     limits-received k false is = record { sent = rw is (old .sent); held = rw is (old .held) }
 
-  limits-delivered : (p : ℕ) → Limits (n .plan) (afterDelivery n (messageAt n p) .records) e d (viewsAfter n e (deliveryBrings n e p) v)
-  unfolding afterDelivery deliveryBrings
+  limits-delivered : (p : ℕ) → Limits (n .plan) (afterDelivery n (messageAt n p) .records) e d (viewsAfter n e (deliveryEffect n e p) v)
+  unfolding afterDelivery deliveryEffect
   limits-delivered p =
       limits-received (messageAt n p) (opposite (sender (messageAt n p))) (eqb e (opposite (sender (messageAt n p)))) refl
 
-  limits-act : (c : Call) → Limits (act n c .plan) (act n c .records) e d (viewsAfter n e (acceptedBrings n e c) v)
-  unfolding act afterChange withCut sentOver afterDelivery receivedAt acceptedBrings viewsAfter
+  limits-act : (c : Call) → Limits (act n c .plan) (act n c .records) e d (viewsAfter n e (acceptedEffect n e c) v)
+  unfolding act afterChange withCut sentOver afterDelivery receivedAt acceptedEffect viewsAfter
   limits-act (change (update b t)) = limits-updated b t
   limits-act (change (cut l)) = record { sent = old .sent; held = old .held }
   limits-act (change (restore l)) = record { sent = old .sent; held = old .held }
@@ -110,18 +110,18 @@ module _ (n : Network) (e d : ℕ) (v : EndViews) (old : Limits (n .plan) (n .re
   limits-act (report f) = old
   limits-act (path s f) = old
 
-  limits-step : (c : Call) → Limits (step n c .plan) (step n c .records) e d (viewsAfter n e (brings n e c) v)
-  unfolding step brings viewsAfter
+  limits-step : (c : Call) → Limits (step n c .plan) (step n c .records) e d (viewsAfter n e (endEffect n e c) v)
+  unfolding step endEffect viewsAfter
   limits-step c = go (accepted n c)
     where
-      go : (a : Bool) → Limits (cond a (act n c) n .plan) (cond a (act n c) n .records) e d (viewsAfter n e (cond a (acceptedBrings n e c) nothing) v)
+      go : (a : Bool) → Limits (cond a (act n c) n .plan) (cond a (act n c) n .records) e d (viewsAfter n e (cond a (acceptedEffect n e c) nothing) v)
       go true = limits-act c
       go false = old
 
 limits-run : (n : Network) (e d : ℕ) (v : EndViews) (cs : List Call) → Limits (n .plan) (n .records) e d v → Limits (run n cs .plan) (run n cs .records) e d (viewsRun n e v cs)
 unfolding run viewsRun
 limits-run n e d v [] old = old
-limits-run n e d v (c ∷ cs) old = limits-run (step n c) e d (viewsAfter n e (brings n e c) v) cs (limits-step n e d v old c)
+limits-run n e d v (c ∷ cs) old = limits-run (step n c) e d (viewsAfter n e (endEffect n e c) v) cs (limits-step n e d v old c)
 
 limits-fresh : (p : Plan) (e d : ℕ) → Limits (fresh p .plan) (fresh p .records) e d freshViews
 unfolding fresh leastOver offerHeld

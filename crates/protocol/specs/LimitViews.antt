@@ -14,35 +14,35 @@ use Rattle.agreement.specs.declared.Agreement.{Agreement}
 use Rattle.protocol.specs.Net.{Network, Plan, sender, offerIn, fresh}
 use Rattle.protocol.specs.Calls.{Call, change, update, cut, restore, send, deliver, repeat, lose, port, report, path, accepted, messageAt, step, run}
 
--- what a call brings to an end: its bridge moves to another view, it receives a message, or neither
+-- what a call does to an end: its bridge moves to another view, it receives a message, or neither
 pub data EndEffect : Type 0 where
   movesTo : ℕ → EndEffect
   receives : Agreement → EndEffect
   nothing : EndEffect
 
 -- "Update" of bridge b to view t: "If t is the present view, nothing changes"
-unfoldable pub updateBrings : Network → ℕ → ℕ → ℕ → EndEffect
-updateBrings n e b t = cond (eqb (n .plan .graph .bridgeAt e) b && not (eqb (n .view b) t)) (movesTo t) nothing
+unfoldable pub updateEffect : Network → ℕ → ℕ → ℕ → EndEffect
+updateEffect n e b t = cond (eqb (n .plan .graph .bridgeAt e) b && not (eqb (n .view b) t)) (movesTo t) nothing
 
 -- delivery of the message at place p, to the end opposite to its sender
-unfoldable pub deliveryBrings : Network → ℕ → ℕ → EndEffect
-deliveryBrings n e p = cond (eqb e (opposite (sender (messageAt n p)))) (receives (messageAt n p .agreement)) nothing
+unfoldable pub deliveryEffect : Network → ℕ → ℕ → EndEffect
+deliveryEffect n e p = cond (eqb e (opposite (sender (messageAt n p)))) (receives (messageAt n p .agreement)) nothing
 
--- an accepted call at end e; a refused one brings nothing
-unfoldable pub acceptedBrings : Network → ℕ → Call → EndEffect
-acceptedBrings n e (change (update b t)) = updateBrings n e b t
-acceptedBrings n e (change (cut l)) = nothing
-acceptedBrings n e (change (restore l)) = nothing
-acceptedBrings n e (send b l) = nothing
-acceptedBrings n e (deliver p) = deliveryBrings n e p
-acceptedBrings n e (repeat p) = deliveryBrings n e p
-acceptedBrings n e (lose p) = nothing
-acceptedBrings n e (port b d) = nothing
-acceptedBrings n e (report d) = nothing
-acceptedBrings n e (path s d) = nothing
+-- an accepted call at end e; a refused one does nothing there
+unfoldable pub acceptedEffect : Network → ℕ → Call → EndEffect
+acceptedEffect n e (change (update b t)) = updateEffect n e b t
+acceptedEffect n e (change (cut l)) = nothing
+acceptedEffect n e (change (restore l)) = nothing
+acceptedEffect n e (send b l) = nothing
+acceptedEffect n e (deliver p) = deliveryEffect n e p
+acceptedEffect n e (repeat p) = deliveryEffect n e p
+acceptedEffect n e (lose p) = nothing
+acceptedEffect n e (port b d) = nothing
+acceptedEffect n e (report d) = nothing
+acceptedEffect n e (path s d) = nothing
 
-unfoldable pub brings : Network → ℕ → Call → EndEffect
-brings n e c = cond (accepted n c) (acceptedBrings n e c) nothing
+unfoldable pub endEffect : Network → ℕ → Call → EndEffect
+endEffect n e c = cond (accepted n c) (acceptedEffect n e c) nothing
 
 -- "the views since the last clearing": the one at the clearing, and each that the bridge moved to since
 pub data Since : Type 0 where
@@ -58,7 +58,7 @@ pub record EndViews : Type 0 where
 abbrev pub freshViews : EndViews
 freshViews = record { since = only 0; held = none }
 
--- the views of end e of network n, by what a call brings to it.
+-- the views of end e of network n, by what a call does to it.
 -- A move to view t: t is one more view; "At each link end whose last received view is t, t becomes the one held view".
 -- A message that is not stale: where "its discarded number equals the receiver's own agreement number" it clears, and the present view
 -- alone is left; "When agreed, that view becomes the one held"
@@ -76,7 +76,7 @@ viewsAfter n e nothing v = v
 -- after a list of calls, each of which gets the network as the last call left it
 unfoldable pub viewsRun : Network → ℕ → EndViews → List Call → EndViews
 viewsRun n e v [] = v
-viewsRun n e v (c ∷ cs) = viewsRun (step n c) e (viewsAfter n e (brings n e c) v) cs
+viewsRun n e v (c ∷ cs) = viewsRun (step n c) e (viewsAfter n e (endEffect n e c) v) cs
 
 -- the least of the offers over the views
 unfoldable pub leastOver : (ℕ → ℕ) → Since → ℕ

@@ -10,7 +10,7 @@ use borrow.Author.Tests.{ltb-false, leb-true, leb-false, lt-leb}
 use lib.ListN.{length, getD, take, drop, length-drop, List·getD-append}
 use lib.Seq.{sets, sets-eq, take-at}
 use lib.Dec.{leb, ltb}
-use Rattle.bench.specs.Batches.{answerSize}
+use Rattle.bench.specs.Batches.{answerSize, answerSizes}
 use Rattle.bench.specs.declared.Event.{Event}
 use Rattle.plan.specs.Sizes.{mostEvents}
 use Rattle.plan.specs.Reading.{progressInRange, readReply}
@@ -118,28 +118,22 @@ reads-as (suc most) p room at rest =
     go (inl on) behind = rw (on .list) (record { used = _; read = on .goes .read; past = refl; then = behind })
     go (inr none) behind = rw (none .list) tt
 
--- the first answers with no more numbers than have room
-pub first-fits : (most : ℕ) (p : Progress) (room at : ℕ) (rest : List ℕ) {x : Placed} {xs : List Placed} → eventsAt most p room at rest ≡ x ∷ xs → answerSize (p .bridges) (x .event) ≤ room
-unfolding eventsAt
-first-fits zero p room at rest is = absurd (no-event is)
-  where
-    no-event : {x : Placed} {xs : List Placed} → [] ≡ x ∷ xs → ⊥
-    no-event e = let none : 0 ≡ suc _ = ap (λ (l : List Placed). length l) e in omega arith
-first-fits (suc most) p room at rest {x} {xs} is = go (next-or-none p room rest most at)
+-- they answer with no more numbers than have room
+pub sizes-fit : (most : ℕ) (p : Progress) (room at : ℕ) (rest : List ℕ) → answerSizes (p .bridges) (eventsOf (eventsAt most p room at rest)) ≤ room
+unfolding eventsAt eventsOf answerSizes
+sizes-fit zero p room at rest = omega arith
+sizes-fit (suc most) p room at rest =
+    let n = nextEvent rest p room in
+    go (next-or-none p room rest most at) (sizes-fit most p (room - n .size) (at + n .used) (drop (n .used) rest))
   where
     go :
         let n = nextEvent rest p room in
-        let ys = eventsAt (suc most) p room at rest in
-        GoesOn p room rest most at n ys ⊎ Ends p room rest n ys →
-        answerSize (p .bridges) (x .event) ≤ room
-    go (inl on) =
-        let same : x .event ≡ nextEvent rest p room .event = ap (λ (l : List Placed). headOf l .event) (sym is ∙ on .list) in
-        rw same (omega (arith, on .goes .size, on .goes .fits))
-      where
-        headOf : List Placed → Placed
-        headOf [] = x
-        headOf (y ∷ ys) = y
-    go (inr none) = absurd (omega (arith, ap (λ (l : List Placed). length l) (sym is ∙ none .list)))
+        let xs = eventsAt (suc most) p room at rest in
+        GoesOn p room rest most at n xs ⊎ Ends p room rest n xs →
+        answerSizes (p .bridges) (eventsOf (eventsAt most p (room - n .size) (at + n .used) (drop (n .used) rest))) ≤ room - n .size →
+        answerSizes (p .bridges) (eventsOf xs) ≤ room
+    go (inl on) few = rw (on .list) (omega (arith, few, on .goes .size, on .goes .fits))
+    go (inr none) few = rw (none .list) (omega arith)
 
 -- no more than so many
 pub events-few : (most : ℕ) (p : Progress) (room at : ℕ) (rest : List ℕ) → length (eventsAt most p room at rest) ≤ most

@@ -1,8 +1,8 @@
 -- What is replied for a plan, and for what it was read from. Assumes nothing.
 use Prim.Native.Nat.{ℕ, suc, _≤_, _<_}
 use mathlib.Core.Path.{_≡_}
-use mathlib.Core.List.{List}
-use lib.ListN.{length}
+use mathlib.Core.List.{List, _++_}
+use lib.ListN.{length, take}
 use Rattle.runner.specs.Plans.{printed}
 use Rattle.play.specs.declared.Input.{Input}
 use Rattle.play.specs.declared.Reply.{Reply}
@@ -14,13 +14,13 @@ Handed (Reply.Printed n) text = n ≡ length text
 Handed (Reply.Stopped n) text = n < length text
 Handed Reply.Unread text = ⊥
 
--- of a descriptor: it could not be read; or so of the output of a list of bytes, at most one more than a plan may have, of which no
--- contract can say that they are those that were read
-pub data Played : Reply → Type 0 where
-  unread : Played Reply.Unread
-  read : {r : Reply} (plan : List ℕ) → length plan ≤ suc longestPlan → Handed r (printed plan) → Played r
+-- of a descriptor, of which these bytes were read: it could not be read on; or so of the output of a plan that begins with them, at most one
+-- byte longer than a plan may be. Of the bytes behind them no contract can say that they are those that were read
+pub data Played (begun : List ℕ) : Reply → Type 0 where
+  unread : Played begun Reply.Unread
+  read : {r : Reply} (more : List ℕ) → length (begun ++ more) ≤ suc longestPlan → Handed r (printed (begun ++ more)) → Played begun r
 
--- the bytes that were read lie within those that are lent
-abbrev pub Within : Input → List ℕ → Type 0
-Within (Input.Read n) bytes = n ≤ length bytes
-Within Input.Failed bytes = Unit {0}
+-- the bytes that were read lie behind the first `from` of those that are lent, and these are as they were
+abbrev pub ReadBehind : ℕ → Input → List ℕ → List ℕ → Type 0
+ReadBehind from (Input.Read end) before after = (from ≤ end) × (end ≤ length after) × (take from after ≡ take from before)
+ReadBehind from Input.Failed before after = Unit {0}

@@ -13,7 +13,7 @@ use Rattle.text.specs.Lines.{refusedText}
 use Rattle.runner.specs.Buffers.{Buffers}
 use Rattle.runner.specs.Steps.{StepOutcome, stepOf}
 use Rattle.runner.specs.Plans.{firstRunner, firstBuffers, prints, printed}
-use Rattle.runner.specs.Fills.{buffersWithOut, stepOn, stepsOn, fills, fillOf, printsAfter, FillPrints, printsFilled, PlanFilled}
+use Rattle.runner.specs.Fills.{buffersWithOut, stepOn, stepsOn, fills, fieldsAtOnce, fillOf, printsAfter, FillPrints, printsFilled, PlanFilled}
 use Rattle.runner.specs.declared.Runner.{Runner}
 use Rattle.runner.proofs.RunFuel.{prints-next, prints-last}
 use Rattle.runner.proofs.FillTexts.{step-texts, step-within}
@@ -92,7 +92,7 @@ fills-prints (suc fuel) rest t low = go (fills-prints fuel rest (stepOn t rest) 
 
 pub fill-prints : FillPrints
 unfolding fillOf
-fill-prints r k rest = step-prints r k rest ∙ fills-prints (suc (length rest)) rest (stepOf r k rest) (step-written r k rest)
+fill-prints r k rest = step-prints r k rest ∙ fills-prints (fieldsAtOnce r k rest - 1) rest (stepOf r k rest) (step-written r k rest)
 
 again : (fuel : ℕ) (r : Runner) (k : Buffers) (rest : List ℕ) → length rest < fuel → printsFilled fuel r k rest ≡ prints (suc (length rest)) r k rest
 unfolding printsFilled

@@ -3,13 +3,13 @@ use Prim.Native.Nat.{ℕ, zero, suc, _+_, _-_, _*_, _≤_}
 use native.Mathlib.Nat.{add-zero}
 use native.Mathlib.Omega.{arith}
 use mathlib.Core.Path.{_≡_, refl, sym, ap, subst, _∙_}
-use mathlib.Core.Bool.{true}
+use mathlib.Core.Bool.{true, false}
 use mathlib.Core.List.{List, [], _∷_, _++_}
 use lib.ListN.{length, take, drop, length-drop, length-append}
 use lib.Seq.{sets, length-sets, take-at, drop-at, drop-drop}
 use Rattle.bench.specs.State.{State}
 use Rattle.bench.specs.Whole.{stepBy}
-use Rattle.bench.specs.Batches.{callOf, replyOf, answersOf, answerSize, Batch, batch, eventBatchIn, batchFrom}
+use Rattle.bench.specs.Batches.{callOf, replyOf, answersOf, answerSize, answerSizes, Batch, batch, eventBatchIn, batchFrom}
 use Rattle.bench.specs.declared.Disposition.{Disposition}
 use Rattle.bench.specs.declared.Event.{Event}
 use Rattle.bench.proofs.BatchRuns.{First, full, refused, made, first-of, answers-length, following, runs-none, runs-made, runs-unmade}
@@ -27,7 +27,7 @@ use Rattle.runner.specs.Steps.{StepOutcome, stepOutcome}
 use Rattle.runner.specs.Fills.{fills, stepOn}
 use Rattle.runner.specs.Lists.{textsOf, refusedOn, endedOn, SomeNumber}
 use Rattle.runner.proofs.FillTexts.{text-short}
-use Rattle.runner.proofs.FillTurns.{fills-more}
+use Rattle.runner.proofs.FillTurns.{fills-more, fills-over}
 use Rattle.runner.proofs.ListTexts.{above}
 use Rattle.runner.proofs.ListSteps.{stateAt, Roomy, eventOn, steps-on, step-on-event, step-on-refused}
 
@@ -36,7 +36,7 @@ abbrev pub replyAfter : ℕ → ℕ → ℕ
 replyAfter zero old = old
 replyAfter (suc k) old = 0
 
-reply-still : (k : ℕ) → replyAfter k 0 ≡ 0
+pub reply-still : (k : ℕ) → replyAfter k 0 ≡ 0
 reply-still zero = refl
 reply-still (suc k) = refl
 
@@ -47,17 +47,6 @@ puts-both out a b w =
     let second : Put (sets out w a) (w + length a) b (sets (sets out w a) (w + length a) b) (w + length a + length b) = record { bytes = refl; next = refl } in
     let both = joined first second in
     (both .bytes, both .next)
-
--- the steps of a list: the events that were made, and the one that was refused
-abbrev pub stepsOf : Disposition → ℕ → ℕ
-stepsOf Disposition.Complete n = n
-stepsOf (Disposition.Refused k) n = suc n
-stepsOf Disposition.Full n = n
-
-steps-more : (how : Disposition) (n : ℕ) → stepsOf how (suc n) ≡ suc (stepsOf how n)
-steps-more Disposition.Complete n = refl
-steps-more (Disposition.Refused k) n = refl
-steps-more Disposition.Full n = refl
 
 -- a list that ended with a refusal has its number
 pub some-number : (room : ℕ) (s : State) (es : List Event) → SomeNumber (batchFrom room s es .disposition)
@@ -101,27 +90,32 @@ texts-few room s (e ∷ es) = go (texts-few (room - length (answersOf s e)) (ste
           length-append (textOf s e) (textsOf (s .bench .bridges) (take (then .made) es) (then .answers)),
         ))
 
--- the plan's first byte of the list is at `base`, and was at `off` in the whole plan
-module _ (rest : List ℕ) (base off : ℕ) where
+-- a refusal is the last step
+refused-ends : (k : ℕ) (t : StepOutcome) → refusedOn k t .going ≡ false
+unfolding refusedOn
+refused-ends k t = refl
+
+-- what is left of the plan begins with the list, at `off` in the whole plan
+module _ (rest : List ℕ) (off : ℕ) where
   -- the texts of a list, and the turn with it carried out
   abbrev pub textsOn : StepOutcome → List Placed → Batch → List ℕ
   textsOn t xs b = textsOf (t .runner .bench .bridges) (take (b .made) (eventsOf xs)) (b .answers)
 
   abbrev pub listOn : StepOutcome → ℕ → List Placed → Batch → StepOutcome
   listOn t at xs b =
-      stepOutcome (replyAfter (b .made) (t .reply)) true (base + lastEnd at (take (b .made) xs)) (t .written + length (textsOn t xs b))
+      stepOutcome (replyAfter (b .made) (t .reply)) true (lastEnd at (take (b .made) xs)) (t .written + length (textsOn t xs b))
       (record { bench = b .state .bench; stage = 3; events = t .runner .events + b .made; offset = off + lastEnd at (take (b .made) xs) })
       (buffers (b .state .costs) (b .state .sent) (b .state .held) (b .state .messages) (sets (t .buffers .out) (t .written) (textsOn t xs b)))
 
   -- where a turn stands in the list
   pub record At (at : ℕ) (t : StepOutcome) : Type 0 where
-    pub used : t .used ≡ base + at
+    pub used : t .used ≡ at
     pub offset : t .runner .offset ≡ off + at
 
   -- no event
   none-on : (more numbers : ℕ) (t : StepOutcome) (at : ℕ) (xs : List Placed) (how : Disposition) → At at t → Roomy rest more numbers t → t ≡ listOn t at xs (batch 0 how (stateAt t) [])
   unfolding textsOf
-  none-on more numbers t at xs how here roomy = rw (add-zero, add-zero, ← here .used, ← here .offset, ← roomy .stage, ← roomy .going)
+  none-on more numbers t at xs how here roomy = rw (add-zero, add-zero, ← here .offset, ← here .used, ← roomy .stage, ← roomy .going)
 
   module _ (more numbers : ℕ) (t : StepOutcome) (roomy : Roomy rest (suc more) numbers t) (at : ℕ) (here : At at t) (x : Placed)
       (none : replyOf (stateAt t) (x .event) ≡ 0) (fits : answerSize (t .runner .bench .bridges) (x .event) ≤ numbers) (used : ℕ) (past : x .past ≡ at + used) where
@@ -177,27 +171,31 @@ module _ (rest : List ℕ) (base off : ℕ) where
           let events : t .runner .events + 1 + b .made ≡ t .runner .events + suc (b .made) = omega arith in
           rw (texts-on, ← both .0, ← both .1, events, reply-still (b .made))
 
+  -- as many steps as there are events whose answers have room; nothing follows a refusal
   abbrev Steps : List Placed → Type 0
   Steps xs =
       (t : StepOutcome) (at numbers : ℕ) → At at t → ReadAs (listProgress (t .runner .bench)) (drop (t .used) rest) at xs → Roomy rest (length xs) numbers t →
+      answerSizes (t .runner .bench .bridges) (eventsOf xs) ≤ numbers →
       let b : Batch = batchFrom numbers (stateAt t) (eventsOf xs) in
-      fills (stepsOf (b .disposition) (b .made)) t rest ≡ endedOn (b .disposition) (listOn t at xs b)
+      fills (length xs) t rest ≡ endedOn (b .disposition) (listOn t at xs b)
 
   pub list-steps : (xs : List Placed) → Steps xs
-  unfolding fills endedOn eventsOf
-  list-steps [] t at numbers here read roomy = rw runs-none (none-on 0 numbers t at [] Disposition.Complete here roomy)
-  list-steps (x ∷ xs) t at numbers here read roomy = go (list-steps xs) (eventBatchIn numbers (stateAt t) (x .event)) refl (first-of numbers (stateAt t) (x .event))
+  unfolding fills endedOn eventsOf answerSizes
+  list-steps [] t at numbers here read roomy sizes = rw runs-none (none-on 0 numbers t at [] Disposition.Complete here roomy)
+  list-steps (x ∷ xs) t at numbers here read roomy sizes = go (list-steps xs) (eventBatchIn numbers (stateAt t) (x .event)) refl (first-of numbers (stateAt t) (x .event))
     where
       go :
           Steps xs → (b : Batch) → eventBatchIn numbers (stateAt t) (x .event) ≡ b → First numbers (stateAt t) (x .event) b →
           let r : Batch = batchFrom numbers (stateAt t) (eventsOf (x ∷ xs)) in
-          fills (stepsOf (r .disposition) (r .made)) t rest ≡ endedOn (r .disposition) (listOn t at (x ∷ xs) r)
-      go later b is (full few) = rw (runs-unmade numbers (stateAt t) (x .event) (eventsOf xs) b is refl) (none-on _ numbers t at (x ∷ xs) Disposition.Full here roomy)
+          fills (suc (length xs)) t rest ≡ endedOn (r .disposition) (listOn t at (x ∷ xs) r)
+      go later b is (full few) = absurd (omega (arith, few, sizes))
       go later b is (refused some) =
           let k : ℕ = replyOf (stateAt t) (x .event) in
+          let end : StepOutcome = refusedOn k t in
           rw (runs-unmade numbers (stateAt t) (x .event) (eventsOf xs) b is refl)
-          (fills-more 0 t rest (steps-on rest _ numbers t roomy)
-          ∙ step-on-refused rest _ numbers t roomy (x .event) (read .used) (read .read) some
+          (fills-more (length xs) t rest (steps-on rest _ numbers t roomy)
+          ∙ ap (λ (z : StepOutcome). fills (length xs) z rest) (step-on-refused rest _ numbers t roomy (x .event) (read .used) (read .read) some)
+          ∙ fills-over (length xs) end rest (refused-ends k t)
           ∙ ap (refusedOn k) (none-on _ numbers t at (x ∷ xs) (Disposition.Refused k) here roomy))
       go later b is (made none fits) =
           let s : State = stateAt t in
@@ -209,11 +207,15 @@ module _ (rest : List ℕ) (base off : ℕ) where
           let reads : ReadAs (listProgress (u .runner .bench)) (drop (t .used + read .used) rest) (x .past) xs =
           subst (λ (p : Progress). ReadAs p (drop (t .used + read .used) rest) (x .past) xs) (sym progress)
           (subst (λ (l : List ℕ). ReadAs (listProgress (t .runner .bench)) l (x .past) xs) same (read .then)) in
-          rw (runs-made numbers s (x .event) (eventsOf xs) is, steps-more (then .disposition) (then .made))
-          (fills-more (stepsOf (then .disposition) (then .made)) t rest (steps-on rest _ numbers t roomy)
-          ∙ ap (λ (z : StepOutcome). fills (stepsOf (then .disposition) (then .made)) z rest) (step-on-event rest _ numbers t roomy (x .event) (read .used) (read .read) none)
+          let bridges : u .runner .bench .bridges ≡ t .runner .bench .bridges = step-kept s (callOf (x .event)) .bridges in
+          let left : answerSizes (u .runner .bench .bridges) (eventsOf xs) ≤ numbers - length (answersOf s (x .event)) =
+          rw bridges (omega (arith, sizes, answers-length s (x .event) none)) in
+          rw (runs-made numbers s (x .event) (eventsOf xs) is)
+          (fills-more (length xs) t rest (steps-on rest _ numbers t roomy)
+          ∙ ap (λ (z : StepOutcome). fills (length xs) z rest) (step-on-event rest _ numbers t roomy (x .event) (read .used) (read .read) none)
           ∙ later u (x .past) (numbers - length (answersOf s (x .event)))
           (at-next (length xs) numbers t roomy at here x none fits (read .used) (read .past))
           reads
           (roomy-on (length xs) numbers t roomy at here x none fits (read .used) (read .past) (size .1))
+          left
           ∙ ap (endedOn (then .disposition)) (list-on (length xs) numbers t roomy at here x none fits (read .used) (read .past) xs then))

@@ -1,14 +1,17 @@
--- Field after field, each text behind the last, as long as the lent bytes have room for the longest; and what is printed where that is
--- done again and again. For every input. Assumes nothing.
-use Prim.Native.Nat.{ℕ, zero, suc, _+_, _≤_, _-_}
+-- Several fields carried out at once, each text behind the last: the events of a list; and what is printed where that is done again and
+-- again. For every input. Assumes nothing.
+use Prim.Native.Nat.{ℕ, zero, suc, _+_, _≤_, _-_, _/_, min}
 use mathlib.Core.Path.{_≡_}
 use mathlib.Core.Bool.{Bool, cond, _&&_}
 use mathlib.Core.List.{List, [], _++_}
 use lib.ListN.{length, take, drop}
-use lib.Dec.{leb}
-use Rattle.runner.specs.Buffers.{Buffers, buffers}
+use lib.Dec.{eqb, leb}
+use Rattle.plan.specs.Events.{eventsAt, listProgress}
+use Rattle.plan.specs.Sizes.{mostEvents}
+use Rattle.runner.specs.Buffers.{Buffers, buffers, buffersLong}
 use Rattle.runner.specs.Steps.{StepOutcome, stepOutcome, stepOf}
 use Rattle.runner.specs.Plans.{firstRunner, firstBuffers, prints}
+use Rattle.runner.specs.Sizes.{longestPlan, mostAnswers, bytesForANumber}
 use Rattle.runner.specs.declared.Runner.{Runner}
 use Rattle.text.specs.Writing.{longestText}
 
@@ -32,9 +35,23 @@ unfoldable pub fills : ℕ → StepOutcome → List ℕ → StepOutcome
 fills zero t rest = t
 fills (suc fuel) t rest = cond (stepsOn t) (fills fuel (stepOn t rest) rest) t
 
--- the lent bytes filled: a step, which may be refused with 17, and those that follow it
+-- a list of events is in range from here on: its events, and the bytes that are left
+unfoldable pub listFits : Runner → ℕ → Bool
+listFits r left = eqb (r .stage) 3 && (leb (r .events + mostEvents) longestPlan && leb (r .offset + left) longestPlan)
+
+-- so many numbers that what their events print has room, and the longest text behind it
+abbrev pub answerRoom : ℕ → ℕ
+answerRoom bytes = min mostAnswers ((bytes - longestText) / bytesForANumber)
+
+-- how many fields are carried out at once: the events of a list, as long as their answers have room, or else one
+unfoldable pub fieldsAtOnce : Runner → Buffers → List ℕ → ℕ
+fieldsAtOnce r k rest =
+    cond (listFits r (length rest) && buffersLong k)
+    (length (eventsAt mostEvents (listProgress (r .bench)) (answerRoom (length (k .out))) 0 rest)) 1
+
+-- a step, which may be refused with 17, and those of the other fields
 unfoldable pub fillOf : Runner → Buffers → List ℕ → StepOutcome
-fillOf r k rest = fills (suc (length rest)) (stepOf r k rest) rest
+fillOf r k rest = fills (fieldsAtOnce r k rest - 1) (stepOf r k rest) rest
 
 -- what is printed from a step on: its own bytes, and where the plan goes on what is printed from there
 abbrev pub printsAfter : StepOutcome → List ℕ → List ℕ

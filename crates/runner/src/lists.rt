@@ -18,17 +18,16 @@ use messages::Message;
 use messages::batches::BatchAndMessages;
 use text::LONGEST;
 ghost use mathlib.Core.Path.{_≡_};
-ghost use mathlib.Core.Bool.{true, _&&_};
-ghost use Prim.Native.Nat.{_+_, _*_, _^_, _<_, _≤_};
+ghost use Prim.Native.Nat.{_+_, _<_, _≤_};
 ghost use lib.ListN.{length, take};
-ghost use lib.Dec.{eqb};
-ghost use Rattle.bench.specs.Batches.{refusalIn, answerSizes};
+ghost use Rattle.bench.specs.Batches.{answerSizes};
 ghost use Rattle.text.specs.Writing.{Put};
-ghost use Rattle.runner.specs.Lists.{textsOf, ListFits, stepOutcomeOn, madeOn, refusedOn, ResultFits, batchOn};
+ghost use Rattle.runner.specs.Fills.{listFits, answerRoom};
+ghost use Rattle.runner.specs.Lists.{textsOf, stepOutcomeOn, madeOn, refusedOn, ResultFits, batchOn};
 
 // A list of events from here on stays in range.
 pub(crate) fn list_fits(r: Runner, left: usize) -> bool
-    ensures { λ b. ⌜ (b ≡ true → ListFits r left) ⌝ }
+    ensures { λ b. ⌜ b ≡ listFits r left ⌝ }
 {
     if LONGEST_PLAN < left {
         return false;
@@ -45,7 +44,7 @@ pub(crate) fn list_fits(r: Runner, left: usize) -> bool
 // So many numbers that what their events print has room, 15 bytes for each, and the longest text behind it.
 pub(crate) fn answer_room(bytes: usize) -> usize
     requires { ⌜ 544 ≤ bytes ⌝ }
-    ensures { λ n. ⌜ (n ≤ 2048) × (15 * n + 544 ≤ bytes) ⌝ }
+    ensures { λ n. ⌜ n ≡ answerRoom bytes ⌝ }
 {
     let numbers = (bytes - LONGEST) / BYTES_FOR_A_NUMBER;
     if ANSWERS < numbers {
@@ -54,9 +53,8 @@ pub(crate) fn answer_room(bytes: usize) -> usize
     numbers
 }
 
-// The lines of the events that were made, behind what is written.
+// The lines of the events that were made, one behind the other.
 fn put_texts(
-    written: usize,
     bridges: usize,
     events: [Event; MOST_EVENTS],
     made: usize,
@@ -64,10 +62,10 @@ fn put_texts(
     out: &mut [u8],
 ) -> usize
     requires { ⌜ (bridges ≤ 16) × (made ≤ 2048) × (answerSizes bridges (take made events) ≤ length (now answers)) ⌝ }
-    requires { ⌜ written + length (textsOf bridges (take made events) (now answers)) + 544 ≤ length (now out) ⌝ }
-    ensures { λ r. ⌜ Put (now (out .entry)) written (textsOf bridges (take made events) (now (answers .entry))) (now (out .exit)) r ⌝ }
+    requires { ⌜ length (textsOf bridges (take made events) (now answers)) + 544 ≤ length (now out) ⌝ }
+    ensures { λ r. ⌜ Put (now (out .entry)) 0 (textsOf bridges (take made events) (now (answers .entry))) (now (out .exit)) r ⌝ }
 {
-    let mut end = written;
+    let mut end = 0;
     let mut at = 0;
     let mut k = 0;
     while k < made {
@@ -82,28 +80,18 @@ fn put_texts(
     end
 }
 
-// Nothing was made, and nothing refused.
-pub(crate) fn nothing_made(reply: BatchAndMessages) -> bool
-    ensures { λ b. ⌜ b ≡ (eqb (reply .batch .made) 0 && eqb (refusalIn (reply .batch .disposition)) 0) ⌝ }
-{
-    let batch = reply.batch;
-    let how = batch.disposition;
-    both(batch.made == 0, refusal_in(how) == 0)
-}
-
-// With so many events of so many bytes made, and their texts up to `end`.
+// With so many events of so many bytes made, and texts of so many.
 fn made_on(
-    done: Stepped,
+    r: Runner,
     messages: [Message; MOST_MESSAGES],
     bench: Bench,
     made: usize,
     used: usize,
-    end: usize,
+    written: usize,
 ) -> Stepped
-    requires { ⌜ (done .runner .events + made ≤ 61440) × (done .runner .offset + used ≤ 61440) × (done .used + used < 2 ^ 64) ⌝ }
-    ensures { λ s. ⌜ s ≡ madeOn done messages bench made used end ⌝ }
+    requires { ⌜ (r .events + made ≤ 61440) × (r .offset + used ≤ 61440) ⌝ }
+    ensures { λ s. ⌜ s ≡ madeOn r messages bench made used written ⌝ }
 {
-    let r = done.runner;
     let runner = Runner {
         bench,
         stage: 3,
@@ -114,8 +102,8 @@ fn made_on(
         runner,
         messages,
         going: true,
-        used: done.used + used,
-        written: end,
+        used,
+        written,
         reply: 0,
     }
 }
@@ -142,18 +130,17 @@ fn refused_on(done: Stepped, number: u8, out: &mut [u8]) -> Stepped
 
 // The events that were made, with their lines, and the refusal of the next one if it was refused.
 pub(crate) fn batch_on(
-    done: Stepped,
+    r: Runner,
     reply: BatchAndMessages,
     events: [Event; MOST_EVENTS],
     ends: &[u16],
     answers: &[u32],
     out: &mut [u8],
 ) -> Stepped
-    requires { ⌜ ResultFits done (reply .batch) events (now ends) (now answers) (length (now out)) ⌝ }
-    ensures { λ s. ⌜ stepOutcomeOn s (now (out .exit)) ≡ batchOn done (reply .batch) events (now (ends .entry)) (now (answers .entry)) (now (out .entry)) ⌝ }
+    requires { ⌜ ResultFits r (reply .batch) events (now ends) (now answers) (length (now out)) ⌝ }
+    ensures { λ s. ⌜ stepOutcomeOn s (now (out .exit)) ≡ batchOn r (reply .batch) events (now (ends .entry)) (now (answers .entry)) (now (out .entry)) ⌝ }
     ensures { λ s. ⌜ s .messages ≡ reply .messages ⌝ }
 {
-    let r = done.runner;
     let old = r.bench;
     let batch = reply.batch;
     let left = reply.messages;
@@ -161,15 +148,9 @@ pub(crate) fn batch_on(
     let after = batch.bench;
     let how = batch.disposition;
     let number = refusal_in(how);
-    let end = put_texts(done.written, old.bridges, events, made, answers, out);
-    let next = made_on(
-        done,
-        left,
-        after,
-        made,
-        plan::events::bytes_of(ends, made),
-        end,
-    );
+    let written = put_texts(old.bridges, events, made, answers, out);
+    let used = plan::events::bytes_of(ends, made);
+    let next = made_on(r, left, after, made, used, written);
     if number == 0 {
         return next;
     }

@@ -1,5 +1,6 @@
 // Sizes by which a plan is carried out.
 use bench::sizes::MOST_EVENTS;
+use text::LONGEST;
 
 // The longest plan, in bytes; neither its events nor its bytes are more.
 pub const LONGEST_PLAN: usize = 61440;
@@ -13,3 +14,6 @@ pub(crate) const MOST_BEFORE_A_LIST: u32 = (LONGEST_PLAN - MOST_EVENTS) as u32;
 pub(crate) const ANSWERS: usize = 2048;
 
 pub(crate) const BYTES_FOR_A_NUMBER: usize = 15;
+
+// So many bytes have room for what a list of the most answers prints, and for the longest text behind it.
+pub const OUT_BYTES: usize = LONGEST + ANSWERS * BYTES_FOR_A_NUMBER;

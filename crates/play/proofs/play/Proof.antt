@@ -1,34 +1,23 @@
--- `play` meets its contract: what was read is handed on to `print`. Assumes nothing.
-use Prim.Native.Nat.{ℕ, _≤_}
-use native.Mathlib.Omega.{arith}
-use mathlib.Core.Path.{_≡_, sym, subst}
-use mathlib.Core.List.{List}
-use lib.ListN.{length, take, length-take}
+-- `play` meets its contract: what was read is carried out, or read on. Assumes nothing.
+use Rattle.play.proofs.Reading.{lies, carried-told, from-nothing}
+use Rattle.play.specs.Output.{Played}
 use lib.Seq.{length-take-le}
+use lib.ListN.{length, take, replicate, length-replicate, length-take}
+use Prim.Native.Nat.{ℕ}
+use mathlib.Core.Path.{sym}
+use native.Mathlib.Omega.{arith}
 use borrow.Author.Needs.{needs}
-use Rattle.runner.specs.Plans.{printed}
-use Rattle.play.specs.Output.{Handed, Within, Played}
-use Rattle.play.specs.declared.Input.{Input}
-use Rattle.play.specs.declared.Reply.{Reply}
 use Rattle.play.proofs.play.Statement.{statement}
 use Rattle.play.proofs.play.Tie as tie
 
--- what was read lies within the bytes that are lent
-lies : (i : Input) (n : ℕ) (bytes : List ℕ) → i ≡ Input.Read n → Within i bytes → n ≤ length bytes
-lies i n bytes e = subst (λ (j : Input). Within j bytes) e
+slice-aggregate-read-piece : tie.Need-slice-aggregate-read-piece
+slice-aggregate-read-piece c = search needs
 
--- some bytes, at most as many as were lent
-told : (n : ℕ) (bytes : List ℕ) → length bytes ≡ 61441 → (r : Reply) → Handed r (printed (take n bytes)) → Played r
-told n bytes long r handed = Played.read (take n bytes) (omega (arith, length-take n bytes)) handed
+read-piece-requires : tie.Need-read-piece-requires
+read-piece-requires c κs = omega (arith, length-replicate {A = ℕ} 4096 0)
 
-slice-aggregate-read-plan : tie.Need-slice-aggregate-read-plan
-slice-aggregate-read-plan c = search needs
-
-read-plan-requires : tie.Need-read-plan-requires
-read-plan-requires c κs = search needs
-
-enum-known-input : tie.Need-enum-known-input
-enum-known-input c = search needs
+enum-known-first : tie.Need-enum-known-first
+enum-known-first c = search needs
 
 enum-told : tie.Need-enum-told
 enum-told c = search needs
@@ -36,28 +25,96 @@ enum-told c = search needs
 returns : tie.Need-returns
 returns c = Played.unread
 
-array-share-prefix-plan : tie.Need-array-share-prefix-plan
-array-share-prefix-plan c = omega (arith, c .before .before .before .before .read-plan .kept, lies _ _ _ (c .before .input .given .1) (c .before .before .before .before .read-plan .ensures))
+array-share-prefix-begun : tie.Need-array-share-prefix-begun
+array-share-prefix-begun c = lies _ _ _ _ _ (c .before .before .first .given .1) (c .before .before .before .before .before .read-piece .ensures) .1
 
-slice-aggregate-print : tie.Need-slice-aggregate-print
-slice-aggregate-print c = sym (length-take-le _ _ (lies _ _ _ (c .before .before .input .given .1) (c .before .before .before .before .before .read-plan .ensures)))
+slice-aggregate-carry-out : tie.Need-slice-aggregate-carry-out
+slice-aggregate-carry-out c = sym (length-take-le _ _ (lies _ _ _ _ _ (c .before .before .before .first .given .1) (c .before .before .before .before .before .before .read-piece .ensures) .1))
 
-print-requires : tie.Need-print-requires
-print-requires c κs = search needs
+carry-out-requires : tie.Need-carry-out-requires
+carry-out-requires c κs = omega (arith, length-take (c .before .before .before .first .given .0 .0) (c .before .before .before .before .before .before .read-piece .last .1 .0), c .before .before .before .before .before .before .read-piece .kept)
 
 returns-2 : tie.Need-returns-2
-returns-2 c = told (c .before .before .before .input .given .0 .0) (c .before .before .before .before .before .before .read-plan .last .1 .0) (omega (arith, c .before .before .before .before .before .before .read-plan .kept)) (c .print .result) (c .print .ensures)
+returns-2 c = carried-told (take (c .before .before .before .before .first .given .0 .0) (c .before .before .before .before .before .before .before .read-piece .last .1 .0)) (c .carry-out .result) (omega (arith, length-take (c .before .before .before .before .first .given .0 .0) (c .before .before .before .before .before .before .before .read-piece .last .1 .0), c .before .before .before .before .before .before .before .read-piece .kept)) (c .carry-out .ensures)
+
+array-share-prefix-begun-2 : tie.Need-array-share-prefix-begun-2
+array-share-prefix-begun-2 c = lies _ _ _ _ _ (c .before .before .before .first .given .1) (c .before .before .before .before .before .before .read-piece .ensures) .1
+
+slice-aggregate-read-on : tie.Need-slice-aggregate-read-on
+slice-aggregate-read-on c = sym (length-take-le _ _ (lies _ _ _ _ _ (c .before .before .before .before .first .given .1) (c .before .before .before .before .before .before .before .read-piece .ensures) .1))
+
+read-on-requires : tie.Need-read-on-requires
+read-on-requires c κs = omega (arith, length-take (c .before .before .before .before .first .given .0 .0) (c .before .before .before .before .before .before .before .read-piece .last .1 .0), c .before .before .before .before .before .before .before .read-piece .kept)
+
+returns-3 : tie.Need-returns-3
+returns-3 c = from-nothing _ _ (c .read-on .ensures)
+
+slice-aggregate-read-piece-2 : tie.Need-slice-aggregate-read-piece-2
+slice-aggregate-read-piece-2 c = search needs
+
+read-piece-requires-2 : tie.Need-read-piece-requires-2
+read-piece-requires-2 c κs = lies _ _ _ _ _ (c .before .before .before .before .first .given .1) (c .before .before .before .before .before .before .before .read-piece .ensures) .1
+
+enum-known-second : tie.Need-enum-known-second
+enum-known-second c = search needs
+
+enum-told-2 : tie.Need-enum-told-2
+enum-told-2 c = search needs
+
+returns-4 : tie.Need-returns-4
+returns-4 c = Played.unread
+
+array-share-prefix-begun-3 : tie.Need-array-share-prefix-begun-3
+array-share-prefix-begun-3 c = omega (arith, lies _ _ _ _ _ (c .before .before .before .before .before .before .before .before .before .before .first .given .1) (c .before .before .before .before .before .before .before .before .before .before .before .before .before .read-piece .ensures) .1, c .before .before .before .before .before .read-piece2 .kept)
+
+slice-aggregate-carry-out-2 : tie.Need-slice-aggregate-carry-out-2
+slice-aggregate-carry-out-2 c = sym (length-take-le _ _ (omega (arith, lies _ _ _ _ _ (c .before .before .before .before .before .before .before .before .before .before .before .first .given .1) (c .before .before .before .before .before .before .before .before .before .before .before .before .before .before .read-piece .ensures) .1, c .before .before .before .before .before .before .read-piece2 .kept)))
+
+carry-out-requires-2 : tie.Need-carry-out-requires-2
+carry-out-requires-2 c κs = omega (arith, length-take (c .before .before .before .before .before .before .before .before .before .before .before .first .given .0 .0) (c .before .before .before .before .before .before .read-piece2 .last .1 .0), c .before .before .before .before .before .before .before .before .before .before .before .before .before .before .read-piece .kept, c .before .before .before .before .before .before .read-piece2 .kept)
+
+returns-5 : tie.Need-returns-5
+returns-5 c = carried-told (take (c .before .before .before .before .before .before .before .before .before .before .before .before .first .given .0 .0) (c .before .before .before .before .before .before .before .read-piece2 .last .1 .0)) (c .carry-out2 .result) (omega (arith, length-take (c .before .before .before .before .before .before .before .before .before .before .before .before .first .given .0 .0) (c .before .before .before .before .before .before .before .read-piece2 .last .1 .0), c .before .before .before .before .before .before .before .before .before .before .before .before .before .before .before .read-piece .kept, c .before .before .before .before .before .before .before .read-piece2 .kept)) (c .carry-out2 .ensures)
+
+array-share-prefix-begun-4 : tie.Need-array-share-prefix-begun-4
+array-share-prefix-begun-4 c = lies _ _ _ _ _ (c .before .before .second .given .1) (c .before .before .before .before .before .read-piece2 .ensures) .1
+
+slice-aggregate-read-on-2 : tie.Need-slice-aggregate-read-on-2
+slice-aggregate-read-on-2 c = sym (length-take-le _ _ (lies _ _ _ _ _ (c .before .before .before .second .given .1) (c .before .before .before .before .before .before .read-piece2 .ensures) .1))
+
+read-on-requires-2 : tie.Need-read-on-requires-2
+read-on-requires-2 c κs = omega (arith, length-take (c .before .before .before .second .given .0 .0) (c .before .before .before .before .before .before .read-piece2 .last .1 .0), c .before .before .before .before .before .before .before .before .before .before .before .before .before .before .read-piece .kept, c .before .before .before .before .before .before .read-piece2 .kept)
+
+returns-6 : tie.Need-returns-6
+returns-6 c = from-nothing _ _ (c .read-on2 .ensures)
 
 pub play-spec : {M : Type 1} → statement M
 play-spec =
     tie.close
     (tie.spec
-    slice-aggregate-read-plan
-    read-plan-requires
-    enum-known-input
+    slice-aggregate-read-piece
+    read-piece-requires
+    enum-known-first
     enum-told
     returns
-    array-share-prefix-plan
-    slice-aggregate-print
-    print-requires
-    returns-2)
+    array-share-prefix-begun
+    slice-aggregate-carry-out
+    carry-out-requires
+    returns-2
+    array-share-prefix-begun-2
+    slice-aggregate-read-on
+    read-on-requires
+    returns-3
+    slice-aggregate-read-piece-2
+    read-piece-requires-2
+    enum-known-second
+    enum-told-2
+    returns-4
+    array-share-prefix-begun-3
+    slice-aggregate-carry-out-2
+    carry-out-requires-2
+    returns-5
+    array-share-prefix-begun-4
+    slice-aggregate-read-on-2
+    read-on-requires-2
+    returns-6)

@@ -1,44 +1,26 @@
 -- `print` meets its contract: the definition of the output takes the same decision. Assumes nothing.
-use Prim.Native.Nat.{ℕ, _≤_}
-use native.Mathlib.Omega.{arith}
-use mathlib.Core.Path.{sym, subst}
-use lib.ListN.{length, replicate, length-replicate}
-use borrow.Author.Needs.{needs}
-use borrow.Author.Tests.{ltb-true, ltb-false}
-use Rattle.runner.proofs.FillLaws.{printed-carried, printed-refused}
 use Rattle.play.specs.Output.{Handed}
+use Rattle.runner.proofs.FillLaws.{printed-carried, printed-refused}
+use borrow.Author.Tests.{ltb-true, ltb-false}
+use Prim.Native.Nat.{ℕ}
+use mathlib.Core.List.{List}
+use mathlib.Core.Path.{sym, subst}
+use native.Mathlib.Omega.{arith}
+use borrow.Author.Needs.{needs}
 use Rattle.play.proofs.print.Statement.{statement}
 use Rattle.play.proofs.print.Tie as tie
 
--- the bytes that are lent
-room : 544 ≤ length (replicate {A = ℕ} 49152 0)
-room = omega (arith, length-replicate {A = ℕ} 49152 0)
-
-slice-aggregate-too-long : tie.Need-slice-aggregate-too-long
-slice-aggregate-too-long c = search needs
-
 too-long-requires : tie.Need-too-long-requires
-too-long-requires c κs = room
+too-long-requires c κs = search needs
 
 returns : tie.Need-returns
-returns c = subst (Handed (c .before .too-long .result)) (sym (printed-refused (c .before .before .before .before .before .args .plan .now) (omega (arith, ltb-true, c .before .before .before .if1 .taken)))) (c .before .too-long .ensures .0)
-
-slice-aggregate-carry-out : tie.Need-slice-aggregate-carry-out
-slice-aggregate-carry-out c = search needs
+returns c = subst (Handed (c .too-long .result)) (sym (printed-refused (c .before .before .before .args .plan .now) (omega (arith, c .before .if1 .taken)))) (c .too-long .ensures)
 
 carry-out-requires : tie.Need-carry-out-requires
-carry-out-requires c κs = (omega (arith, ltb-false, c .before .if1 .left), room)
+carry-out-requires c κs = omega (arith, c .if1 .left)
 
 returns-2 : tie.Need-returns-2
-returns-2 c = subst (Handed (c .before .carry-out .result)) (sym (printed-carried (c .before .before .before .before .before .args .plan .now) (omega (arith, ltb-false, c .before .before .before .if1 .left)))) (c .before .carry-out .ensures)
+returns-2 c = subst (Handed (c .carry-out .result)) (sym (printed-carried (c .before .before .before .args .plan .now) (omega (arith, c .before .if1 .left)))) (c .carry-out .ensures)
 
 pub print-spec : {M : Type 1} → statement M
-print-spec =
-    tie.close
-    (tie.spec
-    slice-aggregate-too-long
-    too-long-requires
-    returns
-    slice-aggregate-carry-out
-    carry-out-requires
-    returns-2)
+print-spec = tie.close (tie.spec too-long-requires returns carry-out-requires returns-2)

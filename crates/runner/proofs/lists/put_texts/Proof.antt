@@ -16,17 +16,17 @@ use Rattle.runner.proofs.lists.put_texts.Statement.{statement}
 use Rattle.runner.proofs.lists.put_texts.Tie as tie
 
 abbrev Inv-loop : tie.InvT-loop
-Inv-loop written bridges made answers out₀ events end₀ at₀ k₀ out end at k = Telling bridges written (take made events) answers out₀ out end at k
+Inv-loop bridges made answers out₀ events end₀ at₀ k₀ out end at k = Telling bridges 0 (take made events) answers out₀ out end at k
 
 abbrev μ-loop : tie.MeasureT-loop
-μ-loop written bridges made answers out₀ events end₀ at₀ k₀ out end at k = made - k
+μ-loop bridges made answers out₀ events end₀ at₀ k₀ out end at k = made - k
 
 -- as many events as were made
-listed : (s : tie.Start Inv-loop μ-loop) → length (take (s .args .made) (s .args .t3)) ≡ s .args .made
-listed s = let all : length (s .args .t3) ≡ 2048 = search (needs, length-mapped) in length-take-le (s .args .made) (s .args .t3) (omega (arith, all, s .pre .0 .1))
+listed : (s : tie.Start Inv-loop μ-loop) → length (take (s .args .made) (s .args .t2)) ≡ s .args .made
+listed s = let all : length (s .args .t2) ≡ 2048 = search (needs, length-mapped) in length-take-le (s .args .made) (s .args .t2) (omega (arith, all, s .pre .0 .1))
 
 loop-holds : tie.Need-loop-holds Inv-loop μ-loop
-loop-holds c = telling-none _ _ _ _ _ (c .before .before .pre .0 .2) (c .before .before .pre .1)
+loop-holds c = telling-none _ 0 _ _ _ (c .before .before .pre .0 .2) (omega (arith, c .before .before .pre .1))
 
 mul-event : tie.Need-mul-event Inv-loop μ-loop
 mul-event c = omega (arith, c .loop-test .taken, c .before .before .before .before .pre .0 .1)
@@ -41,13 +41,13 @@ answer-size-requires : tie.Need-answer-size-requires Inv-loop μ-loop
 answer-size-requires c κs = search needs
 
 add-past : tie.Need-add-past Inv-loop μ-loop
-add-past c = let fits = telling-fits _ _ _ _ _ _ _ _ _ (c .before .before .before .loop .inv) _ _ (sym (getD-take (c .before .before .before .before .before .before .args .made) (c .before .before .before .before .before .before .args .t3) (c .before .before .before .loop .k) _ (c .before .before .loop-test .taken))) (omega (arith, listed (c .before .before .before .before .before .before), c .before .before .loop-test .taken)) (c .answer-size .ensures) in record { fits = omega (arith, fits .0, c .before .before .before .before .before .before .good) }
+add-past c = let fits = telling-fits _ _ _ _ _ _ _ _ _ (c .before .before .before .loop .inv) _ _ (sym (getD-take (c .before .before .before .before .before .before .args .made) (c .before .before .before .before .before .before .args .t2) (c .before .before .before .loop .k) _ (c .before .before .loop-test .taken))) (omega (arith, listed (c .before .before .before .before .before .before), c .before .before .loop-test .taken)) (c .answer-size .ensures) in record { fits = omega (arith, fits .0, c .before .before .before .before .before .before .good) }
 
 has-text-requires : tie.Need-has-text-requires Inv-loop μ-loop
 has-text-requires c κs = search needs
 
 mul-event-text : tie.Need-mul-event-text Inv-loop μ-loop
-mul-event-text c = let fits = telling-fits _ _ _ _ _ _ _ _ _ (c .before .before .before .before .before .loop .inv) _ _ (sym (getD-take (c .before .before .before .before .before .before .before .before .args .made) (c .before .before .before .before .before .before .before .before .args .t3) (c .before .before .before .before .before .loop .k) _ (c .before .before .before .before .loop-test .taken))) (omega (arith, listed (c .before .before .before .before .before .before .before .before), c .before .before .before .before .loop-test .taken)) (c .before .before .answer-size .ensures) in omega (arith, fits .0, c .before .before .before .before .before .before .before .before .good)
+mul-event-text c = let fits = telling-fits _ _ _ _ _ _ _ _ _ (c .before .before .before .before .before .loop .inv) _ _ (sym (getD-take (c .before .before .before .before .before .before .before .before .args .made) (c .before .before .before .before .before .before .before .before .args .t2) (c .before .before .before .before .before .loop .k) _ (c .before .before .before .before .loop-test .taken))) (omega (arith, listed (c .before .before .before .before .before .before .before .before), c .before .before .before .before .loop-test .taken)) (c .before .before .answer-size .ensures) in omega (arith, fits .0, c .before .before .before .before .before .before .before .before .good)
 
 sub-event-text : tie.Need-sub-event-text Inv-loop μ-loop
 sub-event-text c = omega (arith, c .before .before .answer-size .ensures)
@@ -56,7 +56,7 @@ part-event-text-start : tie.Need-part-event-text-start Inv-loop μ-loop
 part-event-text-start c = omega (arith, c .before .before .answer-size .ensures)
 
 part-event-text-end : tie.Need-part-event-text-end Inv-loop μ-loop
-part-event-text-end c = let fits = telling-fits _ _ _ _ _ _ _ _ _ (c .before .before .before .before .before .loop .inv) _ _ (sym (getD-take (c .before .before .before .before .before .before .before .before .args .made) (c .before .before .before .before .before .before .before .before .args .t3) (c .before .before .before .before .before .loop .k) _ (c .before .before .before .before .loop-test .taken))) (omega (arith, listed (c .before .before .before .before .before .before .before .before), c .before .before .before .before .loop-test .taken)) (c .before .before .answer-size .ensures) in omega (arith, fits .0)
+part-event-text-end c = let fits = telling-fits _ _ _ _ _ _ _ _ _ (c .before .before .before .before .before .loop .inv) _ _ (sym (getD-take (c .before .before .before .before .before .before .before .before .args .made) (c .before .before .before .before .before .before .before .before .args .t2) (c .before .before .before .before .before .loop .k) _ (c .before .before .before .before .loop-test .taken))) (omega (arith, listed (c .before .before .before .before .before .before .before .before), c .before .before .before .before .loop-test .taken)) (c .before .before .answer-size .ensures) in omega (arith, fits .0)
 
 sub-event-text-2 : tie.Need-sub-event-text-2 Inv-loop μ-loop
 sub-event-text-2 c = omega (arith, c .before .before .before .before .before .before .loop .inv .room)
@@ -68,11 +68,11 @@ part-event-text-end-2 : tie.Need-part-event-text-end-2 Inv-loop μ-loop
 part-event-text-end-2 c = omega (arith, c .before .before .before .before .before .before .loop .inv .room)
 
 event-text-requires : tie.Need-event-text-requires Inv-loop μ-loop
-event-text-requires c κs = let fits = telling-fits _ _ _ _ _ _ _ _ _ (c .before .before .before .before .before .before .before .loop .inv) _ _ (sym (getD-take (c .before .before .before .before .before .before .before .before .before .before .args .made) (c .before .before .before .before .before .before .before .before .before .before .args .t3) (c .before .before .before .before .before .before .before .loop .k) _ (c .before .before .before .before .before .before .loop-test .taken))) (omega (arith, listed (c .before .before .before .before .before .before .before .before .before .before), c .before .before .before .before .before .before .loop-test .taken)) (c .before .before .before .before .answer-size .ensures) in
+event-text-requires c κs = let fits = telling-fits _ _ _ _ _ _ _ _ _ (c .before .before .before .before .before .before .before .loop .inv) _ _ (sym (getD-take (c .before .before .before .before .before .before .before .before .before .before .args .made) (c .before .before .before .before .before .before .before .before .before .before .args .t2) (c .before .before .before .before .before .before .before .loop .k) _ (c .before .before .before .before .before .before .loop-test .taken))) (omega (arith, listed (c .before .before .before .before .before .before .before .before .before .before), c .before .before .before .before .before .before .loop-test .taken)) (c .before .before .before .before .answer-size .ensures) in
     (c .before .before .before .before .before .before .before .before .before .before .pre .0 .0, lent-size (c .before .before .before .before .before .before .before .before .before .before .args .answers .now) (c .before .before .before .before .before .before .before .loop .at) (fits .0) (c .before .before .before .before .answer-size .ensures), lent-room (c .before .before .before .before .before .before .before .loop .out) (c .before .before .before .before .before .before .before .loop .end) (fits .1))
 
 add-end : tie.Need-add-end Inv-loop μ-loop
-add-end c = let n = telling-next _ _ _ _ _ _ _ _ _ (c .before .before .before .before .before .before .before .before .before .before .loop .inv) _ _ (sym (getD-take (c .before .before .before .before .before .before .before .before .before .before .before .before .before .args .made) (c .before .before .before .before .before .before .before .before .before .before .before .before .before .args .t3) (c .before .before .before .before .before .before .before .before .before .before .loop .k) _ (c .before .before .before .before .before .before .before .before .before .loop-test .taken))) (omega (arith, listed (c .before .before .before .before .before .before .before .before .before .before .before .before .before), c .before .before .before .before .before .before .before .before .before .loop-test .taken)) _ _ _ (c .before .before .before .before .before .before .before .answer-size .ensures) (c .before .before .event-text .ensures) in
+add-end c = let n = telling-next _ _ _ _ _ _ _ _ _ (c .before .before .before .before .before .before .before .before .before .before .loop .inv) _ _ (sym (getD-take (c .before .before .before .before .before .before .before .before .before .before .before .before .before .args .made) (c .before .before .before .before .before .before .before .before .before .before .before .before .before .args .t2) (c .before .before .before .before .before .before .before .before .before .before .loop .k) _ (c .before .before .before .before .before .before .before .before .before .loop-test .taken))) (omega (arith, listed (c .before .before .before .before .before .before .before .before .before .before .before .before .before), c .before .before .before .before .before .before .before .before .before .loop-test .taken)) _ _ _ (c .before .before .before .before .before .before .before .answer-size .ensures) (c .before .before .event-text .ensures) in
     record { fits = omega (arith, n .room, put-length (n .put), c .before .before .before .before .before .before .before .before .before .before .before .before .before .good) }
 
 add-k : tie.Need-add-k Inv-loop μ-loop
@@ -84,8 +84,8 @@ loop-less c = omega (arith, c .before .before .before .before .loop-test .taken)
 loop-again : tie.Need-loop-again Inv-loop μ-loop
 loop-again c =
     ⊎-elim
-    (λ w. rw (w .6, w .7) (telling-next _ _ _ _ _ _ _ _ _ (c .before .before .before .before .before .loop .inv) _ _ (sym (getD-take (c .before .before .before .before .before .before .before .before .args .made) (c .before .before .before .before .before .before .before .before .args .t3) (c .before .before .before .before .before .loop .k) _ (c .before .before .before .before .loop-test .taken))) (omega (arith, listed (c .before .before .before .before .before .before .before .before), c .before .before .before .before .loop-test .taken)) _ _ _ (c .before .before .answer-size .ensures) (w .3 .ensures)))
-    (λ w. rw (w .1, w .2) (telling-skip _ _ _ _ _ _ _ _ _ (c .before .before .before .before .before .loop .inv) _ _ (sym (getD-take (c .before .before .before .before .before .before .before .before .args .made) (c .before .before .before .before .before .before .before .before .args .t3) (c .before .before .before .before .before .loop .k) _ (c .before .before .before .before .loop-test .taken))) (omega (arith, listed (c .before .before .before .before .before .before .before .before), c .before .before .before .before .loop-test .taken)) _ (c .before .before .answer-size .ensures) (c .before .has-text .ensures (w .0 .left))))
+    (λ w. rw (w .6, w .7) (telling-next _ _ _ _ _ _ _ _ _ (c .before .before .before .before .before .loop .inv) _ _ (sym (getD-take (c .before .before .before .before .before .before .before .before .args .made) (c .before .before .before .before .before .before .before .before .args .t2) (c .before .before .before .before .before .loop .k) _ (c .before .before .before .before .loop-test .taken))) (omega (arith, listed (c .before .before .before .before .before .before .before .before), c .before .before .before .before .loop-test .taken)) _ _ _ (c .before .before .answer-size .ensures) (w .3 .ensures)))
+    (λ w. rw (w .1, w .2) (telling-skip _ _ _ _ _ _ _ _ _ (c .before .before .before .before .before .loop .inv) _ _ (sym (getD-take (c .before .before .before .before .before .before .before .before .args .made) (c .before .before .before .before .before .before .before .before .args .t2) (c .before .before .before .before .before .loop .k) _ (c .before .before .before .before .loop-test .taken))) (omega (arith, listed (c .before .before .before .before .before .before .before .before), c .before .before .before .before .loop-test .taken)) _ (c .before .before .answer-size .ensures) (c .before .has-text .ensures (w .0 .left))))
     (c .if1 .came)
 
 same-length : tie.Need-same-length Inv-loop μ-loop

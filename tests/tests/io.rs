@@ -28,10 +28,18 @@ fn longest() -> Vec<u8> {
     [setup, reports].concat()
 }
 
-/// What it has to print.
-fn whole() -> String {
-    text(printed("target/cargo/release/reference", &[], &longest()))
+/// What the program has to print for a plan.
+fn expected(plan: &[u8]) -> String {
+    text(printed("target/cargo/release/reference", &[], plan))
 }
+
+/// What it has to print for the longest.
+fn whole() -> String {
+    expected(&longest())
+}
+
+/// A plan below 4,096 bytes that one read has whole is carried out where it was read. Lengths on both sides of that.
+const AROUND_SHORT: [usize; 6] = [16, 100, 4_095, 4_096, 4_097, 9_000];
 
 /// What a script that is handed the program as $0 and the name of a file as $1 writes to standard output and to standard error.
 fn shell(script: &str, plan: &[u8]) -> [String; 2] {
@@ -49,16 +57,18 @@ fn an_input_that_cannot_be_read() {
     }
 }
 
-/// A whole plan comes, and then no end of the input but a read that fails. Nothing is printed.
+/// A plan comes, and then no end of the input but a read that fails. Nothing is printed.
 #[test]
 fn an_input_that_breaks_off() {
-    let (mut here, there) = UnixStream::pair().expect("two ends");
-    here.write_all(&longest()[..100]).expect("a plan fits");
-    there.set_nonblocking(true).expect("a read without a byte to come fails");
-    let mut command = Command::new("timeout");
-    let output = command.arg("30").arg(root().join(PROGRAM)).stdin(OwnedFd::from(there)).output().expect("it starts");
-    assert_eq!([output.stdout, output.stderr].map(text), ["", UNREAD]);
-    drop(here);
+    for length in AROUND_SHORT {
+        let (mut here, there) = UnixStream::pair().expect("two ends");
+        here.write_all(&longest()[..length]).expect("a plan fits");
+        there.set_nonblocking(true).expect("a read without a byte to come fails");
+        let mut command = Command::new("timeout");
+        let output = command.arg("30").arg(root().join(PROGRAM)).stdin(OwnedFd::from(there)).output().expect("it starts");
+        assert_eq!([output.stdout, output.stderr].map(text), ["", UNREAD], "{length} bytes");
+        drop(here);
+    }
 }
 
 /// Standard output is a full device; it is closed.
@@ -96,4 +106,15 @@ fn a_plan_in_pieces() {
     assert_eq!(longest().len(), 61_440);
     assert!(shell(pieces, &longest()) == [whole(), String::new()]);
     assert_eq!(shell(pieces, &[longest(), vec![11]].concat()), ["refused 18 at 61440\n", ""]);
+}
+
+/// A short plan prints the same whether one read has it whole or not.
+#[test]
+fn a_short_plan_whole_and_in_pieces() {
+    for length in AROUND_SHORT {
+        let plan = &longest()[..length];
+        for script in [r#"exec "$0""#, r#"{ head -c 7; sleep 0.05; cat; } | exec "$0""#, r#"{ head -c 4090; sleep 0.05; cat; } | exec "$0""#] {
+            assert!(shell(script, plan) == [expected(plan), String::new()], "{length} bytes: {script}");
+        }
+    }
 }

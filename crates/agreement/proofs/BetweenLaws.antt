@@ -118,13 +118,13 @@ far-offers : (v : ViewData) (e : ℕ) → farOffer (betweenAt v e) ≡ lentOffer
 far-offers v e = lent-offers v (opposite e) (opposite e) e (e / 2) refl (omega arith) (omega arith)
 
 -- the end e, its opposite o and their link stand in the view's lists
-pub record EndListed (ends costs : List ℕ) (e o : ℕ) : Type 0 where
+pub record EndExists (ends costs : List ℕ) (e o : ℕ) : Type 0 where
   pub end : e < length ends
   pub link : e / 2 < length costs
   pub sides : BothEnds ends e o
 
 module _ (v : ViewData) (e : ℕ) (sent held : List ℕ) (ok : lentEndInRange v sent held e ≡ true) where
-  pub end-listed : (o : ℕ) → o ≡ opposite e → EndListed (v .ends) (v .costs) e o
+  pub end-listed : (o : ℕ) → o ≡ opposite e → EndExists (v .ends) (v .costs) e o
   end-listed o same =
       let ready = end-ready _ _ _ _ _ _ _ _ ok in
       let told = end-told _ _ _ _ _ _ _ _ ok in

@@ -39,21 +39,21 @@ abbrev pub number : Reply → ℕ
 number Reply.Refused = 17
 number Reply.Done = 0
 
-abbrev pub offeredSays : Offered → Response ℕ
-offeredSays Offered.Refused = refused
-offeredSays (Offered.Offers x) = says x
+abbrev pub offeredResponse : Offered → Response ℕ
+offeredResponse Offered.Refused = refused
+offeredResponse (Offered.Offers x) = says x
 
-abbrev pub carryingSays : Carrying → Response Agreement
-carryingSays Carrying.Refused = refused
-carryingSays (Carrying.Carries m) = says m
+abbrev pub carryingResponse : Carrying → Response Agreement
+carryingResponse Carrying.Refused = refused
+carryingResponse (Carrying.Carries m) = says m
 
-abbrev pub reactionSays : Reaction → Response Answer
-reactionSays Reaction.Refused = refused
-reactionSays (Reaction.Answered a) = says a
+abbrev pub reactionResponse : Reaction → Response Answer
+reactionResponse Reaction.Refused = refused
+reactionResponse (Reaction.Answered a) = says a
 
-abbrev pub forwardingSays : Forwarding → Response Port
-forwardingSays Forwarding.Refused = refused
-forwardingSays (Forwarding.Found p) = says p
+abbrev pub forwardingResponse : Forwarding → Response Port
+forwardingResponse Forwarding.Refused = refused
+forwardingResponse (Forwarding.Found p) = says p
 
 -- A view as it is lent: the graph, its costs, and a table that holds its distances
 pub record ViewData : Type 0 where

@@ -47,9 +47,9 @@ unfoldable pub portBy : Choice → Port
 portBy c = cond (c .found && (c .usable && c .allowed)) (Open (c .link)) Closed
 
 -- what the calls answer: 17 for a link or a cost out of document 01's ranges
-abbrev pub chosenSays : Chosen → Response Choice
-chosenSays Chosen.Refused = refused
-chosenSays (Chosen.So c) = says c
+abbrev pub chosenResponse : Chosen → Response Choice
+chosenResponse Chosen.Refused = refused
+chosenResponse (Chosen.So c) = says c
 
 unfoldable pub nextOutcome : Choice → ℕ → ℕ → ℕ → Bool → Bool → ℕ → ℕ → Response Choice
 nextOutcome old link cost far cut holding sent held =

@@ -21,7 +21,7 @@ ghost use mathlib.Core.Path.{_≡_};
 ghost use mathlib.Core.Bool.{_&&_, not};
 ghost use lib.Dec.{eqb, leb, ltb};
 ghost use Rattle.distances.specs.View.{maxCost};
-ghost use Rattle.agreement.specs.Call.{outcome, number, reactionSays};
+ghost use Rattle.agreement.specs.Call.{outcome, number, reactionResponse};
 ghost use Rattle.agreement.specs.Ends.{between, updateBetween, deliverBetween};
 
 // The tables by their lengths.
@@ -107,7 +107,7 @@ pub fn deliver_between(
     sent: &mut [u32],
     held: &mut [u32],
 ) -> Received
-    ensures { λ r. ⌜ outcome (reactionSays (r .reply)) (r .end) (now (sent .exit)) (now (held .exit)) ≡ deliverBetween (between bridges near far cost (now (table .entry))) views view number end old message (now (sent .entry)) (now (held .entry)) ⌝ }
+    ensures { λ r. ⌜ outcome (reactionResponse (r .reply)) (r .end) (now (sent .exit)) (now (held .exit)) ≡ deliverBetween (between bridges near far cost (now (table .entry))) views view number end old message (now (sent .entry)) (now (held .entry)) ⌝ }
 {
     let size = table.len();
     let sent_size = sent.len();

@@ -20,7 +20,7 @@ use distances::ready::both;
 ghost use mathlib.Core.Path.{_≡_};
 ghost use Rattle.agreement.specs.Ranges.{endInRange};
 ghost use Rattle.agreement.specs.Record.{freshRecord};
-ghost use Rattle.agreement.specs.Call.{viewData, outcome, number, offeredSays, carryingSays, reactionSays, forwardingSays, offerOutcome, freshOutcome, updateOutcome, carryOutcome, deliverOutcome, portOutcome};
+ghost use Rattle.agreement.specs.Call.{viewData, outcome, number, offeredResponse, carryingResponse, reactionResponse, forwardingResponse, offerOutcome, freshOutcome, updateOutcome, carryOutcome, deliverOutcome, portOutcome};
 
 // The record of a fresh end.
 pub fn fresh_record() -> EndRecord
@@ -36,7 +36,7 @@ pub fn fresh_record() -> EndRecord
 
 // What a send carries from an end of a bridge on this view with this agreement number.
 pub fn carry(views: usize, view: u8, number: u16, old: EndRecord) -> Carrying
-    ensures { λ r. ⌜ carryingSays r ≡ carryOutcome views view number old ⌝ }
+    ensures { λ r. ⌜ carryingResponse r ≡ carryOutcome views view number old ⌝ }
 {
     if both(
         ready::is_view(views, view),
@@ -82,7 +82,7 @@ pub fn offer_over(
     end: usize,
     dest: usize,
 ) -> Offered
-    ensures { λ r. ⌜ offeredSays r ≡ offerOutcome (viewData bridges links (now (ends .entry)) (now (costs .entry)) (now (table .entry))) end dest ⌝ }
+    ensures { λ r. ⌜ offeredResponse r ≡ offerOutcome (viewData bridges links (now (ends .entry)) (now (costs .entry)) (now (table .entry))) end dest ⌝ }
 {
     if end_in_range(bridges, links, ends, costs, table, LIMITS, LIMITS, end) {
         if dest < bridges {
@@ -211,7 +211,7 @@ pub fn deliver_end(
     sent: &mut [u32],
     held: &mut [u32],
 ) -> Received
-    ensures { λ r. ⌜ outcome (reactionSays (r .reply)) (r .end) (now (sent .exit)) (now (held .exit)) ≡ deliverOutcome (viewData bridges links (now (ends .entry)) (now (costs .entry)) (now (table .entry))) views view number end old message (now (sent .entry)) (now (held .entry)) ⌝ }
+    ensures { λ r. ⌜ outcome (reactionResponse (r .reply)) (r .end) (now (sent .exit)) (now (held .exit)) ≡ deliverOutcome (viewData bridges links (now (ends .entry)) (now (costs .entry)) (now (table .entry))) views view number end old message (now (sent .entry)) (now (held .entry)) ⌝ }
 {
     let sent_size = sent.len();
     let held_size = held.len();
@@ -267,7 +267,7 @@ pub fn port(
     bridge: usize,
     dest: usize,
 ) -> Forwarding
-    ensures { λ r. ⌜ forwardingSays r ≡ portOutcome (viewData bridges links (now (ends .entry)) (now (costs .entry)) (now (table .entry))) views cut records (now (sent .entry)) (now (held .entry)) bridge dest ⌝ }
+    ensures { λ r. ⌜ forwardingResponse r ≡ portOutcome (viewData bridges links (now (ends .entry)) (now (costs .entry)) (now (table .entry))) views cut records (now (sent .entry)) (now (held .entry)) bridge dest ⌝ }
 {
     if ready::port_in_range(
         bridges,

@@ -7,14 +7,18 @@ use crate::Port;
 use crate::ready::either;
 use distances::ready::both;
 use distances::sizes::MAX_COST;
+use distances::sizes::MOST_LINKS;
 use distances::sizes::NONE;
 ghost use mathlib.Core.Path.{_≡_};
 ghost use mathlib.Core.Bool.{_&&_, not, cond};
 ghost use Prim.Native.Nat.{_+_};
 ghost use lib.Dec.{eqb, leb};
 ghost use Rattle.distances.specs.View.{NONE};
-ghost use Rattle.agreement.specs.Call.{forwardingSays};
-ghost use Rattle.agreement.specs.Choice.{firstChoice, nextChoice, portBy, chosenSays, nextOutcome, choiceOutcome};
+ghost use Rattle.agreement.specs.Call.{forwardingResponse};
+ghost use Rattle.agreement.specs.Choice.{firstChoice, nextChoice, portBy, chosenResponse, nextOutcome, choiceOutcome};
+
+// The links are numbered below this.
+const LINKS: u8 = MOST_LINKS as u8;
 
 // The choice of a bridge at this distance from the destination, before any end.
 pub fn first_choice(distance: u32, is_destination: bool) -> Choice
@@ -90,9 +94,9 @@ pub fn next_choice(
     sent: u32,
     held: u32,
 ) -> Chosen
-    ensures { λ r. ⌜ chosenSays r ≡ nextOutcome old link cost far cut holding sent held ⌝ }
+    ensures { λ r. ⌜ chosenResponse r ≡ nextOutcome old link cost far cut holding sent held ⌝ }
 {
-    if both(link < 32, cost <= MAX_COST) {
+    if both(link < LINKS, cost <= MAX_COST) {
         Chosen::So(choice_with(old, link, cost, far, cut, holding, sent, held))
     } else {
         Chosen::Refused
@@ -111,9 +115,9 @@ pub(crate) fn chosen_port(choice: Choice) -> Port
 
 // The forwarding port by the ends so far: 17 where the choice's link is out of range.
 pub fn port_by(choice: Choice) -> Forwarding
-    ensures { λ r. ⌜ forwardingSays r ≡ choiceOutcome choice ⌝ }
+    ensures { λ r. ⌜ forwardingResponse r ≡ choiceOutcome choice ⌝ }
 {
-    if choice.link < 32 {
+    if choice.link < LINKS {
         Forwarding::Found(chosen_port(choice))
     } else {
         Forwarding::Refused

@@ -3,6 +3,7 @@ use crate::EndRecord;
 use crate::Port;
 use crate::choices;
 use crate::ready;
+use distances::sizes::ROW;
 ghost use mathlib.Core.Path.{_≡_};
 ghost use Prim.Native.Nat.{_≤_, _<_};
 ghost use lib.ListN.{length};
@@ -29,7 +30,7 @@ pub(crate) fn port_of(
     requires { ⌜ (1024 ≤ length (now sent)) × (1024 ≤ length (now held)) × (bridge < bridges) × (dest < bridges) ⌝ }
     ensures { λ r. ⌜ r ≡ port (graphOf bridges links (now (ends .entry))) (costsOf (now (costs .entry))) (cell (now (table .entry))) (lentRecords cut records (now (sent .entry)) (now (held .entry))) bridge dest ⌝ }
 {
-    let own = table[16 * bridge + dest];
+    let own = table[ROW * bridge + dest];
     let mut choice = choices::first_choice(own, bridge == dest);
     let mut e = 0;
     while e < 2 * links {
@@ -41,11 +42,11 @@ pub(crate) fn port_of(
                 choice,
                 (e / 2) as u8,
                 costs[e / 2],
-                table[16 * far + dest],
+                table[ROW * far + dest],
                 cut[e / 2],
                 records[e].holding,
-                sent[16 * e + dest],
-                held[16 * e + dest],
+                sent[ROW * e + dest],
+                held[ROW * e + dest],
             );
         }
         e += 1;

@@ -2,6 +2,7 @@
 use crate::Rewrite;
 use crate::ready::opposite_end;
 use distances::sizes::NONE;
+use distances::sizes::ROW;
 ghost use mathlib.Core.Path.{_≡_};
 ghost use Prim.Native.Nat.{_*_, _≤_, _<_};
 ghost use lib.ListN.{length, getD};
@@ -57,7 +58,7 @@ fn rewrite_row(
         row[d] = limit_after(
             how,
             row[d],
-            limit_of(cost, table[16 * near + d], table[16 * far + d]),
+            limit_of(cost, table[ROW * near + d], table[ROW * far + d]),
         );
         d += 1;
     }
@@ -76,8 +77,8 @@ pub(crate) fn rewrite_limits(
     requires { ⌜ (bridges ≤ 16) × (near < 16) × (far < 16) × (end < 64) × (256 ≤ length (now table)) × (1024 ≤ length (now limits)) ⌝ }
     ensures { λ r. ⌜ now (limits .exit) ≡ withLimits bridges end (rowAfter how (λ d. limitOf cost (cell (now (table .entry)) near d) (cell (now (table .entry)) far d)) (cell (now (limits .entry)) end)) (now (limits .entry)) ⌝ }
 {
-    let first = 16 * end;
-    let past = first + 16;
+    let first = ROW * end;
+    let past = first + ROW;
     rewrite_row(
         how,
         bridges,
@@ -133,7 +134,7 @@ pub(crate) fn offer_at(
     let far = ends[other] as usize;
     limit_of(
         costs[end / 2],
-        table[16 * near + dest],
-        table[16 * far + dest],
+        table[ROW * near + dest],
+        table[ROW * far + dest],
     )
 }

@@ -12,21 +12,21 @@ use Rattle.agreement.specs.Call.{Response, says}
 use Rattle.protocol.specs.Calls as calls
 use Rattle.protocol.specs.Calls.{refuse, checks}
 use Rattle.protocol.specs.Ports.{Hop, stays, crosses}
-use Rattle.protocol.specs.Paths.{Way, delivered, stops, follow, onward, hops}
+use Rattle.protocol.specs.Paths.{PathResult, delivered, stops, follow, onward, hops}
 use Rattle.bench.specs.State.{State, network}
 use Rattle.bench.specs.Changes.{refusalOf, stateInRange}
 use Rattle.bench.specs.Deliveries.{refusedBy}
-use Rattle.bench.specs.Answers.{WayFits, waySays, reportOutcome, reported, reportOf, hopIn, pathOf}
+use Rattle.bench.specs.Answers.{PathFits, pathResponse, reportOutcome, reported, reportOf, hopIn, pathOf}
 use Rattle.bench.specs.Steps.{Ready}
-use Rattle.bench.specs.declared.Way as code
-use Rattle.bench.proofs.EntrySettled.{reply-is}
+use Rattle.bench.specs.declared.PathReply as code
+use Rattle.bench.proofs.EntryOutcomes.{reply-is}
 use Rattle.bench.proofs.QueueCalls.{refusal-none, said-same}
 use Rattle.bench.proofs.QueueRanges.{network-told}
 use Rattle.protocol.proofs.PathEnds.{onward-short}
-use Rattle.bench.proofs.WalkSteps.{hop-leads, bridge-listed}
+use Rattle.bench.proofs.PathSteps.{hop-leads, bridge-listed}
 
 -- a way that stops, at a bridge
-abbrev pub StopsBelow : ℕ → Way → Type 0
+abbrev pub StopsBelow : ℕ → PathResult → Type 0
 StopsBelow bridges (delivered h) = Unit {0}
 StopsBelow bridges (stops b h) = b < bridges
 
@@ -49,19 +49,19 @@ module _ (next : ℕ → Hop) (bridges : ℕ) (leads : (y l z : ℕ) → next y 
       go rest false stays e = low
       go rest false (crosses l z) e = rest z (leads y l z e)
 
-pub record PathFacts (bridges : ℕ) (w : Way) : Type 0 where
+pub record PathFacts (bridges : ℕ) (w : PathResult) : Type 0 where
   pub few : bridges ≤ 16
   pub short : hops w ≤ bridges - 1
   pub last : StopsBelow bridges w
 
 module _ (s : State) where
-  pub path-told : (y d : ℕ) (w : Way) → pathOf s y d ≡ says w → PathFacts (s .bench .bridges) w
+  pub path-told : (y d : ℕ) (w : PathResult) → pathOf s y d ≡ says w → PathFacts (s .bench .bridges) w
   unfolding pathOf refuse checks
   path-told y d w e =
       let k : ℕ = refusalOf (stateInRange s) (network s) (calls.path y d) in
       let bridges : ℕ = s .bench .bridges in
-      let way : Way = onward (hopIn s d) d (bridges - 1) 0 y in
-      let none : k ≡ 0 = sym (reply-is (λ o. o .number) k refusedBy (says way) (λ j. refl) (λ z. refl)) ∙ ap (λ (o : Response Way). o .number) e in
+      let way : PathResult = onward (hopIn s d) d (bridges - 1) 0 y in
+      let none : k ≡ 0 = sym (reply-is (λ o. o .number) k refusedBy (says way) (λ j. refl) (λ z. refl)) ∙ ap (λ (o : Response PathResult). o .number) e in
       let pass = refusal-none (stateInRange s) (network s) (calls.path y d) none in
       let ready : Ready (s .bench) (s .costs) = network-told _ _ _ _ (pass .0) in
       let start : y < bridges = bridge-listed (network s) y _ (pass .1) in
@@ -73,9 +73,9 @@ module _ (s : State) where
       })
 
 -- a path's numbers are few
-pub way-fits : (s : State) (y d : ℕ) (answer : code.Way) → waySays answer ≡ pathOf s y d → WayFits answer
-way-fits s y d (code.Way.Refused k) e = tt
-way-fits s y d (code.Way.Delivered h) e = let told = path-told s y d _ (sym e) in omega (arith, told .few, told .short)
-way-fits s y d (code.Way.Stops last h) e =
+pub path-fits : (s : State) (y d : ℕ) (answer : code.PathReply) → pathResponse answer ≡ pathOf s y d → PathFits answer
+path-fits s y d (code.PathReply.Refused k) e = tt
+path-fits s y d (code.PathReply.Delivered h) e = let told = path-told s y d _ (sym e) in omega (arith, told .few, told .short)
+path-fits s y d (code.PathReply.Stops last h) e =
     let told = path-told s y d _ (sym e) in
     (omega (arith, told .few, told .last), omega (arith, told .few, told .short))

@@ -21,7 +21,7 @@ use Rattle.bench.proofs.QueueSteps.{placed}
 use Rattle.bench.proofs.QueueReads.{from-low}
 use Rattle.bench.proofs.ChoiceReads.{end-low}
 
-pub record ArrivalTold (s : State) (p : ℕ) : Type 0 where
+pub record ArrivalFacts (s : State) (p : ℕ) : Type 0 where
   pub place : p < 64
   pub long : 320 ≤ length (s .messages)
   pub arrives : LinkFits (s .messages) p
@@ -31,7 +31,7 @@ pub record ArrivalTold (s : State) (p : ℕ) : Type 0 where
   pub view : getD (s .bench .view) (getD (s .bench .ends) (arrivalEnd (s .messages) p) 0) 0 < 32
   pub costs : 1024 ≤ length (s .costs)
 
-pub arrival-told : (s : State) → deliveryReady s ≡ true → (p : ℕ) → p < s .bench .messages → ArrivalTold s p
+pub arrival-told : (s : State) → deliveryReady s ≡ true → (p : ℕ) → p < s .bench .messages → ArrivalFacts s p
 arrival-told s ok p h =
     let all = told s ok in
     let ready = network-told _ _ _ _ (both-true (stateInRange s) _ ok .0) in

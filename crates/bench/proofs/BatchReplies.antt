@@ -15,7 +15,7 @@ use Rattle.bench.specs.Batches.{callOf, replyOf}
 use Rattle.bench.specs.declared.Event.{Event}
 use Rattle.bench.specs.declared.Event.the-variants.{Update, Send, Deliver, Repeat, Lose, Cut, Restore, Report, Path}
 use Rattle.bench.proofs.CallKept.{update-number, cut-number, restore-number, send-number, lose-number, deliver-number, repeat-number}
-use Rattle.bench.proofs.EntrySettled.{reply-is}
+use Rattle.bench.proofs.EntryOutcomes.{reply-is}
 use Rattle.bench.proofs.QueueRanges.{network-bench}
 use Rattle.bench.proofs.RangesSteps.{flightInRange, flight-of}
 use Rattle.bench.proofs.TieRefusals.{refusal-ready}

@@ -24,11 +24,11 @@ use Rattle.bench.specs.Ranges.{benchInRange}
 use Rattle.bench.specs.Changes.{BenchOutcome, benchOutcome, ChangeOutcome, refusalOf, orRefused, stateInRange, benchWithCut, updateOf, cutOf, restoreOf}
 use Rattle.bench.specs.Queue.{QueueOutcome, queueOutcome, sendOf, loseOf}
 use Rattle.bench.specs.Deliveries.{DeliveryOutcome, deliveryOutcome, refusedBy, deliveryReady, deliverOf, repeatOf}
-use Rattle.bench.specs.Answers.{reported, reportedRow, hopIn, pathOf}
-use Rattle.bench.specs.Batches.{callOf, wayNumbers}
-use Rattle.bench.specs.Batches.{replyOf, reportNumbers, answeredNumbers, answersOf, answerSize, Batch, batch, eventBatch, eventBatchIn}
+use Rattle.bench.specs.Answers.{reported, reportedRow, hopIn, pathOf, pathNumbers}
+use Rattle.bench.specs.Batches.{callOf}
+use Rattle.bench.specs.Batches.{replyOf, reportNumbers, valueNumbers, answersOf, answerSize, Batch, batch, eventBatch, eventBatchIn}
 use Rattle.bench.specs.Whole.{stepBy}
-use Rattle.bench.specs.Effects.{queueChangeNumber, queueChangeBench, queueChangeEffect, receptionSays, receptionBench, receptionEffect, ReceptionFits, updatingTo, updatingNumber, updatingEffect, UpdatingFits, stateOf, appliedTo, CanApply, eventResult}
+use Rattle.bench.specs.Effects.{queueChangeNumber, queueChangeBench, queueChangeEffect, receptionResponse, receptionBench, receptionEffect, ReceptionFits, updatingTo, updatingNumber, updatingEffect, UpdatingFits, stateOf, appliedTo, CanApply, eventResult}
 use Rattle.bench.specs.Steps.{ReportsTo, BatchLeft}
 use Rattle.bench.specs.declared.Bench.{Bench}
 use Rattle.bench.specs.declared.effects.EventResult.{EventResult}
@@ -46,7 +46,7 @@ use Rattle.bench.proofs.CallSteps.{update-step, cut-step, restore-step,
 use Rattle.bench.proofs.CallLengths.{step-kept}
 use Rattle.bench.proofs.TieRefusals.{refusal-ready}
 use Rattle.bench.proofs.TieRanges.{told, few, bench-ready}
-use Rattle.bench.proofs.EntrySettled.{link-listed}
+use Rattle.bench.proofs.EntryOutcomes.{link-listed}
 
 -- what an event leaves, by the event that it is and the result that it comes to
 pub leaves-by :
@@ -176,46 +176,46 @@ answered-length Stale = refl
 answered-length (Agreed n v) = refl
 answered-length (Noted n v) = refl
 
-way-length : (w : paths.Way) → length (wayNumbers (w ∷ [])) ≡ 3
-unfolding wayNumbers
-way-length (paths.delivered h) = refl
-way-length (paths.stops last h) = refl
+path-numbers-length : (w : paths.PathResult) → length (valueNumbers pathNumbers (w ∷ [])) ≡ 3
+unfolding valueNumbers
+path-numbers-length (paths.delivered h) = refl
+path-numbers-length (paths.stops last h) = refl
 
 module _ (s : State) where
   -- a path's number and value: both or neither
-  path-value : (y d : ℕ) → (pathOf s y d .number ≡ 0 → (w : paths.Way) × (pathOf s y d .value ≡ w ∷ [])) × ((pathOf s y d .number ≡ 0 → ⊥) → pathOf s y d .value ≡ [])
+  path-value : (y d : ℕ) → (pathOf s y d .number ≡ 0 → (w : paths.PathResult) × (pathOf s y d .value ≡ w ∷ [])) × ((pathOf s y d .number ≡ 0 → ⊥) → pathOf s y d .value ≡ [])
   unfolding pathOf
   path-value y d = go (eqb (refusalOf (stateInRange s) (network s) (calls.path y d)) 0) refl
     where
       k : ℕ
       k = refusalOf (stateInRange s) (network s) (calls.path y d)
 
-      w : paths.Way
+      w : paths.PathResult
       w = paths.onward (hopIn s d) d (s .bench .bridges - 1) 0 y
 
       go :
           (t : Bool) →
           eqb k 0 ≡ t →
-          let o : Response paths.Way = cond t (says w) (refusedBy k) in
-          (o .number ≡ 0 → (v : paths.Way) × (o .value ≡ v ∷ [])) × ((o .number ≡ 0 → ⊥) → o .value ≡ [])
+          let o : Response paths.PathResult = cond t (says w) (refusedBy k) in
+          (o .number ≡ 0 → (v : paths.PathResult) × (o .value ≡ v ∷ [])) × ((o .number ≡ 0 → ⊥) → o .value ≡ [])
       go true q = (λ z. (w, refl), λ some. absurd (some refl))
       go false q = (λ z. absurd (eqb-false k 0 q z), λ some. refl)
 
   -- three numbers, where there is a value
-  pub delivered-length : (p : ℕ) → deliverOf s p .reply .number ≡ 0 → length (answeredNumbers (deliverOf s p .reply .value)) ≡ 3
-  unfolding answeredNumbers
+  pub delivered-length : (p : ℕ) → deliverOf s p .reply .number ≡ 0 → length (valueNumbers answerNumbers (deliverOf s p .reply .value)) ≡ 3
+  unfolding valueNumbers
   delivered-length p none = let h = deliver-says s p none in rw (h .1) (answered-length (h .0))
 
-  pub repeated-length : (p : ℕ) → repeatOf s p .reply .number ≡ 0 → length (answeredNumbers (repeatOf s p .reply .value)) ≡ 3
-  unfolding answeredNumbers
+  pub repeated-length : (p : ℕ) → repeatOf s p .reply .number ≡ 0 → length (valueNumbers answerNumbers (repeatOf s p .reply .value)) ≡ 3
+  unfolding valueNumbers
   repeated-length p none = let h = repeat-says s p none in rw (h .1) (answered-length (h .0))
 
-  pub path-length : (y d : ℕ) → pathOf s y d .number ≡ 0 → length (wayNumbers (pathOf s y d .value)) ≡ 3
-  path-length y d none = let h = path-value y d .0 none in rw (h .1) (way-length (h .0))
+  pub path-length : (y d : ℕ) → pathOf s y d .number ≡ 0 → length (valueNumbers pathNumbers (pathOf s y d .value)) ≡ 3
+  path-length y d none = let h = path-value y d .0 none in rw (h .1) (path-numbers-length (h .0))
 
 -- an event whose call is a delivery or a repeat with outcome o
 pub record Receives (s : State) (e : Event) (o : DeliveryOutcome) : Type 0 where
-  pub answers : answersOf s e ≡ answeredNumbers (o .reply .value)
+  pub answers : answersOf s e ≡ valueNumbers answerNumbers (o .reply .value)
   pub number : replyOf s e ≡ o .reply .number
   pub step : stepBy s (callOf e) ≡ state (o .bench) (s .costs) (o .sent) (o .held) (o .messages)
   pub kept : (o .reply .number ≡ 0 → ⊥) → stepBy s (callOf e) ≡ s
@@ -417,20 +417,20 @@ module _ (b : Bench) (costs sent held m answers : List ℕ) where
       (o .number ≡ 0 → (a : Answer) × (o ≡ says a)) →
       3 ≤ length answers →
       o .number ≡ 0 →
-      (3 ≡ length (answeredNumbers (o .value))) × (sets answers 0 (answeredNumbers (o .value)) ≡ answeredNumbers (o .value) ++ drop 3 answers)
-  unfolding answeredNumbers
+      (3 ≡ length (valueNumbers answerNumbers (o .value))) × (sets answers 0 (valueNumbers answerNumbers (o .value)) ≡ valueNumbers answerNumbers (o .value) ++ drop 3 answers)
+  unfolding valueNumbers
   answer-head o says room e =
       let h = says e in
       let three = answered-length (h .0) in
       rw (h .1, ← three) (refl, head-set (answerNumbers (h .0)) answers (rw three room))
 
-  none-set : (vs : List Answer) → vs ≡ [] → sets answers 0 (answeredNumbers vs) ≡ answers
-  unfolding answeredNumbers
+  none-set : (vs : List Answer) → vs ≡ [] → sets answers 0 (valueNumbers answerNumbers vs) ≡ answers
+  unfolding valueNumbers
   none-set vs none = rw none
 
-  none-way : (ws : List paths.Way) → ws ≡ [] → sets answers 0 (wayNumbers ws) ≡ answers
-  unfolding wayNumbers
-  none-way ws none = rw none
+  no-path : (ws : List paths.PathResult) → ws ≡ [] → sets answers 0 (valueNumbers pathNumbers ws) ≡ answers
+  unfolding valueNumbers
+  no-path ws none = rw none
 
   -- what a delivery or a repeat leaves, by its outcome
   received-by :
@@ -439,7 +439,7 @@ module _ (b : Bench) (costs sent held m answers : List ℕ) where
       (x : DeliveryOutcome) (out : List ℕ) →
       x ≡ o →
       3 ≤ length answers →
-      out ≡ sets answers 0 (answeredNumbers (x .reply .value)) →
+      out ≡ sets answers 0 (valueNumbers answerNumbers (x .reply .value)) →
       deliveryReady (stepBy Whole (callOf e)) ≡ true →
       let k = x .reply .number in
       BatchLeft (eventBatch Whole e) answers (cond (eqb k 0) 1 0) (cond (eqb k 0) Complete (Refused k))
@@ -454,7 +454,7 @@ module _ (b : Bench) (costs sent held m answers : List ℕ) where
   -- and by the bench that it comes to
   received :
       (e : Event) (r : Reception) (count : ℕ) (sent' held' m' out : List ℕ) →
-      let k = receptionSays r .number in
+      let k = receptionResponse r .number in
       BatchLeft (eventBatch Whole e) answers (cond (eqb k 0) 1 0) (cond (eqb k 0) Complete (Refused k))
       (state (receptionBench r b count) costs sent' held' m') (cond (eqb k 0) 3 0) out →
       BatchLeft (eventBatch Whole e) answers (cond (eqb k 0) 1 0) (cond (eqb k 0) Complete (Refused k))
@@ -463,28 +463,28 @@ module _ (b : Bench) (costs sent held m answers : List ℕ) where
   received e (Reception.Accepted a end after) count sent' held' m' out leaves = leaves
 
   pub reception-effect-told :
-      (known : List Bool) (r : Reception) (count : ℕ) → ReceptionFits r → CanApply (cond (eqb (receptionSays r .number) 0) (receptionEffect r count) Same) b known
+      (known : List Bool) (r : Reception) (count : ℕ) → ReceptionFits r → CanApply (cond (eqb (receptionResponse r .number) 0) (receptionEffect r count) Same) b known
   reception-effect-told known (Reception.Refused k) count told = same-told (eqb k 0) b known
   reception-effect-told known (Reception.Accepted a end after) count told = told
 
   pub received-leaves :
       (e : Event) (o : DeliveryOutcome) (r : Reception) (count : ℕ) {sent' held' m' out : List ℕ} →
       Receives Whole e o →
-      deliveryOutcome (receptionSays r) (receptionBench r b count) sent' held' m' ≡ o →
+      deliveryOutcome (receptionResponse r) (receptionBench r b count) sent' held' m' ≡ o →
       3 ≤ length answers →
-      out ≡ sets answers 0 (answeredNumbers (receptionSays r .value)) →
+      out ≡ sets answers 0 (valueNumbers answerNumbers (receptionResponse r .value)) →
       deliveryReady (stepBy Whole (callOf e)) ≡ true →
-      let k = receptionSays r .number in
+      let k = receptionResponse r .number in
       BatchLeft (eventBatch Whole e) answers (cond (eqb k 0) 1 0) (cond (eqb k 0) Complete (Refused k))
       (appliedTo (cond (eqb k 0) (receptionEffect r count) Same) (state b costs sent' held' m')) (cond (eqb k 0) 3 0) out
   received-leaves e o r count {sent'} {held'} {m'} {out} is same room set ok =
       received e r count sent' held' m' out (received-by e o is _ out same room set ok)
 
   pub path-leaves :
-      (y d : ℕ) {o : Response paths.Way} {out : List ℕ} →
+      (y d : ℕ) {o : Response paths.PathResult} {out : List ℕ} →
       o ≡ pathOf Short y d →
       3 ≤ length answers →
-      out ≡ sets answers 0 (wayNumbers (o .value)) →
+      out ≡ sets answers 0 (valueNumbers pathNumbers (o .value)) →
       deliveryReady Whole ≡ true →
       let k = o .number in
       BatchLeft (eventBatch Whole (Path y d)) answers (cond (eqb k 0) 1 0) (cond (eqb k 0) Complete (Refused k))
@@ -495,9 +495,9 @@ module _ (b : Bench) (costs sent held m answers : List ℕ) where
       rw (same-either (eqb (o .number) 0) Whole, set, is, path-reads Whole [] y d)
       (settled Whole (Path y d) (pathOf Whole y d .number) Whole 3 answers _ (path-reply Whole ok y d) (path-step Whole y d) (λ some. path-step Whole y d)
       (λ e. let h = told .0 e in
-      let three = way-length (h .0) in
-      rw (h .1, ← three) (refl, head-set (wayNumbers (h .0 ∷ [])) answers (rw three room)))
-      (λ some. none-way _ (told .1 some))
+      let three = path-numbers-length (h .0) in
+      rw (h .1, ← three) (refl, head-set (valueNumbers pathNumbers (h .0 ∷ [])) answers (rw three room)))
+      (λ some. no-path _ (told .1 some))
       (rw (path-step Whole y d) ok))
 
   -- a report's check reads no messages

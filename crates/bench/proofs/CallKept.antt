@@ -22,7 +22,7 @@ use Rattle.bench.specs.Answers.{ReportOutcome, reportOutcome, reportOf}
 use Rattle.bench.specs.Whole.{stepBy}
 use Rattle.protocol.proofs.Accepted.{place-listed}
 use Rattle.bench.proofs.CallSteps.{withChanged, withRewritten, withQueue, withDelivered}
-use Rattle.bench.proofs.EntrySettled.{reply-is, reply-some}
+use Rattle.bench.proofs.EntryOutcomes.{reply-is, reply-some}
 use Rattle.bench.proofs.QueueCalls.{refusal-none}
 use Rattle.bench.proofs.TieChecks.{message-told}
 use Rattle.bench.proofs.TieQueue.{messages-length}

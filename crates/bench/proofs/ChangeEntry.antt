@@ -11,7 +11,7 @@ use Rattle.protocol.specs.Calls.{change, update, noSuchBridge, noSuchView, noNu
 use Rattle.bench.specs.State.{State, network, networkOf}
 use Rattle.bench.specs.Ranges.{graphInRange, benchInRange, costsInRange, limitsLong, networkInRange}
 use Rattle.bench.specs.declared.Bench.{Bench}
-use Rattle.protocol.proofs.Accepted.{UpdateListed, update-listed}
+use Rattle.protocol.proofs.Accepted.{UpdateExists, update-listed}
 use Rattle.bench.proofs.TieRanges.{LastingOf, lasting-told}
 
 module _ (b : Bench) (costs : List ℕ) (sent held : ℕ) where
@@ -29,12 +29,12 @@ unfolding refuse checks changeChecks noSuchBridge noSuchView noNumberLeft
 update-same s y t = refl
 
 module _ (n : Network) (y t : ℕ) where
-  pub update-told : {k : ℕ} → k ≡ refuse n (change (update y t)) → k ≡ 0 → UpdateListed n y t
+  pub update-told : {k : ℕ} → k ≡ refuse n (change (update y t)) → k ≡ 0 → UpdateExists n y t
   unfolding accepted
   update-told e none = update-listed n y t (eq-eqb _ _ (sym e ∙ none))
 
   -- a bridge that goes to another view has a number left
-  pub number-left : UpdateListed n y t → n .number y < 65536 → (n .view y ≡ t → ⊥) → n .number y < 65535
+  pub number-left : UpdateExists n y t → n .number y < 65536 → (n .view y ≡ t → ⊥) → n .number y < 65535
   number-left listed fits other =
       let some : n .number y ≡ 65535 → ⊥ = λ e. false≢true (sym (rw (eq-eqb _ _ e, ne-eqb _ _ other) at (listed .numberLeft))) in
       omega arith

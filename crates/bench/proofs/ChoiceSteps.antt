@@ -14,8 +14,8 @@ use Rattle.distances.proofs.Booleans.{both-true, true-both}
 use Rattle.distances.proofs.Tables.{cell-is}
 use Rattle.agreement.specs.Offer.{opposite}
 use Rattle.agreement.specs.Forwarding.{port}
-use Rattle.agreement.specs.Call.{Response, ViewData, lentGraph, says, forwardingSays}
-use Rattle.agreement.specs.Choice.{firstChoice, nextChoice, portBy, chosenSays, nextOutcome, choiceOutcome}
+use Rattle.agreement.specs.Call.{Response, ViewData, lentGraph, says, forwardingResponse}
+use Rattle.agreement.specs.Choice.{firstChoice, nextChoice, portBy, chosenResponse, nextOutcome, choiceOutcome}
 use Rattle.agreement.specs.declared.Choice.{Choice}
 use Rattle.agreement.specs.declared.Chosen.{Chosen}
 use Rattle.agreement.specs.declared.EndRecord.{EndRecord}
@@ -37,7 +37,7 @@ use Rattle.bench.specs.declared.Bench.{Bench}
 use Rattle.bench.proofs.TieRanges.{LastingOf, lasting-told, lent-in-range, plan-in-range, part-at, getD-stored}
 use Rattle.bench.proofs.QueueRanges.{bench-told, network-bench, network-costs, network-told}
 use Rattle.bench.proofs.QueueCalls.{said-same}
-use Rattle.bench.proofs.WalkSteps.{own-cell}
+use Rattle.bench.proofs.PathSteps.{own-cell}
 use Rattle.encoding.specs.Numbers.{linkNumber}
 
 -- ---- what the entry check tells
@@ -80,19 +80,19 @@ module _ {b : Bench} {costs sent held : List ℕ} (told : PortsReady b costs sen
 
 -- ---- what layer 2 answers
 
-abbrev pub choiceSaid : Choice → Chosen → Choice
-choiceSaid old Chosen.Refused = old
-choiceSaid old (Chosen.So c) = c
+abbrev pub choiceAfter : Choice → Chosen → Choice
+choiceAfter old Chosen.Refused = old
+choiceAfter old (Chosen.So c) = c
 
-said-choice : (old : Choice) (r : Chosen) (c : Choice) → chosenSays r ≡ says c → choiceSaid old r ≡ c
+said-choice : (old : Choice) (r : Chosen) (c : Choice) → chosenResponse r ≡ says c → choiceAfter old r ≡ c
 said-choice old Chosen.Refused c e = absurd (let z : _≡_ {A = ℕ} 17 0 = ap (λ (o : Response Choice). o .number) e in omega arith)
 said-choice old (Chosen.So x) c e = said-same x c e
 
 pub next-said :
     (old : Choice) (link cost far : ℕ) (cut holding : Bool) (sent held : ℕ) (r : Chosen) →
     (link < 32) × (cost ≤ maxCost) →
-    chosenSays r ≡ nextOutcome old link cost far cut holding sent held →
-    choiceSaid old r ≡ nextChoice old link cost far cut holding sent held
+    chosenResponse r ≡ nextOutcome old link cost far cut holding sent held →
+    choiceAfter old r ≡ nextChoice old link cost far cut holding sent held
 next-said old link cost far cut holding sent held r low e =
     said-choice old r _ (e ∙ next-accepted _ _ _ _ _ _ _ _ (true-both (lt-ltb link 32 (low .0)) (le-leb cost maxCost (low .1))))
 
@@ -100,7 +100,7 @@ abbrev pub portReplied : Forwarding → Port
 portReplied Forwarding.Refused = Closed
 portReplied (Forwarding.Found p) = p
 
-pub port-said : (c : Choice) (r : Forwarding) → c .link < 32 → forwardingSays r ≡ choiceOutcome c → portReplied r ≡ portBy c
+pub port-said : (c : Choice) (r : Forwarding) → c .link < 32 → forwardingResponse r ≡ choiceOutcome c → portReplied r ≡ portBy c
 port-said c Forwarding.Refused low e =
     absurd (let z : _≡_ {A = ℕ} 17 0 = ap (λ (o : Response _). o .number) (e ∙ choice-accepted c low) in omega arith)
 port-said c (Forwarding.Found p) low e = said-same p (portBy c) (e ∙ choice-accepted c low)

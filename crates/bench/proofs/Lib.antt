@@ -25,18 +25,18 @@ pub mod CallKept
 pub mod BatchReplies
 pub mod BatchSteps
 pub mod BatchRuns
-pub mod BatchTurns
+pub mod BatchLoop
 pub mod AnswerRanges
 mod ArrivalSteps
 pub mod EntryChecks
-pub mod EntrySettled
+pub mod EntryOutcomes
 pub mod QueueReads
 pub mod QueueSteps
 pub mod QueueTaken
 pub mod QueueAnswers
 pub mod QueueRanges
 pub mod ChangeSteps
-pub mod WalkSteps
+pub mod PathSteps
 pub mod ChoiceSteps
 pub mod ChainLaws
 pub mod ChainSteps
@@ -46,5 +46,5 @@ pub mod ViewReads
 pub mod ChangeEntry
 pub mod QueueCalls
 pub mod CallLengths
-pub mod ReceiveSteps
+pub mod DeliverySteps
 pub mod UpdateSteps

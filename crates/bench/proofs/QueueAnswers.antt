@@ -17,7 +17,7 @@ use Rattle.bench.specs.Queue.{QueueOutcome, queueOutcome, numbersOf, wit
 use Rattle.bench.specs.Deliveries.{DeliveryOutcome, deliveryOutcome, received, deliveryReady, deliveryRefused, deliverOf}
 use Rattle.bench.specs.declared.Bench.{Bench}
 use Rattle.bench.proofs.QueueRanges.{flight-told}
-use Rattle.bench.proofs.QueueCalls.{refusal-none, lose-told, send-told, DeliveryTold, delivery-told}
+use Rattle.bench.proofs.QueueCalls.{refusal-none, lose-told, send-told, DeliveryFacts, delivery-told}
 use Rattle.bench.proofs.QueueTaken.{taken-sets}
 
 -- one appended: the count after, and the numbers after
@@ -130,7 +130,7 @@ module _ (s : State) (p : ℕ) where
   unfolding refusalOf checks noMessage linkCut
   deliver-same = refl
 
-  deliver-listed : deliverRefusal ≡ 0 → DeliveryTold s p
+  deliver-listed : deliverRefusal ≡ 0 → DeliveryFacts s p
   deliver-listed e = delivery-told s p deliverRefusal deliver-same e
 
   pub deliver-left : s .bench .messages ≤ deliverOf s p .bench .messages → deliverOf s p .messages ≡ s .messages

@@ -72,7 +72,7 @@ abbrev ownEnd : Bench → ℕ → ℕ → ℕ
 ownEnd b y l = endOf (graphOf (b .bridges) (b .links) (b .ends)) y l
 
 -- an accepted send: all is listed, and layer 2 does not refuse to carry
-pub record SendTold (b : Bench) (m : List ℕ) (y l : ℕ) : Type 0 where
+pub record SendFacts (b : Bench) (m : List ℕ) (y l : ℕ) : Type 0 where
   pub bridge : y < 16
   pub there : l < b .links
   pub link : l < 32
@@ -81,7 +81,7 @@ pub record SendTold (b : Bench) (m : List ℕ) (y l : ℕ) : Type 0 where
       carryOutcome (b .views) (getD (b .view) y 0) (getD (b .number) y 0) (getD (b .records) (ownEnd b y l) freshRecord)
       ≡ says (messageOf (networkOf b m) y l .agreement)
 
-pub send-told : (b : Bench) (m : List ℕ) (y l : ℕ) → BenchFacts b → refuse (networkOf b m) (send y l) ≡ 0 → SendTold b m y l
+pub send-told : (b : Bench) (m : List ℕ) (y l : ℕ) → BenchFacts b → refuse (networkOf b m) (send y l) ≡ 0 → SendFacts b m y l
 unfolding accepted messageOf
 send-told b m y l told none =
     let h = send-listed (networkOf b m) y l (eq-eqb _ 0 none) in
@@ -110,7 +110,7 @@ said-same {A} x y e = ap (λ (r : Response A). getD (r .value) 0 x) e
 -- ---- deliver and repeat
 
 -- what an accepted delivery is handed
-pub record DeliveryTold (s : State) (p : ℕ) : Type 0 where
+pub record DeliveryFacts (s : State) (p : ℕ) : Type 0 where
   pub ready : Ready (s .bench) (s .costs)
   pub listed : p < s .bench .messages
   pub count : s .bench .messages ≤ 64
@@ -137,7 +137,7 @@ module _ (s : State) (p k : ℕ) (same : k ≡ refusalOf (deliveryReady s) (netw
     repeat-refused = rw (replied, kept) (settled-refused (deliveryRefused s) _ k _ repeat-same some)
 
   module _ (none : k ≡ 0) where
-    pub delivery-told : DeliveryTold s p
+    pub delivery-told : DeliveryFacts s p
     unfolding refuse checks
     delivery-told =
         let n = networkOf (s .bench) (s .messages) in

@@ -46,11 +46,11 @@ module _ (b : Bench) where
   view-told told y h = view-passes _ _ (told .least) (told .counted .views) (told .view y h)
 
 -- the messages beside a bench, in range
-pub record MessagesTold (b : Bench) (m : List ℕ) : Type 0 where
+pub record MessagesFacts (b : Bench) (m : List ℕ) : Type 0 where
   pub long : 320 ≤ length m
   pub each : (p : ℕ) → p < b .messages → messageInRange b m p ≡ true
 
-pub messages-told : (b : Bench) (m : List ℕ) → messagesInRange b m ≡ true → MessagesTold b m
+pub messages-told : (b : Bench) (m : List ℕ) → messagesInRange b m ≡ true → MessagesFacts b m
 unfolding messagesInRange
 messages-told b m ok =
     let h = both-true (leb 320 (length m)) _ ok in
@@ -85,7 +85,7 @@ network-told b costs sent held ok =
     }
 
 -- a bench and its messages, in range
-pub flight-told : (b : Bench) (m : List ℕ) → (benchInRange b && messagesInRange b m) ≡ true → BenchFacts b × MessagesTold b m
+pub flight-told : (b : Bench) (m : List ℕ) → (benchInRange b && messagesInRange b m) ≡ true → BenchFacts b × MessagesFacts b m
 flight-told b m ok =
     let h = both-true (benchInRange b) (messagesInRange b m) ok in
     (bench-told b (h .0), messages-told b m (h .1))

@@ -22,7 +22,7 @@ use Rattle.protocol.proofs.Places.{skipped}
 use Rattle.bench.proofs.TieRanges.{StateReady, few, lent-in-range}
 use Rattle.bench.proofs.TieQueue.{taken-length, taken-message, taken-below, added-message, kept-message}
 use Rattle.bench.proofs.TieChecks.{MessageFacts, message-told, told-message}
-use Rattle.bench.proofs.TieMovedEnds.{Turned, EndsReady, turned-all}
+use Rattle.bench.proofs.TieMovedEnds.{EndsUpdated, EndsReady, turned-all}
 
 -- what holds of a stored value and of those that were there holds of each afterwards
 pub stored-keeps : {A : Type 0} (P : A → Type 0) (l : List A) (p : ℕ) (v : A) (q : ℕ) (d : A) → P v → P (getD l q d) → P (getD (set l p v) q d)
@@ -123,7 +123,7 @@ module _ (s : State) (r : StateReady s) where
             heldRoom = r .heldLong;
           }
 
-      pub turned : Turned lentOf (s .bench .views) y t endsOf (2 * s .bench .links) endsAfter
+      pub turned : EndsUpdated lentOf (s .bench .views) y t endsOf (2 * s .bench .links) endsAfter
       turned = turned-all lentOf (s .bench .views) y t endsOf ends-ready (2 * s .bench .links) (omega arith)
 
       module _ (e : ℕ) (h : e < 2 * s .bench .links) where

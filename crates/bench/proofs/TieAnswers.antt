@@ -16,7 +16,7 @@ use Rattle.protocol.specs.Calls as calls
 use Rattle.protocol.specs.Calls.{Call, Check, refusal, refuse, checks, noSuchBridge}
 use Rattle.protocol.specs.Ports.{Hop, stays, crosses, hop}
 use Rattle.protocol.specs.Ports as ports
-use Rattle.protocol.specs.Paths.{Way, delivered, follow, onward, path}
+use Rattle.protocol.specs.Paths.{PathResult, delivered, follow, onward, path}
 use Rattle.bench.specs.State.{State, network}
 use Rattle.bench.specs.Changes.{refusalOf, orRefused, stateInRange}
 use Rattle.bench.specs.Deliveries.{refusedBy}
@@ -125,6 +125,6 @@ module _ (s : State) (n : Network) (r : Represents s n) where
   unfolding pathOf refuse checks
   path-answered y d =
       rw (asked (calls.path y d))
-      (settled-same (λ (x : Response Way). x) (refuse n (calls.path y d)) refusedBy refusedBy _ _ refl (λ e.
+      (settled-same (λ (x : Response PathResult). x) (refuse n (calls.path y d)) refusedBy refusedBy _ _ refl (λ e.
       let one = listed y _ e in
       ap says (path-same y d (one .0) (listed d _ (one .1) .0))))

@@ -16,7 +16,7 @@ use Rattle.distances.proofs.Refusals.{passed}
 use Rattle.protocol.proofs.Accepted.{accepted-checks}
 use Rattle.bench.proofs.TieRanges.{getD-stored, told, bench-ready, few}
 use Rattle.bench.proofs.TieRefusals.{settled-step}
-use Rattle.bench.proofs.EntrySettled.{reply-is}
+use Rattle.bench.proofs.EntryOutcomes.{reply-is}
 use Rattle.bench.proofs.TieChecks.{refusal-same}
 
 module _ (s : State) (n : Network) (r : Represents s n) where

@@ -109,12 +109,12 @@ module _ (b : Bench) (costs sent held : List ℕ) where
       go false q e = absurd (omega arith)
 
   -- what the entry check tells
-  record FreshTold : Type 0 where
+  record FreshFacts : Type 0 where
     lasting : LastingOf b costs
     sentLong : 1024 ≤ length sent
     heldLong : 1024 ≤ length held
 
-  fresh-told : freshReady ≡ true → FreshTold
+  fresh-told : freshReady ≡ true → FreshFacts
   unfolding limitsLong
   fresh-told ok =
       let graph = both-true (graphInRange b) _ ok in
@@ -137,7 +137,7 @@ module _ (b : Bench) (costs sent held : List ℕ) where
   pub fresh-lasting : freshOf b costs sent held .reply ≡ 0 → LastingOf b costs
   fresh-lasting e = fresh-told (fresh-passes e) .lasting
 
-  module _ (told : FreshTold) where
+  module _ (told : FreshFacts) where
     counts : (b .bridges ≤ 16) × (b .links ≤ 32) × (2 * b .links ≤ length (b .ends))
     counts = few b costs (told .lasting)
 

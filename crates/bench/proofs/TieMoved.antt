@@ -18,12 +18,12 @@ use Rattle.protocol.specs.Calls.{change, update, refuse, moved, updatedTo, afte
 use Rattle.bench.specs.State.{State, state, lentView}
 use Rattle.bench.specs.Changes.{Ends, ends, movedEnds, movedBench, ChangeOutcome, changeOutcome, updateOf}
 use Rattle.bench.specs.Whole.{Represents, Typed, stepBy}
-use Rattle.protocol.proofs.Accepted.{UpdateListed, update-listed}
+use Rattle.protocol.proofs.Accepted.{UpdateExists, update-listed}
 use Rattle.bench.proofs.TieRanges.{StateReady, getD-stored, told, ready, network-ready, few, offer-stands}
 use Rattle.bench.proofs.TieRefusals.{settled-step}
-use Rattle.bench.proofs.EntrySettled.{reply-is}
+use Rattle.bench.proofs.EntryOutcomes.{reply-is}
 use Rattle.bench.proofs.TieChecks.{refusal-same}
-use Rattle.bench.proofs.TieMovedEnds.{Turned}
+use Rattle.bench.proofs.TieMovedEnds.{EndsUpdated}
 use Rattle.bench.proofs.RangesKept.{lentOf, endsOf, endsAfter, movedState, turned, end-after, end-keeps, moved-kept}
 
 -- bridge y moves to view t, another one
@@ -40,8 +40,8 @@ module _ (s : State) (n : Network) (r : Represents s n) (y t : ℕ) (low : y < s
   abbrev after : Ends
   after = endsAfter s isReady y t
 
-  endsTurned : Turned lentThere (s .bench .views) y t (endsOf s isReady y t) (2 * s .bench .links) after
-  endsTurned = turned s isReady y t (r .typed .records) view
+  endsAfterUpdate : EndsUpdated lentThere (s .bench .views) y t (endsOf s isReady y t) (2 * s .bench .links) after
+  endsAfterUpdate = turned s isReady y t (r .typed .records) view
 
   module _ (e : ℕ) (h : e < 2 * s .bench .links) where
     abbrev own : Bool
@@ -68,7 +68,7 @@ module _ (s : State) (n : Network) (r : Represents s n) (y t : ℕ) (low : y < s
       sent-by false = r .sent e d h k
 
       sent-after : cond own (sentUpdated (offerIn (n .plan) t e) (n .records .sent e)) (n .records .sent e) d ≡ cell (after .sent) e d
-      sent-after = sent-by own ∙ sym (rw (lt-ltb e (2 * s .bench .links) h) at (endsTurned .sent d k e))
+      sent-after = sent-by own ∙ sym (rw (lt-ltb e (2 * s .bench .links) h) at (endsAfterUpdate .sent d k e))
 
       held-by :
           (c : Bool) →
@@ -81,7 +81,7 @@ module _ (s : State) (n : Network) (r : Represents s n) (y t : ℕ) (low : y < s
       held-after :
           cond own (heldUpdated t (n .records .ends e) (offerIn (n .plan) t (opposite e)) (n .records .held e)) (n .records .held e) d
           ≡ cell (after .held) e d
-      held-after = held-by own ∙ sym (rw (lt-ltb e (2 * s .bench .links) h) at (endsTurned .held d k e))
+      held-after = held-by own ∙ sym (rw (lt-ltb e (2 * s .bench .links) h) at (endsAfterUpdate .held d k e))
 
   module _ (more : getD (s .bench .number) y 0 < 65535) where
     number-after : (z : ℕ) → getD (set (s .bench .number) y (getD (s .bench .number) y 0 + 1)) z 0 ≡ cond (eqb z y) (suc (getD (s .bench .number) z 0)) (getD (s .bench .number) z 0)
@@ -106,7 +106,7 @@ module _ (s : State) (n : Network) (r : Represents s n) (y t : ℕ) (low : y < s
         record {
           views = simp length-set (r .typed .views);
           numbers = simp length-set (r .typed .numbers);
-          records = endsTurned .recordsLong ∙ r .typed .records;
+          records = endsAfterUpdate .recordsLong ∙ r .typed .records;
           cuts = r .typed .cuts;
           number = λ z h. rw (number-after z) (number-fits z (r .typed .number z h));
           received = λ e h. keeps e h (λ (x : EndRecord). x .received < 65536) (r .typed .received e h) (r .typed .received e h);
@@ -141,7 +141,7 @@ module _ (s : State) (n : Network) (r : Represents s n) (y t : ℕ) where
       (movedEnds (lentView (s .bench) (s .costs) t) (s .bench .views) y t (2 * s .bench .links) (ends (s .bench .records) (s .sent) (s .held))))
 
   -- an accepted one
-  kept-update : UpdateListed n y t → Represents (withRewritten (updateDone (eqb (getD (s .bench .view) y 0) t))) (updatedTo n y t)
+  kept-update : UpdateExists n y t → Represents (withRewritten (updateDone (eqb (getD (s .bench .view) y 0) t))) (updatedTo n y t)
   unfolding updatedTo
   kept-update listed = rw (r .view y low) (go (eqb (getD (s .bench .view) y 0) t) refl)
     where

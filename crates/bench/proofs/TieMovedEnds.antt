@@ -63,7 +63,7 @@ module _ (v : ViewData) (views y t : ℕ) (x : Ends) where
   oldEnd e = getD (x .records) e freshRecord
 
   -- what stands in z, as the first k turns leave it
-  pub record Turned (k : ℕ) (z : Ends) : Type 0 where
+  pub record EndsUpdated (k : ℕ) (z : Ends) : Type 0 where
     pub recordsLong : length (z .records) ≡ length (x .records)
     pub sentLong : length (z .sent) ≡ length (x .sent)
     pub heldLong : length (z .held) ≡ length (x .held)
@@ -82,7 +82,7 @@ module _ (v : ViewData) (views y t : ℕ) (x : Ends) where
     pub sentRoom : 1024 ≤ length (x .sent)
     pub heldRoom : 1024 ≤ length (x .held)
 
-  turned-none : Turned 0 x
+  turned-none : EndsUpdated 0 x
   turned-none =
       record {
         recordsLong = refl;
@@ -93,7 +93,7 @@ module _ (v : ViewData) (views y t : ℕ) (x : Ends) where
         held = λ d h e. rw (le-ltb e 0 (omega arith));
       }
 
-  module _ (ok : EndsReady) (k : ℕ) (low : k < 2 * v .links) (z : Ends) (ih : Turned k z) where
+  module _ (ok : EndsReady) (k : ℕ) (low : k < 2 * v .links) (z : Ends) (ih : EndsUpdated k z) where
     -- the end of this turn is as before
     abbrev now : EndRecord
     now = getD (z .records) k freshRecord
@@ -120,7 +120,7 @@ module _ (v : ViewData) (views y t : ℕ) (x : Ends) where
         (end-passes _ _ _ _ _ _ _ (ok .view) (rw (ih .sentLong) (ok .sentRoom)) (rw (ih .heldLong) (ok .heldRoom)) k low)
         (true-both (ok .isView) (rw old-end (ok .records k low))))
 
-    own-turn : eqb (getD (v .ends) k 0) y ≡ true → Turned (suc k) (endInto z k (ended (updated t now) newSent newHeld))
+    own-turn : eqb (getD (v .ends) k 0) y ≡ true → EndsUpdated (suc k) (endInto z k (ended (updated t now) newSent newHeld))
     own-turn own =
         let room : k < length (z .records) = omega (arith, ok .recordsRoom, ih .recordsLong) in
         let sentRow : 16 * k + 16 ≤ length (z .sent) = omega (arith, ok .links, ok .sentRoom, ih .sentLong) in
@@ -142,7 +142,7 @@ module _ (v : ViewData) (views y t : ℕ) (x : Ends) where
               (λ e apart. cell-other (v .bridges) k _ (z .held) e d apart (omega (arith, ok .few)));
         }
 
-    other-turn : eqb (getD (v .ends) k 0) y ≡ false → Turned (suc k) (endInto z k (ended now (z .sent) (z .held)))
+    other-turn : eqb (getD (v .ends) k 0) y ≡ false → EndsUpdated (suc k) (endInto z k (ended now (z .sent) (z .held)))
     other-turn apart =
         record {
           recordsLong = simp length-set (ih .recordsLong);
@@ -153,15 +153,15 @@ module _ (v : ViewData) (views y t : ℕ) (x : Ends) where
           held = λ d h e. rw (← turned-apart (v .ends) y k apart e) (ih .held d h e);
         }
 
-    turn : Turned (suc k) (endInto z k (movedEnd v views t y k now (z .sent) (z .held)))
+    turn : EndsUpdated (suc k) (endInto z k (movedEnd v views t y k now (z .sent) (z .held)))
     unfolding movedEnd
     turn = rw update-is (go (eqb (getD (v .ends) k 0) y) refl)
       where
-        go : (b : Bool) → eqb (getD (v .ends) k 0) y ≡ b → Turned (suc k) (endInto z k (cond b (ended (updated t now) newSent newHeld) (ended now (z .sent) (z .held))))
+        go : (b : Bool) → eqb (getD (v .ends) k 0) y ≡ b → EndsUpdated (suc k) (endInto z k (cond b (ended (updated t now) newSent newHeld) (ended now (z .sent) (z .held))))
         go true q = own-turn q
         go false q = other-turn q
 
-  pub turned-all : EndsReady → (k : ℕ) → k ≤ 2 * v .links → Turned k (movedEnds v views y t k x)
+  pub turned-all : EndsReady → (k : ℕ) → k ≤ 2 * v .links → EndsUpdated k (movedEnds v views y t k x)
   unfolding movedEnds
   turned-all ok zero h = turned-none
   turned-all ok (suc k) h = turn ok k h (movedEnds v views y t k x) (turned-all ok k (omega arith))

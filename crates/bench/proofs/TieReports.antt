@@ -18,7 +18,7 @@ use Rattle.bench.specs.Changes.{refusalOf, stateInRange}
 use Rattle.bench.specs.Answers.{ReportOutcome, reportOutcome as leaving, reportedRow, reported, reportOf}
 use Rattle.bench.specs.Whole.{Represents, Reports, Answers}
 use Rattle.bench.proofs.TieRanges.{told, network-ready, few, lent-distances}
-use Rattle.bench.proofs.EntrySettled.{reply-is}
+use Rattle.bench.proofs.EntryOutcomes.{reply-is}
 use Rattle.bench.proofs.TieChecks.{refusal-same}
 use Rattle.bench.proofs.TieAnswers.{listed, port-same, port-answered, path-answered}
 use Rattle.bench.proofs.TieCuts.{cut-replied, restore-replied}

@@ -19,7 +19,7 @@ use Rattle.protocol.proofs.Links.{endOf-below}
 use Rattle.protocol.proofs.Accepted.{SendFacts, send-listed, place-listed, accepted-checks}
 use Rattle.bench.proofs.TieRanges.{StateReady, told, ready, bench-ready, messages-ready}
 use Rattle.bench.proofs.TieRefusals.{settled-step}
-use Rattle.bench.proofs.EntrySettled.{reply-is}
+use Rattle.bench.proofs.EntryOutcomes.{reply-is}
 use Rattle.bench.proofs.TieQueue.{messages-length, taken-messages, added-messages}
 use Rattle.bench.proofs.TieChecks.{MessageFacts, refusal-same}
 use Rattle.bench.proofs.RangesKept.{withFlight, taken-kept, added-kept}
@@ -116,8 +116,8 @@ module _ (s : State) (n : Network) (r : Represents s n) where
   lose-refused p = refusal-same s n r _ (lose p) flight-ready
 
   -- the state after a send or a lose
-  flownTo : QueueOutcome → State
-  flownTo o = state (o .bench) (s .costs) (s .sent) (s .held) (o .messages)
+  queueState : QueueOutcome → State
+  queueState o = state (o .bench) (s .costs) (s .sent) (s .held) (o .messages)
 
   flightRefused : ℕ → QueueOutcome
   flightRefused k = queueOutcome k (s .bench) (s .messages)
@@ -135,13 +135,13 @@ module _ (s : State) (n : Network) (r : Represents s n) where
       (added-represents (messageOf (network s) y l) (rw (r .messages, messages-length) at (listed .room)) (sent-in-range y l hy hl))
 
   pub send-represents : (y l : ℕ) → Represents (stepBy s (send y l)) (step n (send y l))
-  unfolding stepBy sendOf flownTo flightRefused
-  send-represents y l = settled-step flownTo n (send y l) _ flightRefused _ (send-refused y l) (λ k. r) (sent-represents y l)
+  unfolding stepBy sendOf queueState flightRefused
+  send-represents y l = settled-step queueState n (send y l) _ flightRefused _ (send-refused y l) (λ k. r) (sent-represents y l)
 
   pub lose-represents : (p : ℕ) → Represents (stepBy s (lose p)) (step n (lose p))
-  unfolding stepBy loseOf flownTo flightRefused act checks
+  unfolding stepBy loseOf queueState flightRefused act checks
   lose-represents p =
-      settled-step flownTo n (lose p) _ flightRefused _ (lose-refused p) (λ k. r)
+      settled-step queueState n (lose p) _ flightRefused _ (lose-refused p) (λ k. r)
       (λ a. taken-represents p (rw (r .messages, messages-length) at (place-listed n p _ (accepted-checks n (lose p) a))))
 
   pub send-replied : (y l : ℕ) → sendOf (s .bench) (s .messages) y l .reply ≡ refuse n (send y l)

@@ -9,7 +9,7 @@ use Rattle.protocol.specs.Calls.{change, update, refuse}
 use Rattle.bench.specs.State.{State, networkOf}
 use Rattle.bench.specs.Changes.{ChangeOutcome, changeOutcome, stateInRange, updateOf}
 use Rattle.bench.specs.Effects.{movedTo}
-use Rattle.bench.proofs.EntrySettled.{turned-down, goes-on}
+use Rattle.bench.proofs.EntryOutcomes.{turned-down, goes-on}
 use Rattle.bench.proofs.ChangeEntry.{update-same}
 
 module _ (s : State) (y t k : ℕ) (ok : stateInRange s ≡ true) (is : k ≡ refuse (networkOf (s .bench) []) (change (update y t))) where

@@ -18,24 +18,24 @@ use Rattle.bench.specs.Changes.{refusalOf, orRefused, stateInRange}
 use Rattle.bench.specs.Deliveries.{refusedBy}
 use Rattle.bench.specs.declared.Bench.{Bench}
 use Rattle.bench.specs.declared.Forwarding.{Forwarding}
-use Rattle.bench.specs.declared.Way.{Way}
+use Rattle.bench.specs.declared.PathReply.{PathReply}
 use Rattle.encoding.specs.Numbers.{linkNumber}
 
 -- each reply as document 01 has it: the number, and the value where the call is accepted
-abbrev pub forwardingSays : Forwarding → Response Port
-forwardingSays (Forwarding.Refused k) = refusedBy k
-forwardingSays (Forwarding.Found p) = says p
+abbrev pub forwardingResponse : Forwarding → Response Port
+forwardingResponse (Forwarding.Refused k) = refusedBy k
+forwardingResponse (Forwarding.Found p) = says p
 
-abbrev pub waySays : Way → Response paths.Way
-waySays (Way.Refused k) = refusedBy k
-waySays (Way.Delivered h) = says (paths.delivered h)
-waySays (Way.Stops last h) = says (paths.stops last h)
+abbrev pub pathResponse : PathReply → Response paths.PathResult
+pathResponse (PathReply.Refused k) = refusedBy k
+pathResponse (PathReply.Delivered h) = says (paths.delivered h)
+pathResponse (PathReply.Stops last h) = says (paths.stops last h)
 
 -- for private functions: the numbers of a path's reply have 32 bits
-abbrev pub WayFits : Way → Type 0
-WayFits (Way.Refused k) = Unit {0}
-WayFits (Way.Delivered h) = h < 4294967296
-WayFits (Way.Stops last h) = (last < 4294967296) × (h < 4294967296)
+abbrev pub PathFits : PathReply → Type 0
+PathFits (PathReply.Refused k) = Unit {0}
+PathFits (PathReply.Delivered h) = h < 4294967296
+PathFits (PathReply.Stops last h) = (last < 4294967296) × (h < 4294967296)
 
 -- the port that layer 2 finds for bridge y, in y's view
 unfoldable pub found : List Port → Port
@@ -83,7 +83,12 @@ reportOf s d rows =
 unfoldable pub hopIn : State → ℕ → ℕ → Hop
 hopIn s d y = hopBy (graphOf (s .bench .bridges) (s .bench .links) (s .bench .ends)) y (portIn s y d)
 
-unfoldable pub pathOf : State → ℕ → ℕ → Response paths.Way
+unfoldable pub pathOf : State → ℕ → ℕ → Response paths.PathResult
 pathOf s y d =
     orRefused (refusalOf (stateInRange s) (network s) (calls.path y d)) refusedBy
     (says (onward (hopIn s d) d (s .bench .bridges - 1) 0 y))
+
+-- a path in three numbers: 0, 0 and the hops where it is delivered; 1, the last bridge and the hops where it stops
+abbrev pub pathNumbers : paths.PathResult → List ℕ
+pathNumbers (paths.delivered h) = 0 ∷ 0 ∷ h ∷ []
+pathNumbers (paths.stops b h) = 1 ∷ b ∷ h ∷ []

@@ -15,7 +15,7 @@ use Rattle.protocol.specs.Paths as paths
 use Rattle.bench.specs.State.{State, network, lentView}
 use Rattle.bench.specs.Changes.{refusalOf, orRefused}
 use Rattle.bench.specs.Deliveries.{deliveryReady, deliverOf, repeatOf}
-use Rattle.bench.specs.Answers.{portIn, pathOf}
+use Rattle.bench.specs.Answers.{portIn, pathOf, pathNumbers}
 use Rattle.bench.specs.Whole.{stepBy, runBy}
 use Rattle.bench.specs.declared.Disposition.{Disposition}
 use Rattle.bench.specs.declared.Disposition.the-variants.{Complete, Refused, Full}
@@ -44,27 +44,22 @@ reportNumbers s d (suc y) =
     reportNumbers s d y
     ++ (cell (lentView (s .bench) (s .costs) (getD (s .bench .view) y 0) .table) y d ∷ linkNumber (portIn s y d) ∷ [])
 
-unfoldable pub answeredNumbers : List Answer → List ℕ
-answeredNumbers [] = []
-answeredNumbers (a ∷ rest) = answerNumbers a
-
--- a path in three numbers: 0, 0 and the hops where it is delivered; 1, the last bridge and the hops where it stops
-unfoldable pub wayNumbers : List paths.Way → List ℕ
-wayNumbers [] = []
-wayNumbers (paths.delivered h ∷ ws) = 0 ∷ 0 ∷ h ∷ []
-wayNumbers (paths.stops b h ∷ ws) = 1 ∷ b ∷ h ∷ []
+-- the numbers of a value, where there is one
+unfoldable pub valueNumbers : {A : Type 0} → (A → List ℕ) → List A → List ℕ
+valueNumbers numbers [] = []
+valueNumbers numbers (x ∷ xs) = numbers x
 
 -- the numbers that an accepted event answers with
 unfoldable pub answersOf : State → Event → List ℕ
 answersOf s (Update b t) = []
 answersOf s (Send b l) = []
-answersOf s (Deliver p) = answeredNumbers (deliverOf s p .reply .value)
-answersOf s (Repeat p) = answeredNumbers (repeatOf s p .reply .value)
+answersOf s (Deliver p) = valueNumbers answerNumbers (deliverOf s p .reply .value)
+answersOf s (Repeat p) = valueNumbers answerNumbers (repeatOf s p .reply .value)
 answersOf s (Lose p) = []
 answersOf s (Cut l) = []
 answersOf s (Restore l) = []
 answersOf s (Report d) = reportNumbers s d (s .bench .bridges)
-answersOf s (Path y d) = wayNumbers (pathOf s y d .value)
+answersOf s (Path y d) = valueNumbers pathNumbers (pathOf s y d .value)
 
 -- how many they are, with so many bridges
 unfoldable pub answerSize : ℕ → Event → ℕ

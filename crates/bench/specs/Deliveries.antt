@@ -22,9 +22,9 @@ use Rattle.bench.specs.declared.Reaction.{Reaction}
 abbrev pub refusedBy : {A : Type 0} → ℕ → Response A
 refusedBy k = record { number = k; value = [] }
 
-abbrev pub reactionSays : Reaction → Response Answer
-reactionSays (Reaction.Refused k) = refusedBy k
-reactionSays (Reaction.Answered a) = says a
+abbrev pub reactionResponse : Reaction → Response Answer
+reactionResponse (Reaction.Refused k) = refusedBy k
+reactionResponse (Reaction.Answered a) = says a
 
 -- a bench, the limit tables and the messages after a call
 pub record DeliveryOutcome : Type 0 where

@@ -49,9 +49,9 @@ QueueChangeFits (QueueChange.Refused k) = 0 < k
 QueueChangeFits (QueueChange.Length n) = Unit {0}
 
 -- a delivery or a repeat: what it says, the bench with so many messages in flight
-abbrev pub receptionSays : Reception → Response Answer
-receptionSays (Reception.Refused k) = refusedBy k
-receptionSays (Reception.Accepted a e r) = says a
+abbrev pub receptionResponse : Reception → Response Answer
+receptionResponse (Reception.Refused k) = refusedBy k
+receptionResponse (Reception.Accepted a e r) = says a
 
 abbrev pub receptionBench : Reception → Bench → ℕ → Bench
 receptionBench (Reception.Refused k) b n = b

@@ -79,9 +79,9 @@ abbrev pub AreChoices : State → ℕ → ℕ → ℕ → List Choice → Type 0
 AreChoices s d e n choices = (y : ℕ) → y < n → (none : Choice) → getD choices y none ≡ choiceIn s d y e
 
 -- a hop of the code
-abbrev pub hopSays : code.Hop → Hop
-hopSays code.Hop.Stays = stays
-hopSays (code.Hop.Crosses l z) = crosses l z
+abbrev pub protocolHop : code.Hop → Hop
+protocolHop code.Hop.Stays = stays
+protocolHop (code.Hop.Crosses l z) = crosses l z
 
 -- a report among events: its number, and the rows at the head of the lent numbers
 abbrev pub ReportsTo : State → ℕ → List ℕ → EventResult → List ℕ → Type 0

@@ -1,13 +1,15 @@
 // The calls that ask: the forwarding port of a bridge, the report of a destination, the path of a frame.
 use crate::Bench;
 use crate::Forwarding;
+use crate::PathReply;
 use crate::Reply;
-use crate::Way;
 use crate::ports;
 use crate::ready;
 use crate::refusals;
+use crate::sizes::REPORT;
 use crate::sizes::TABLES;
 use crate::tables::end_chains;
+use distances::sizes::MOST_VIEWS;
 ghost use mathlib.Core.Path.{_≡_};
 ghost use mathlib.Core.Bool.{true};
 ghost use mathlib.Core.List.{[]};
@@ -15,7 +17,7 @@ ghost use lib.ListN.{length};
 ghost use Rattle.bench.specs.Ranges.{networkInRange};
 ghost use Rattle.bench.specs.State.{state};
 ghost use Rattle.bench.specs.Changes.{number, NoZero};
-ghost use Rattle.bench.specs.Answers.{forwardingSays, waySays, portOf, reportOutcome, reportOf, pathOf};
+ghost use Rattle.bench.specs.Answers.{forwardingResponse, pathResponse, portOf, reportOutcome, reportOf, pathOf};
 ghost use Rattle.bench.specs.Steps.{Tables};
 ghost use Rattle.bench.specs.Chains.{Chained};
 
@@ -28,7 +30,7 @@ pub fn port(
     bridge: usize,
     dest: usize,
 ) -> Forwarding
-    ensures { λ r. ⌜ forwardingSays r ≡ portOf (state bench (now (costs .entry)) (now (sent .entry)) (now (held .entry)) []) bridge dest ⌝ }
+    ensures { λ r. ⌜ forwardingResponse r ≡ portOf (state bench (now (costs .entry)) (now (sent .entry)) (now (held .entry)) []) bridge dest ⌝ }
 {
     if !ready::network_in_range(bench, costs, sent.len(), held.len()) {
         return Forwarding::Refused(17);
@@ -38,7 +40,7 @@ pub fn port(
         return Forwarding::Refused(refusal);
     }
     let mut tables = [0u32; TABLES];
-    let mut known = [false; 32];
+    let mut known = [false; MOST_VIEWS];
     let ends = bench.ends;
     let chain = end_chains(bench.links, &ends);
     Forwarding::Found(ports::port_in(
@@ -69,7 +71,7 @@ pub fn report(
     if !ready::network_in_range(bench, costs, sent.len(), held.len()) {
         return Reply::Refused(17);
     }
-    if size < 32 {
+    if size < REPORT {
         return Reply::Refused(17);
     }
     let refusal = refusals::report_refusal(bench.bridges, dest);
@@ -77,7 +79,7 @@ pub fn report(
         return Reply::Refused(refusal);
     }
     let mut tables = [0u32; TABLES];
-    let mut known = [false; 32];
+    let mut known = [false; MOST_VIEWS];
     ports::report_rows(
         bench,
         costs,
@@ -99,14 +101,14 @@ pub fn path(
     held: &[u32],
     start: usize,
     dest: usize,
-) -> Way
-    ensures { λ r. ⌜ waySays r ≡ pathOf (state bench (now (costs .entry)) (now (sent .entry)) (now (held .entry)) []) start dest ⌝ }
+) -> PathReply
+    ensures { λ r. ⌜ pathResponse r ≡ pathOf (state bench (now (costs .entry)) (now (sent .entry)) (now (held .entry)) []) start dest ⌝ }
 {
     if !ready::network_in_range(bench, costs, sent.len(), held.len()) {
-        return Way::Refused(17);
+        return PathReply::Refused(17);
     }
     let mut tables = [0u32; TABLES];
-    let mut known = [false; 32];
+    let mut known = [false; MOST_VIEWS];
     let ends = bench.ends;
     let chain = end_chains(bench.links, &ends);
     path_ready(
@@ -133,15 +135,15 @@ pub(crate) fn path_ready(
     held: &[u32],
     start: usize,
     dest: usize,
-) -> Way
+) -> PathReply
     requires { ⌜ networkInRange bench (now costs) (length (now sent)) (length (now held)) ≡ true ⌝ }
     requires { ⌜ Tables bench (now costs) (now tables) (now known) × Chained (bench .links) (bench .ends) (now chain) ⌝ }
-    ensures { λ r. ⌜ waySays r ≡ pathOf (state bench (now (costs .entry)) (now (sent .entry)) (now (held .entry)) []) start dest ⌝ }
+    ensures { λ r. ⌜ pathResponse r ≡ pathOf (state bench (now (costs .entry)) (now (sent .entry)) (now (held .entry)) []) start dest ⌝ }
     ensures { λ r. ⌜ Tables bench (now (costs .entry)) (now (tables .exit)) (now (known .exit)) ⌝ }
 {
     let refusal = refusals::port_refusal(bench.bridges, start, dest);
     if refusal != 0 {
-        return Way::Refused(refusal);
+        return PathReply::Refused(refusal);
     }
     ports::walk(bench, costs, tables, known, chain, sent, held, start, dest)
 }

@@ -3,7 +3,7 @@ use crate::BatchResult;
 use crate::Bench;
 use crate::Disposition;
 use crate::Event;
-use crate::Way;
+use crate::PathReply;
 use crate::answers;
 use crate::changes;
 use crate::effects::Effect;
@@ -26,6 +26,8 @@ use crate::tables::end_chains;
 use crate::updates::moved;
 use agreement::EndRecord;
 use distances::ready::both;
+use distances::sizes::MOST_VIEWS;
+use encoding::ANSWER;
 ghost use mathlib.Core.Path.{_≡_};
 ghost use mathlib.Core.Bool.{true, false};
 ghost use mathlib.Core.List.{[]};
@@ -35,12 +37,12 @@ ghost use lib.Seq.{sets};
 ghost use Rattle.bench.specs.Ranges.{networkInRange};
 ghost use Rattle.protocol.specs.Calls.{change, cut, restore, refuse};
 ghost use Rattle.bench.specs.Deliveries.{deliveryReady};
-ghost use Rattle.bench.specs.Answers.{WayFits, waySays};
+ghost use Rattle.bench.specs.Answers.{PathFits, pathResponse, pathNumbers};
 ghost use Rattle.bench.specs.State.{state, networkOf};
-ghost use Rattle.bench.specs.Batches.{refusalIn, wayNumbers, answeredNumbers, answerSize, eventBatchIn, batchFrom, batchOutcome, batchOutcomeOf, batchOf};
+ghost use Rattle.bench.specs.Batches.{refusalIn, valueNumbers, answerSize, eventBatchIn, batchFrom, batchOutcome, batchOutcomeOf, batchOf};
 ghost use Rattle.bench.specs.Chains.{Chained};
-ghost use Rattle.bench.specs.Effects.{queueChangeNumber, queueChangeEffect, receptionSays, receptionEffect, updatingNumber, updatingEffect, eventResult, appliedTo, CanApply, LinkFits, HasRecord};
-ghost use Rattle.agreement.specs.Record.{freshRecord};
+ghost use Rattle.bench.specs.Effects.{queueChangeNumber, queueChangeEffect, receptionResponse, receptionEffect, updatingNumber, updatingEffect, eventResult, appliedTo, CanApply, LinkFits, HasRecord};
+ghost use Rattle.agreement.specs.Record.{freshRecord, answerNumbers};
 ghost use Rattle.agreement.specs.declared.EndRecord.{EndRecord};
 ghost use Rattle.bench.specs.declared.Bench.{Bench};
 ghost use Rattle.bench.specs.Steps.{Tables, ReportsTo, BatchLeft};
@@ -100,31 +102,31 @@ fn update_result(updating: Updating, bridge: usize, view: usize) -> EventResult
 // A delivery or a repeat, with its answer, after which so many messages are in flight.
 fn answer_delivery(reception: Reception, count: usize, answers: &mut [u32]) -> EventResult
     requires { ⌜ 3 ≤ length (now answers) ⌝ }
-    ensures { λ r. ⌜ (r ≡ eventResult (receptionSays reception .number) 3 (receptionEffect reception count)) × (now (answers .exit) ≡ sets (now (answers .entry)) 0 (answeredNumbers (receptionSays reception .value))) ⌝ }
+    ensures { λ r. ⌜ (r ≡ eventResult (receptionResponse reception .number) 3 (receptionEffect reception count)) × (now (answers .exit) ≡ sets (now (answers .entry)) 0 (valueNumbers answerNumbers (receptionResponse reception .value))) ⌝ }
 {
     match reception {
-        Reception::Refused(number) => event_result(number, 3, Effect::Same),
+        Reception::Refused(number) => event_result(number, ANSWER, Effect::Same),
         Reception::Accepted(answer, end, after) => {
             encoding::put_answer(answer, answers);
-            event_result(0, 3, Effect::Received(end, after, count))
+            event_result(0, ANSWER, Effect::Received(end, after, count))
         }
     }
 }
 
-fn answer_path(way: Way, answers: &mut [u32]) -> EventResult
-    requires { ⌜ (3 ≤ length (now answers)) × WayFits way ⌝ }
-    ensures { λ r. ⌜ (r ≡ eventResult (waySays way .number) 3 Same) × (now (answers .exit) ≡ sets (now (answers .entry)) 0 (wayNumbers (waySays way .value))) ⌝ }
+fn answer_path(way: PathReply, answers: &mut [u32]) -> EventResult
+    requires { ⌜ (3 ≤ length (now answers)) × PathFits way ⌝ }
+    ensures { λ r. ⌜ (r ≡ eventResult (pathResponse way .number) 3 Same) × (now (answers .exit) ≡ sets (now (answers .entry)) 0 (valueNumbers pathNumbers (pathResponse way .value))) ⌝ }
 {
     match way {
-        Way::Delivered(hops) => {
+        PathReply::Delivered(hops) => {
             encoding::put_three(0, 0, hops as u32, answers);
-            event_result(0, 3, Effect::Same)
+            event_result(0, ANSWER, Effect::Same)
         }
-        Way::Stops(last, hops) => {
+        PathReply::Stops(last, hops) => {
             encoding::put_three(1, last as u32, hops as u32, answers);
-            event_result(0, 3, Effect::Same)
+            event_result(0, ANSWER, Effect::Same)
         }
-        Way::Refused(number) => event_result(number, 3, Effect::Same),
+        PathReply::Refused(number) => event_result(number, ANSWER, Effect::Same),
     }
 }
 
@@ -157,9 +159,9 @@ pub fn answer_size(bridges: u8, event: Event) -> usize
 {
     match event {
         Event::Report(_) => 2 * bridges as usize,
-        Event::Path(_, _) => 3,
-        Event::Deliver(_) => 3,
-        Event::Repeat(_) => 3,
+        Event::Path(_, _) => ANSWER,
+        Event::Deliver(_) => ANSWER,
+        Event::Repeat(_) => ANSWER,
         Event::Update(_, _) => 0,
         Event::Send(_, _) => 0,
         Event::Lose(_) => 0,
@@ -296,7 +298,7 @@ fn run_in_range(
     ensures { λ r. ⌜ batchOutcome (r .made) (r .answered) (r .disposition) (state (r .bench) (now (costs .entry)) (now (sent .exit)) (now (held .exit)) (now (flight .exit))) (now (answers .exit)) ≡ batchOutcomeOf (batchFrom (length (now (answers .entry))) (state bench (now (costs .entry)) (now (sent .entry)) (now (held .entry)) (now (flight .entry))) (take count events)) (now (answers .entry)) ⌝ }
 {
     let mut tables = [0u32; TABLES];
-    let mut known = [false; 32];
+    let mut known = [false; MOST_VIEWS];
     let ends = bench.ends;
     let chain = end_chains(bench.links, &ends);
     let mut current = bench;

@@ -7,10 +7,12 @@ use crate::initial;
 use crate::ready;
 use crate::refusals;
 use crate::replies::refused;
+use crate::sizes::COST_ROW;
 use crate::sizes::TABLES;
 use crate::tables::end_chains;
 use crate::tables::need_view;
 use crate::updates::moved;
+use distances::sizes::MOST_VIEWS;
 use distances::sizes::TABLE;
 ghost use mathlib.Core.Path.{_≡_};
 ghost use mathlib.Core.Bool.{true};
@@ -83,7 +85,7 @@ pub fn update(
         return refused(17, bench);
     }
     let mut tables = [0u32; TABLES];
-    let mut known = [false; 32];
+    let mut known = [false; MOST_VIEWS];
     let updating = update_ready(bench, costs, &mut tables, &mut known, bridge, view);
     let ends = bench.ends;
     let chain = end_chains(bench.links, &ends);
@@ -147,8 +149,14 @@ pub fn fresh(bench: Bench, costs: &[u32], sent: &mut [u32], held: &mut [u32]) ->
     }
     let mut table = [0u32; TABLE];
     let ends = bench.ends;
-    distances::distances(bench.bridges, bench.links, &ends, &costs[0..32], &mut table);
-    initial::start_ends(bench, &costs[0..32], &table, sent, held);
+    distances::distances(
+        bench.bridges,
+        bench.links,
+        &ends,
+        &costs[0..COST_ROW],
+        &mut table,
+    );
+    initial::start_ends(bench, &costs[0..COST_ROW], &table, sent, held);
     Changed {
         reply: Reply::Done,
         bench: initial::fresh_bench(bench),

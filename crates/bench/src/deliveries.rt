@@ -2,6 +2,8 @@
 use crate::effects::EndState;
 use crate::effects::Reception;
 use crate::queue::arrival_end;
+use crate::sizes::COST_ROW;
+use crate::sizes::MESSAGE;
 use crate::tables::need_view;
 use agreement::Agreement;
 use agreement::EndRecord;
@@ -16,7 +18,7 @@ ghost use Prim.Native.Nat.{_*_, _≤_, _<_};
 ghost use lib.ListN.{length, getD};
 ghost use Rattle.bench.specs.State.{state};
 ghost use Rattle.bench.specs.Deliveries.{arrivalEnd, deliveryOutcome, deliveryReady, deliveryAt, received};
-ghost use Rattle.bench.specs.Effects.{receptionSays, receptionBench, Accepts, Takes, LinkFits, MessageFits, endStateIn, StandsIn};
+ghost use Rattle.bench.specs.Effects.{receptionResponse, receptionBench, Accepts, Takes, LinkFits, MessageFits, endStateIn, StandsIn};
 ghost use Rattle.bench.specs.Steps.{IsFilled, TablesOf};
 ghost use Rattle.bench.specs.declared.Bench.{Bench};
 
@@ -56,7 +58,7 @@ fn receive(
     message: Agreement,
 ) -> Reception
     requires { ⌜ (here .end < 64) × (here .view < 32) × (64 ≤ length (now ends)) × (1024 ≤ length (now costs)) × (8192 ≤ length (now tables)) ⌝ }
-    ensures { λ r. ⌜ ((b : Bench) → StandsIn b bridges views (now (ends .entry)) here → Takes (state b (now (costs .entry)) (now (sent .entry)) (now (held .entry)) []) (here .end) message → IsFilled b (now (costs .entry)) (now (tables .entry)) (here .view) → (deliveryOutcome (receptionSays r) (receptionBench r b (b .messages)) (now (sent .exit)) (now (held .exit)) [] ≡ deliveryAt (state b (now (costs .entry)) (now (sent .entry)) (now (held .entry)) []) (here .end) message) × Accepts r) ⌝ }
+    ensures { λ r. ⌜ ((b : Bench) → StandsIn b bridges views (now (ends .entry)) here → Takes (state b (now (costs .entry)) (now (sent .entry)) (now (held .entry)) []) (here .end) message → IsFilled b (now (costs .entry)) (now (tables .entry)) (here .view) → (deliveryOutcome (receptionResponse r) (receptionBench r b (b .messages)) (now (sent .exit)) (now (held .exit)) [] ≡ deliveryAt (state b (now (costs .entry)) (now (sent .entry)) (now (held .entry)) []) (here .end) message) × Accepts r) ⌝ }
 {
     let end = here.end;
     let view = here.view;
@@ -64,7 +66,7 @@ fn receive(
     let other = opposite_end(end);
     let far = ends[other] as usize;
     let bridge = ends[end] as usize;
-    let row = 32 * (view as usize);
+    let row = COST_ROW * (view as usize);
     let block = TABLE * (view as usize);
     let block_past = block + TABLE;
     let taken = deliver_between(
@@ -107,7 +109,7 @@ pub(crate) fn receive_at(
 ) -> Reception
     requires { ⌜ (here .end < 64) × (here .view < 32) × (64 ≤ length (now ends)) × (1024 ≤ length (now costs)) × TablesOf bridges links (now ends) (now costs) (now tables) (now known) ⌝ }
     requires { ⌜ (place < 64) × (320 ≤ length (now messages)) × MessageFits (now messages) place × (here .end ≡ arrivalEnd (now messages) place) ⌝ }
-    ensures { λ r. ⌜ ((b : Bench) → StandsIn b bridges views (now (ends .entry)) here → b .links ≡ links → deliveryReady (state b (now (costs .entry)) (now (sent .entry)) (now (held .entry)) (now (messages .entry))) ≡ true → place < b .messages → (deliveryOutcome (receptionSays r) (receptionBench r b (b .messages)) (now (sent .exit)) (now (held .exit)) (now (messages .entry)) ≡ received (state b (now (costs .entry)) (now (sent .entry)) (now (held .entry)) (now (messages .entry))) place) × Accepts r) ⌝ }
+    ensures { λ r. ⌜ ((b : Bench) → StandsIn b bridges views (now (ends .entry)) here → b .links ≡ links → deliveryReady (state b (now (costs .entry)) (now (sent .entry)) (now (held .entry)) (now (messages .entry))) ≡ true → place < b .messages → (deliveryOutcome (receptionResponse r) (receptionBench r b (b .messages)) (now (sent .exit)) (now (held .exit)) (now (messages .entry)) ≡ received (state b (now (costs .entry)) (now (sent .entry)) (now (held .entry)) (now (messages .entry))) place) × Accepts r) ⌝ }
     ensures { λ r. ⌜ TablesOf bridges links (now (ends .entry)) (now (costs .entry)) (now (tables .exit)) (now (known .exit)) ⌝ }
 {
     need_view(
@@ -119,7 +121,7 @@ pub(crate) fn receive_at(
         tables,
         known,
     );
-    let at = 5 * place;
+    let at = MESSAGE * place;
     let message = Agreement {
         view: messages[at + 2] as u8,
         number: messages[at + 3] as u16,

@@ -1,5 +1,7 @@
 // The parts of a fresh network.
 use crate::Bench;
+use agreement::sizes::ENDS;
+use distances::sizes::MOST_LINKS;
 ghost use mathlib.Core.Path.{_≡_};
 ghost use Prim.Native.Nat.{_*_, _≤_};
 ghost use Rattle.agreement.specs.Call.{viewData};
@@ -39,8 +41,8 @@ pub(crate) fn fresh_bench(bench: Bench) -> Bench
     let view = [0u8; 16];
     let number = [1u16; 16];
     let record = agreement::calls::fresh_record();
-    let records = [record; 64];
-    let cut = [false; 32];
+    let records = [record; ENDS];
+    let cut = [false; MOST_LINKS];
     Bench {
         bridges: bench.bridges,
         links: bench.links,

@@ -64,7 +64,7 @@ pub enum Forwarding {
     Found(Port),
 }
 
-pub enum Way {
+pub enum PathReply {
     Refused(u8),
     Delivered(usize),
     Stops(usize, usize),

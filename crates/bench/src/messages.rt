@@ -16,6 +16,7 @@ use crate::replies::refused_delivery;
 use crate::sizes::TABLES;
 use agreement::Carrying;
 use agreement::EndRecord;
+use distances::sizes::MOST_VIEWS;
 ghost use Prim.Native.Nat.{_-_};
 ghost use mathlib.Core.Path.{_≡_};
 ghost use mathlib.Core.Bool.{true, _&&_};
@@ -23,8 +24,8 @@ ghost use Rattle.bench.specs.Changes.{number, NoZero, benchOutcome};
 ghost use Rattle.bench.specs.State.{state};
 ghost use Rattle.bench.specs.Ranges.{benchInRange, messagesInRange};
 ghost use Rattle.bench.specs.Queue.{queueOutcome, sendOf, loseOf};
-ghost use Rattle.bench.specs.Deliveries.{reactionSays, deliveryOutcome, deliveryReady, deliverOf, repeatOf};
-ghost use Rattle.bench.specs.Effects.{queueChangeNumber, queueChangeBench, QueueChangeFits, receptionSays, receptionBench, ReceptionFits, HasRecord};
+ghost use Rattle.bench.specs.Deliveries.{reactionResponse, deliveryOutcome, deliveryReady, deliverOf, repeatOf};
+ghost use Rattle.bench.specs.Effects.{queueChangeNumber, queueChangeBench, QueueChangeFits, receptionResponse, receptionBench, ReceptionFits, HasRecord};
 ghost use Rattle.bench.specs.declared.Event.the-variants.{Send, Deliver, Repeat};
 ghost use Rattle.bench.specs.Steps.{Tables};
 
@@ -149,7 +150,7 @@ pub(crate) fn taken_count(count: usize) -> usize
 // The bench with the end's record and so many messages in flight, or as it was.
 fn taken(bench: Bench, reception: Reception, count: usize) -> DeliveryResult
     requires { ⌜ ReceptionFits reception ⌝ }
-    ensures { λ r. ⌜ (reactionSays (r .reply) ≡ receptionSays reception) × (r .bench ≡ receptionBench reception bench count) ⌝ }
+    ensures { λ r. ⌜ (reactionResponse (r .reply) ≡ receptionResponse reception) × (r .bench ≡ receptionBench reception bench count) ⌝ }
 {
     match reception {
         Reception::Refused(number) => refused_delivery(number, bench),
@@ -174,14 +175,14 @@ pub fn deliver(
     messages: &mut [u32],
     place: usize,
 ) -> DeliveryResult
-    ensures { λ r. ⌜ deliveryOutcome (reactionSays (r .reply)) (r .bench) (now (sent .exit)) (now (held .exit)) (now (messages .exit)) ≡ deliverOf (state bench (now (costs .entry)) (now (sent .entry)) (now (held .entry)) (now (messages .entry))) place ⌝ }
+    ensures { λ r. ⌜ deliveryOutcome (reactionResponse (r .reply)) (r .bench) (now (sent .exit)) (now (held .exit)) (now (messages .exit)) ≡ deliverOf (state bench (now (costs .entry)) (now (sent .entry)) (now (held .entry)) (now (messages .entry))) place ⌝ }
 {
     let in_range = ready::delivery_in_range(bench, costs, sent.len(), held.len(), messages);
     if !in_range {
         return refused_delivery(17, bench);
     }
     let mut tables = [0u32; TABLES];
-    let mut known = [false; 32];
+    let mut known = [false; MOST_VIEWS];
     let end = queue::receiving_end(bench.messages, messages, place);
     let old = bench.records[end];
     let reception = deliver_ready(
@@ -212,7 +213,7 @@ pub(crate) fn deliver_ready(
 ) -> Reception
     requires { ⌜ deliveryReady (state bench (now costs) (now sent) (now held) (now messages)) ≡ true ⌝ }
     requires { ⌜ Tables bench (now costs) (now tables) (now known) × HasRecord (Deliver place) bench (now messages) old ⌝ }
-    ensures { λ r. ⌜ (deliveryOutcome (receptionSays r) (receptionBench r bench (bench .messages - 1)) (now (sent .exit)) (now (held .exit)) (now (messages .exit)) ≡ deliverOf (state bench (now (costs .entry)) (now (sent .entry)) (now (held .entry)) (now (messages .entry))) place) × ReceptionFits r ⌝ }
+    ensures { λ r. ⌜ (deliveryOutcome (receptionResponse r) (receptionBench r bench (bench .messages - 1)) (now (sent .exit)) (now (held .exit)) (now (messages .exit)) ≡ deliverOf (state bench (now (costs .entry)) (now (sent .entry)) (now (held .entry)) (now (messages .entry))) place) × ReceptionFits r ⌝ }
     ensures { λ r. ⌜ Tables bench (now (costs .entry)) (now (tables .exit)) (now (known .exit)) ⌝ }
 {
     let count = bench.messages;
@@ -252,14 +253,14 @@ pub fn repeat(
     messages: &[u32],
     place: usize,
 ) -> DeliveryResult
-    ensures { λ r. ⌜ deliveryOutcome (reactionSays (r .reply)) (r .bench) (now (sent .exit)) (now (held .exit)) (now (messages .entry)) ≡ repeatOf (state bench (now (costs .entry)) (now (sent .entry)) (now (held .entry)) (now (messages .entry))) place ⌝ }
+    ensures { λ r. ⌜ deliveryOutcome (reactionResponse (r .reply)) (r .bench) (now (sent .exit)) (now (held .exit)) (now (messages .entry)) ≡ repeatOf (state bench (now (costs .entry)) (now (sent .entry)) (now (held .entry)) (now (messages .entry))) place ⌝ }
 {
     let in_range = ready::delivery_in_range(bench, costs, sent.len(), held.len(), messages);
     if !in_range {
         return refused_delivery(17, bench);
     }
     let mut tables = [0u32; TABLES];
-    let mut known = [false; 32];
+    let mut known = [false; MOST_VIEWS];
     let end = queue::receiving_end(bench.messages, messages, place);
     let old = bench.records[end];
     let reception = repeat_ready(
@@ -290,7 +291,7 @@ pub(crate) fn repeat_ready(
 ) -> Reception
     requires { ⌜ deliveryReady (state bench (now costs) (now sent) (now held) (now messages)) ≡ true ⌝ }
     requires { ⌜ Tables bench (now costs) (now tables) (now known) × HasRecord (Repeat place) bench (now messages) old ⌝ }
-    ensures { λ r. ⌜ (deliveryOutcome (receptionSays r) (receptionBench r bench (bench .messages)) (now (sent .exit)) (now (held .exit)) (now (messages .entry)) ≡ repeatOf (state bench (now (costs .entry)) (now (sent .entry)) (now (held .entry)) (now (messages .entry))) place) × ReceptionFits r ⌝ }
+    ensures { λ r. ⌜ (deliveryOutcome (receptionResponse r) (receptionBench r bench (bench .messages)) (now (sent .exit)) (now (held .exit)) (now (messages .entry)) ≡ repeatOf (state bench (now (costs .entry)) (now (sent .entry)) (now (held .entry)) (now (messages .entry))) place) × ReceptionFits r ⌝ }
     ensures { λ r. ⌜ Tables bench (now (costs .entry)) (now (tables .exit)) (now (known .exit)) ⌝ }
 {
     let count = bench.messages;

@@ -1,7 +1,8 @@
 // Ports, hops and walks over a network that is in range.
 use crate::Bench;
 use crate::Hop;
-use crate::Way;
+use crate::PathReply;
+use crate::sizes::COST_ROW;
 use crate::tables::need_view;
 use crate::tables::need_views;
 use agreement::Choice;
@@ -11,6 +12,8 @@ use agreement::choices::first_choice;
 use agreement::choices::next_choice;
 use agreement::choices::port_by;
 use agreement::ready::opposite_end;
+use agreement::sizes::ENDS;
+use distances::sizes::ROW;
 use distances::sizes::TABLE;
 ghost use mathlib.Core.Path.{_≡_};
 ghost use mathlib.Core.List.{List, []};
@@ -24,9 +27,9 @@ ghost use Rattle.distances.specs.View.{graphOf, maxCost};
 ghost use Rattle.bench.specs.State.{state};
 ghost use Rattle.protocol.specs.Ports.{across};
 ghost use Rattle.protocol.specs.Paths.{onward, delivered, stops};
-ghost use Rattle.bench.specs.Answers.{portIn, reported, hopIn, waySays};
+ghost use Rattle.bench.specs.Answers.{portIn, reported, hopIn, pathResponse};
 ghost use Rattle.bench.specs.Chains.{Chained};
-ghost use Rattle.bench.specs.Steps.{PortsReady, IsFilled, AllFilled, Tables, AreChoices, hopSays};
+ghost use Rattle.bench.specs.Steps.{PortsReady, IsFilled, AllFilled, Tables, AreChoices, protocolHop};
 ghost use Rattle.encoding.specs.Numbers.{linkNumber};
 
 // The choice with one end more.
@@ -78,20 +81,20 @@ fn port_at(
     ensures { λ r. ⌜ r ≡ portIn (state bench (now (costs .entry)) (now (sent .entry)) (now (held .entry)) []) bridge dest ⌝ }
 {
     let view = bench.view[bridge] as usize;
-    let mut choice = first_choice(tables[TABLE * view + 16 * bridge + dest], bridge == dest);
-    let mut e = chain[64 + bridge] as usize;
+    let mut choice = first_choice(tables[TABLE * view + ROW * bridge + dest], bridge == dest);
+    let mut e = chain[ENDS + bridge] as usize;
     while e < 2 * bench.links {
         let other = opposite_end(e);
         let far = bench.ends[other] as usize;
         choice = choice_with(
             choice,
             e / 2,
-            costs[32 * view + e / 2],
-            tables[TABLE * view + 16 * far + dest],
+            costs[COST_ROW * view + e / 2],
+            tables[TABLE * view + ROW * far + dest],
             bench.cut[e / 2],
             bench.records[e].holding,
-            sent[16 * e + dest],
-            held[16 * e + dest],
+            sent[ROW * e + dest],
+            held[ROW * e + dest],
         );
         e = chain[e] as usize;
     }
@@ -139,7 +142,7 @@ fn first_choices(bench: Bench, tables: &[u32], dest: usize) -> [Choice; 16]
     let mut y = 0;
     while y < bench.bridges {
         let view = bench.view[y] as usize;
-        choices[y] = first_choice(tables[TABLE * view + 16 * y + dest], y == dest);
+        choices[y] = first_choice(tables[TABLE * view + ROW * y + dest], y == dest);
         y += 1;
     }
     choices
@@ -168,12 +171,12 @@ fn all_choices(
         choices[y] = choice_with(
             choices[y],
             e / 2,
-            costs[32 * view + e / 2],
-            tables[TABLE * view + 16 * far + dest],
+            costs[COST_ROW * view + e / 2],
+            tables[TABLE * view + ROW * far + dest],
             bench.cut[e / 2],
             bench.records[e].holding,
-            sent[16 * e + dest],
-            held[16 * e + dest],
+            sent[ROW * e + dest],
+            held[ROW * e + dest],
         );
         e += 1;
     }
@@ -236,7 +239,7 @@ fn hop_at(
 ) -> Hop
     requires { ⌜ PortsReady bench (now costs) (now sent) (now held) ⌝ }
     requires { ⌜ (bridge < bench .bridges) × (dest < bench .bridges) × Tables bench (now costs) (now tables) (now known) × Chained (bench .links) (bench .ends) (now chain) ⌝ }
-    ensures { λ r. ⌜ hopSays r ≡ hopIn (state bench (now (costs .entry)) (now (sent .entry)) (now (held .entry)) []) dest bridge ⌝ }
+    ensures { λ r. ⌜ protocolHop r ≡ hopIn (state bench (now (costs .entry)) (now (sent .entry)) (now (held .entry)) []) dest bridge ⌝ }
     ensures { λ r. ⌜ Tables bench (now (costs .entry)) (now (tables .exit)) (now (known .exit)) ⌝ }
 {
     let port = port_in(bench, costs, tables, known, chain, sent, held, bridge, dest);
@@ -247,13 +250,13 @@ fn hop_at(
     }
 }
 
-fn end_of_walk(dest: usize, last: usize, hops: usize) -> Way
-    ensures { λ r. ⌜ waySays r ≡ says (cond (eqb last dest) (delivered hops) (stops last hops)) ⌝ }
+fn end_of_walk(dest: usize, last: usize, hops: usize) -> PathReply
+    ensures { λ r. ⌜ pathResponse r ≡ says (cond (eqb last dest) (delivered hops) (stops last hops)) ⌝ }
 {
     if last == dest {
-        Way::Delivered(hops)
+        PathReply::Delivered(hops)
     } else {
-        Way::Stops(last, hops)
+        PathReply::Stops(last, hops)
     }
 }
 
@@ -267,17 +270,17 @@ pub(crate) fn walk(
     held: &[u32],
     start: usize,
     dest: usize,
-) -> Way
+) -> PathReply
     requires { ⌜ PortsReady bench (now costs) (now sent) (now held) ⌝ }
     requires { ⌜ (start < bench .bridges) × (dest < bench .bridges) × Tables bench (now costs) (now tables) (now known) × Chained (bench .links) (bench .ends) (now chain) ⌝ }
-    ensures { λ r. ⌜ waySays r ≡ says (onward (hopIn (state bench (now (costs .entry)) (now (sent .entry)) (now (held .entry)) []) dest) dest (bench .bridges - 1) 0 start) ⌝ }
+    ensures { λ r. ⌜ pathResponse r ≡ says (onward (hopIn (state bench (now (costs .entry)) (now (sent .entry)) (now (held .entry)) []) dest) dest (bench .bridges - 1) 0 start) ⌝ }
     ensures { λ r. ⌜ Tables bench (now (costs .entry)) (now (tables .exit)) (now (known .exit)) ⌝ }
 {
     let mut last = start;
     let mut hops = 0;
     while hops < bench.bridges - 1 {
         if last == dest {
-            return Way::Delivered(hops);
+            return PathReply::Delivered(hops);
         }
         let Hop::Crosses(_, next) = hop_at(
             bench,
@@ -290,7 +293,7 @@ pub(crate) fn walk(
             dest,
             last,
         ) else {
-            return Way::Stops(last, hops);
+            return PathReply::Stops(last, hops);
         };
         last = next;
         hops += 1;

@@ -1,5 +1,6 @@
 // Messages in flight as lent numbers, five for each, and the ends that they leave and arrive at.
 use crate::Bench;
+use crate::sizes::MESSAGE;
 use agreement::ready::opposite_end;
 ghost use mathlib.Core.Path.{_≡_};
 ghost use mathlib.Core.List.{[], _∷_};
@@ -25,7 +26,7 @@ pub(crate) fn put(
     requires { ⌜ (place < 64) × (320 ≤ length (now messages)) ⌝ }
     ensures { λ r. ⌜ now (messages .exit) ≡ sets (now (messages .entry)) (5 * place) (link ∷ direction ∷ view ∷ number ∷ discarded ∷ []) ⌝ }
 {
-    let at = 5 * place;
+    let at = MESSAGE * place;
     messages[at] = link;
     messages[at + 1] = direction;
     messages[at + 2] = view;
@@ -38,10 +39,10 @@ pub(crate) fn take_out(messages: &mut [u32], count: usize, place: usize)
     requires { ⌜ (place < count) × (count ≤ 64) × (320 ≤ length (now messages)) ⌝ }
     ensures { λ r. ⌜ now (messages .exit) ≡ takenOut count place (now (messages .entry)) ⌝ }
 {
-    let past = 5 * (count - 1);
-    let mut k = 5 * place;
+    let past = MESSAGE * (count - 1);
+    let mut k = MESSAGE * place;
     while k < past {
-        messages[k] = messages[k + 5];
+        messages[k] = messages[k + MESSAGE];
         k += 1;
     }
 }
@@ -80,7 +81,7 @@ pub(crate) fn arrival_end(messages: &[u32], place: usize) -> usize
     requires { ⌜ (place < 64) × (320 ≤ length (now messages)) × LinkFits (now messages) place ⌝ }
     ensures { λ r. ⌜ r ≡ arrivalEnd (now (messages .entry)) place ⌝ }
 {
-    let at = 5 * place;
+    let at = MESSAGE * place;
     opposite_end(2 * (messages[at] as usize) + messages[at + 1] as usize)
 }
 

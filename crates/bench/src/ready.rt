@@ -1,9 +1,12 @@
 // The entry checks: document 01's ranges of a bench and of what is lent beside it.
 use crate::Bench;
+use crate::sizes::COST_ROW;
 use crate::sizes::COSTS;
+use crate::sizes::MESSAGE;
 use crate::sizes::MESSAGES;
 use crate::sizes::MOST_MESSAGES;
 use agreement::sizes::LIMITS;
+use agreement::sizes::NUMBERS;
 use distances::ready::both;
 use distances::sizes::MOST_VIEWS;
 ghost use mathlib.Core.Path.{_≡_};
@@ -56,8 +59,8 @@ fn row_in_range(links: usize, costs: &[u32], t: usize) -> bool
     requires { ⌜ (t ≤ 31) × (1024 ≤ length (now costs)) ⌝ }
     ensures { λ r. ⌜ r ≡ costsPass links (part 32 t (now (costs .entry))) ⌝ }
 {
-    let first = 32 * t;
-    let past = first + 32;
+    let first = COST_ROW * t;
+    let past = first + COST_ROW;
     distances::ready::costs_pass(links, &costs[first..past])
 }
 
@@ -120,7 +123,7 @@ fn message_passes(
         l < links,
         both(
             direction < 2,
-            both(t < views, both(number < 65536, discarded < 65536)),
+            both(t < views, both(number < NUMBERS, discarded < NUMBERS)),
         ),
     )
 }
@@ -135,7 +138,7 @@ pub(crate) fn messages_in_range(bench: Bench, messages: &[u32]) -> bool
     let mut ok = true;
     let mut k = 0;
     while k < bench.messages {
-        let at = 5 * k;
+        let at = MESSAGE * k;
         ok = both(
             ok,
             message_passes(

@@ -1,6 +1,8 @@
 // What turns a call down, by document 01's table, once the ranges are checked: its number, 0 where nothing does. Each takes the numbers that
 // it looks at, of a bench that has them.
+use crate::sizes::MESSAGE;
 use crate::sizes::MOST_MESSAGES;
+use agreement::sizes::LAST_NUMBER;
 use distances::ready::both;
 ghost use mathlib.Core.Path.{_≡_};
 ghost use mathlib.Core.List.{[]};
@@ -29,7 +31,7 @@ pub(crate) fn update_refusal(
     }
     let last = number[bridge];
     let present = view[bridge] as usize;
-    if both(last == 65535, present != to) {
+    if both(last == LAST_NUMBER, present != to) {
         return 16;
     }
     0
@@ -102,7 +104,7 @@ pub(crate) fn deliver_refusal(count: usize, flags: [bool; 32], messages: &[u32],
     if count <= place {
         return 15;
     }
-    let link = messages[5 * place] as usize;
+    let link = messages[MESSAGE * place] as usize;
     if flags[link] {
         return 13;
     }

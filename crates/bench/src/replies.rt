@@ -7,7 +7,7 @@ use crate::Reply;
 ghost use mathlib.Core.Path.{_≡_};
 ghost use Prim.Native.Nat.{_<_};
 ghost use Rattle.bench.specs.Changes.{number, NoZero, benchOutcome};
-ghost use Rattle.bench.specs.Deliveries.{reactionSays, refusedBy};
+ghost use Rattle.bench.specs.Deliveries.{reactionResponse, refusedBy};
 
 pub(crate) fn refused(by: u8, bench: Bench) -> Changed
     requires { ⌜ 0 < by ⌝ }
@@ -20,7 +20,7 @@ pub(crate) fn refused(by: u8, bench: Bench) -> Changed
 }
 
 pub(crate) fn refused_delivery(by: u8, bench: Bench) -> DeliveryResult
-    ensures { λ r. ⌜ (reactionSays (r .reply) ≡ refusedBy by) × (r .bench ≡ bench) ⌝ }
+    ensures { λ r. ⌜ (reactionResponse (r .reply) ≡ refusedBy by) × (r .bench ≡ bench) ⌝ }
 {
     DeliveryResult {
         reply: Reaction::Refused(by),

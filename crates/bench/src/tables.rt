@@ -2,6 +2,8 @@
 // at its first use, and `known` says which are there. And the ends of each bridge, one behind the other.
 use crate::Bench;
 use crate::sizes::CHAIN;
+use crate::sizes::COST_ROW;
+use agreement::sizes::ENDS;
 use distances::sizes::TABLE;
 ghost use mathlib.Core.Path.{_≡_};
 ghost use mathlib.Core.Bool.{true, false};
@@ -21,8 +23,8 @@ fn fill_view(
     requires { ⌜ (view < 32) × (1024 ≤ length (now costs)) × (8192 ≤ length (now tables)) ⌝ }
     ensures { λ r. ⌜ now (tables .exit) ≡ filledView bridges links (now (ends .entry)) (now (costs .entry)) view (now (tables .entry)) ⌝ }
 {
-    let row = 32 * view;
-    let row_past = row + 32;
+    let row = COST_ROW * view;
+    let row_past = row + COST_ROW;
     let block = TABLE * view;
     let block_past = block + TABLE;
     distances::distances(
@@ -89,7 +91,7 @@ pub(crate) fn end_chains(links: usize, ends: &[u8]) -> [u8; CHAIN]
     let mut e = 2 * links;
     while 0 < e {
         e -= 1;
-        let y = 64 + ends[e] as usize;
+        let y = ENDS + ends[e] as usize;
         chain[e] = chain[y];
         chain[y] = e as u8;
     }

@@ -1,8 +1,10 @@
 // Update of a bridge, end by end.
 use crate::Bench;
+use crate::sizes::COST_ROW;
 use agreement::EndRecord;
 use agreement::between::update_between;
 use agreement::ready::opposite_end;
+use agreement::sizes::ENDS;
 use distances::sizes::TABLE;
 ghost use mathlib.Core.Path.{_≡_};
 ghost use mathlib.Core.Bool.{true};
@@ -33,7 +35,7 @@ fn move_ends(
 {
     let places = bench.ends;
     let mut records = bench.records;
-    let mut e = chain[64 + bridge] as usize;
+    let mut e = chain[ENDS + bridge] as usize;
     while e < 2 * bench.links {
         let other = opposite_end(e);
         let far = places[other] as usize;
@@ -71,8 +73,8 @@ pub(crate) fn moved(
     requires { ⌜ IsFilled bench (now costs) (now tables) view × Chained (bench .links) (bench .ends) (now chain) ⌝ }
     ensures { λ r. ⌜ changeOutcome 0 r (now (sent .exit)) (now (held .exit)) ≡ movedBench bench bridge view (movedEnds (lentView bench (now (costs .entry)) view) (bench .views) bridge view (2 * bench .links) (ends (bench .records) (now (sent .entry)) (now (held .entry)))) ⌝ }
 {
-    let row = 32 * view;
-    let row_past = row + 32;
+    let row = COST_ROW * view;
+    let row_past = row + COST_ROW;
     let block = TABLE * view;
     let block_past = block + TABLE;
     let t = view as u8;

@@ -1,5 +1,6 @@
 // The passes of Floyd and Warshall, in place: pass k offers every pair the way by bridge k. It changes neither row k nor column k,
 // so it may read what it has already written.
+use crate::sizes::ROW;
 ghost use mathlib.Core.Path.{_≡_};
 ghost use Prim.Native.Nat.{_+_, _≤_, _<_, min};
 ghost use lib.ListN.{length};
@@ -18,10 +19,10 @@ fn relax_row(n: usize, k: usize, i: usize, table: &mut [u32])
     requires { ⌜ (n ≤ 16) × (k < n) × (i < n) × (256 ≤ length (now table)) ⌝ }
     ensures { λ r. ⌜ now (table .exit) ≡ withRow n k i (now (table .entry)) ⌝ }
 {
-    let near = table[16 * i + k];
+    let near = table[ROW * i + k];
     let mut j = 0;
     while j < n {
-        table[16 * i + j] = shorter(table[16 * i + j], near, table[16 * k + j]);
+        table[ROW * i + j] = shorter(table[ROW * i + j], near, table[ROW * k + j]);
         j += 1;
     }
 }

@@ -14,5 +14,8 @@ pub const MAX_COST: u32 = 16777215;
 // No path, no limit and no port.
 pub const NONE: u32 = 4294967295;
 
-// A view's distances: 16 rows of 16.
+// A row of a table of distances, or of limits: a number for each of 16 bridges.
+pub const ROW: usize = 16;
+
+// A view's distances: 16 rows.
 pub const TABLE: usize = 256;

@@ -1,5 +1,6 @@
 // The table before the first pass: 0 from a bridge to itself, the cheapest link between two bridges, NONE elsewhere.
 use crate::sizes::NONE;
+use crate::sizes::ROW;
 ghost use mathlib.Core.Path.{_≡_};
 ghost use mathlib.Core.Bool.{cond};
 ghost use Prim.Native.Nat.{ℕ, _+_, _*_, _/_, _%_, _≤_, _<_, min};
@@ -11,13 +12,13 @@ ghost use Rattle.distances.specs.Steps.{weight, lowered, withLink, withL
 fn cleared(bridges: usize, p: usize, old: u32) -> u32
     ensures { λ r. ⌜ r ≡ cond (isPair bridges p) (unjoined (p / 16) (p % 16)) old ⌝ }
 {
-    if bridges <= p / 16 {
+    if bridges <= p / ROW {
         return old;
     }
-    if bridges <= p % 16 {
+    if bridges <= p % ROW {
         return old;
     }
-    if p / 16 == p % 16 {
+    if p / ROW == p % ROW {
         return 0;
     }
     NONE
@@ -28,7 +29,7 @@ pub(crate) fn clear(bridges: usize, table: &mut [u32])
     ensures { λ r. ⌜ now (table .exit) ≡ withPairs bridges unjoined (now (table .entry)) ⌝ }
 {
     let mut p = 0;
-    while p < 16 * bridges {
+    while p < ROW * bridges {
         table[p] = cleared(bridges, p, table[p]);
         p += 1;
     }
@@ -60,8 +61,8 @@ fn join_link(first: u8, second: u8, cost: u32, table: &mut [u32])
     let a = first as usize;
     let b = second as usize;
     let to = weight_of(cost);
-    lower(table, 16 * a + b, to);
-    lower(table, 16 * b + a, to);
+    lower(table, ROW * a + b, to);
+    lower(table, ROW * b + a, to);
 }
 
 pub(crate) fn join(links: usize, ends: &[u8], costs: &[u32], table: &mut [u32])

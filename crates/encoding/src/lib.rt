@@ -6,7 +6,10 @@ use agreement::Answer;
 use agreement::EndRecord;
 use agreement::Port;
 use agreement::calls;
+use agreement::sizes::ENDS;
+use agreement::sizes::NUMBERS;
 use distances::ready::both;
+use distances::sizes::MOST_LINKS;
 use distances::sizes::NONE;
 ghost use mathlib.Core.Path.{_≡_};
 ghost use mathlib.Core.Bool.{cond};
@@ -15,6 +18,17 @@ ghost use lib.ListN.{getD, set};
 ghost use lib.Seq.{sets};
 ghost use Rattle.agreement.specs.Record.{answerNumbers};
 ghost use Rattle.encoding.specs.Numbers.{isSet, recordAt, agreementIn, recordsIn, flagsIn, recordFits, holdsRecord, holdsAgreement, holdsRecords, recordNumbers, agreementNumbers, linkNumber};
+
+// The numbers of an agreement: view, number, discarded number.
+pub const AGREEMENT: usize = 3;
+
+// The numbers of a delivery's answer, and of a path.
+pub const ANSWER: usize = 3;
+
+// The ends that have records, and the numbers of these.
+const RECORDS: u16 = ENDS as u16;
+
+const RECORD_NUMBERS: usize = 4 * ENDS;
 
 fn read_at(numbers: &[u32], k: usize) -> u32
     ensures { λ r. ⌜ r ≡ getD (now (numbers .entry)) k 0 ⌝ }
@@ -39,9 +53,9 @@ pub fn record_at(numbers: &[u32], first: u16) -> EndRecord
 {
     let k = first as usize;
     EndRecord {
-        received: (read_at(numbers, k) % 65536) as u16,
+        received: (read_at(numbers, k) % NUMBERS) as u16,
         view: (read_at(numbers, k + 1) % 256) as u8,
-        discarded: (read_at(numbers, k + 2) % 65536) as u16,
+        discarded: (read_at(numbers, k + 2) % NUMBERS) as u16,
         holding: read_at(numbers, k + 3) != 0,
     }
 }
@@ -51,10 +65,10 @@ fn record_fits(numbers: &[u32], first: u16) -> bool
 {
     let k = first as usize;
     both(
-        read_at(numbers, k) < 65536,
+        read_at(numbers, k) < NUMBERS,
         both(
             read_at(numbers, k + 1) < 256,
-            read_at(numbers, k + 2) < 65536,
+            read_at(numbers, k + 2) < NUMBERS,
         ),
     )
 }
@@ -75,8 +89,8 @@ pub fn agreement_in(numbers: &[u32]) -> Agreement
 {
     Agreement {
         view: (read_at(numbers, 0) % 256) as u8,
-        number: (read_at(numbers, 1) % 65536) as u16,
-        discarded: (read_at(numbers, 2) % 65536) as u16,
+        number: (read_at(numbers, 1) % NUMBERS) as u16,
+        discarded: (read_at(numbers, 2) % NUMBERS) as u16,
     }
 }
 
@@ -84,12 +98,12 @@ pub fn agreement_in(numbers: &[u32]) -> Agreement
 pub fn holds_agreement(numbers: &[u32]) -> bool
     ensures { λ r. ⌜ r ≡ holdsAgreement (now (numbers .entry)) ⌝ }
 {
-    if numbers.len() < 3 {
+    if numbers.len() < AGREEMENT {
         return false;
     }
     both(
         numbers[0] < 256,
-        both(numbers[1] < 65536, numbers[2] < 65536),
+        both(numbers[1] < NUMBERS, numbers[2] < NUMBERS),
     )
 }
 
@@ -97,9 +111,9 @@ pub fn holds_agreement(numbers: &[u32]) -> bool
 pub fn records_in(numbers: &[u32]) -> [EndRecord; 64]
     ensures { λ r. ⌜ r ≡ recordsIn (now (numbers .entry)) ⌝ }
 {
-    let mut records = [calls::fresh_record(); 64];
+    let mut records = [calls::fresh_record(); ENDS];
     let mut e: u16 = 0;
-    while e < 64 {
+    while e < RECORDS {
         records[e as usize] = record_at(numbers, 4 * e);
         e += 1;
     }
@@ -110,12 +124,12 @@ pub fn records_in(numbers: &[u32]) -> [EndRecord; 64]
 pub fn holds_records(numbers: &[u32]) -> bool
     ensures { λ r. ⌜ r ≡ holdsRecords (now (numbers .entry)) ⌝ }
 {
-    if numbers.len() < 256 {
+    if numbers.len() < RECORD_NUMBERS {
         return false;
     }
     let mut ok = true;
     let mut e: u16 = 0;
-    while e < 64 {
+    while e < RECORDS {
         ok = both(ok, record_fits(numbers, 4 * e));
         e += 1;
     }
@@ -135,9 +149,9 @@ fn flag_at(numbers: &[u8], k: usize) -> bool
 pub fn flags_in(numbers: &[u8]) -> [bool; 32]
     ensures { λ r. ⌜ r ≡ flagsIn (now (numbers .entry)) ⌝ }
 {
-    let mut flags = [false; 32];
+    let mut flags = [false; MOST_LINKS];
     let mut l = 0;
-    while l < 32 {
+    while l < MOST_LINKS {
         flags[l] = flag_at(numbers, l);
         l += 1;
     }

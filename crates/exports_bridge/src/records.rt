@@ -7,6 +7,9 @@ use agreement::Offered;
 use agreement::Reaction;
 use agreement::Reply;
 use agreement::calls;
+use distances::sizes::MOST_LINKS;
+use encoding::AGREEMENT;
+use encoding::ANSWER;
 ghost use mathlib.Core.Path.{_≡_};
 ghost use mathlib.Core.List.{[], _∷_};
 ghost use Rattle.agreement.specs.Call.{viewData};
@@ -127,7 +130,7 @@ pub extern "C" fn bench_carry(
     if !encoding::holds_record(fields) {
         return 17;
     }
-    if out.len() < 3 {
+    if out.len() < AGREEMENT {
         return 17;
     }
     let old = encoding::record_at(fields, 0);
@@ -167,7 +170,7 @@ pub extern "C" fn bench_deliver_end(
     if !encoding::holds_agreement(message) {
         return 17;
     }
-    if out.len() < 3 {
+    if out.len() < ANSWER {
         return 17;
     }
     let old = encoding::record_at(fields, 0);
@@ -218,7 +221,7 @@ pub extern "C" fn bench_port(
 ) -> u8
     ensures { λ r. ⌜ callOutcome r (now (out .exit) ∷ []) ≡ portReply (viewData bridges links (now (ends .entry)) (now (costs .entry)) (now (table .entry))) views (now (cut .entry)) (now (records .entry)) (now (sent .entry)) (now (held .entry)) bridge dest (now (out .entry)) ⌝ }
 {
-    if cut.len() < 32 {
+    if cut.len() < MOST_LINKS {
         return 17;
     }
     if !encoding::holds_records(records) {

@@ -11,12 +11,11 @@ use Rattle.distances.specs.Call.{allBelow}
 use Rattle.agreement.specs.Record.{freshRecord, answerNumbers}
 use Rattle.agreement.specs.declared.Answer.{Answer}
 use Rattle.bench.specs.declared.Bench.{Bench}
-use Rattle.protocol.specs.Paths as paths
 use Rattle.bench.specs.State.{State, state}
 use Rattle.bench.specs.Changes.{BenchOutcome, ChangeOutcome, freshOf, updateOf, cutOf, restoreOf}
 use Rattle.bench.specs.Queue.{QueueOutcome, sendOf, loseOf}
 use Rattle.bench.specs.Deliveries.{DeliveryOutcome, deliverOf, repeatOf}
-use Rattle.bench.specs.Answers.{ReportOutcome, portOf, reportOf, pathOf}
+use Rattle.bench.specs.Answers.{ReportOutcome, portOf, reportOf, pathNumbers, pathOf}
 use Rattle.encoding.specs.Numbers.{isSet, tabulated, recordsIn, holdsRecords, recordNumbers, portNumbers}
 use Rattle.encoding.specs.Replies.{CallOutcome, callOutcome, ifLong, withValue, valueReply}
 
@@ -106,11 +105,6 @@ deliveredReply xs out o =
 
 abbrev pub reportReply : ReportOutcome → CallOutcome
 reportReply o = callOutcome (o .reply) (o .rows ∷ [])
-
--- 0, 0 and the hops where it is delivered; 1, the last bridge and the hops where it stops
-abbrev pub pathNumbers : paths.Way → List ℕ
-pathNumbers (paths.delivered hops) = 0 ∷ 0 ∷ low hops ∷ []
-pathNumbers (paths.stops last hops) = 1 ∷ low last ∷ low hops ∷ []
 
 unfoldable pub netFreshReply : List ℕ → List ℕ → List ℕ → List ℕ → CallOutcome
 netFreshReply xs costs sent held =

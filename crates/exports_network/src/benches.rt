@@ -2,25 +2,42 @@
 // numbers for each of 64 records, and cut (32). Any number but 0 stands for true. A list holds a bench where each number fits its
 // field, and there the remainders change nothing.
 use agreement::EndRecord;
+use agreement::sizes::ENDS;
+use agreement::sizes::NUMBERS;
 use bench::Bench;
 use distances::ready::both;
+use distances::sizes::MOST_BRIDGES;
+use distances::sizes::MOST_LINKS;
 ghost use mathlib.Core.Path.{_≡_};
 ghost use Prim.Native.Nat.{_+_, _%_, _≤_, _<_};
 ghost use lib.ListN.{length, getD};
 ghost use Rattle.encoding.specs.Numbers.{isSet, recordNumbers};
 ghost use Rattle.exports_network.specs.Network.{each, eachBelow, holdsBench, low, benchIn, countAt, numberAt, stored};
 
-// The numbers of a bench: four counts, 64 ends, 16 views, 16 agreement numbers, four for each of 64 records, 32 cut flags.
+// Where each array of a bench begins among its numbers, behind the four counts, and how many numbers there are.
+const ENDS_AT: usize = 4;
+
+const VIEW_AT: usize = 68;
+
+const NUMBER_AT: usize = 84;
+
+const RECORDS_AT: usize = 100;
+
+const CUT_AT: usize = 356;
+
 const BENCH_NUMBERS: usize = 388;
+
+// The ends and the views, which have 8 bits.
+const NARROW: usize = NUMBER_AT - ENDS_AT;
 
 fn ends_in(numbers: &[u32]) -> [u8; 64]
     requires { ⌜ 388 ≤ length (now numbers) ⌝ }
     ensures { λ r. ⌜ r ≡ each 64 4 (λ x. x % 256) (now (numbers .entry)) ⌝ }
 {
-    let mut ends = [0u8; 64];
+    let mut ends = [0u8; ENDS];
     let mut e = 0;
-    while e < 64 {
-        ends[e] = (numbers[4 + e] % 256) as u8;
+    while e < ENDS {
+        ends[e] = (numbers[ENDS_AT + e] % 256) as u8;
         e += 1;
     }
     ends
@@ -30,10 +47,10 @@ fn views_in(numbers: &[u32]) -> [u8; 16]
     requires { ⌜ 388 ≤ length (now numbers) ⌝ }
     ensures { λ r. ⌜ r ≡ each 16 68 (λ x. x % 256) (now (numbers .entry)) ⌝ }
 {
-    let mut views = [0u8; 16];
+    let mut views = [0u8; MOST_BRIDGES];
     let mut y = 0;
-    while y < 16 {
-        views[y] = (numbers[68 + y] % 256) as u8;
+    while y < MOST_BRIDGES {
+        views[y] = (numbers[VIEW_AT + y] % 256) as u8;
         y += 1;
     }
     views
@@ -43,10 +60,10 @@ fn agreement_numbers_in(numbers: &[u32]) -> [u16; 16]
     requires { ⌜ 388 ≤ length (now numbers) ⌝ }
     ensures { λ r. ⌜ r ≡ each 16 84 (λ x. x % 65536) (now (numbers .entry)) ⌝ }
 {
-    let mut counts = [0u16; 16];
+    let mut counts = [0u16; MOST_BRIDGES];
     let mut y = 0;
-    while y < 16 {
-        counts[y] = (numbers[84 + y] % 65536) as u16;
+    while y < MOST_BRIDGES {
+        counts[y] = (numbers[NUMBER_AT + y] % NUMBERS) as u16;
         y += 1;
     }
     counts
@@ -56,10 +73,10 @@ fn cuts_in(numbers: &[u32]) -> [bool; 32]
     requires { ⌜ 388 ≤ length (now numbers) ⌝ }
     ensures { λ r. ⌜ r ≡ each 32 356 isSet (now (numbers .entry)) ⌝ }
 {
-    let mut cuts = [false; 32];
+    let mut cuts = [false; MOST_LINKS];
     let mut l = 0;
-    while l < 32 {
-        cuts[l] = numbers[356 + l] != 0;
+    while l < MOST_LINKS {
+        cuts[l] = numbers[CUT_AT + l] != 0;
         l += 1;
     }
     cuts
@@ -72,7 +89,7 @@ pub(crate) fn load(numbers: &[u32]) -> Bench
     let ends = ends_in(numbers);
     let view = views_in(numbers);
     let number = agreement_numbers_in(numbers);
-    let records = encoding::records_in(&numbers[100..356]);
+    let records = encoding::records_in(&numbers[RECORDS_AT..CUT_AT]);
     let cut = cuts_in(numbers);
     Bench {
         bridges: numbers[0] as usize,
@@ -107,9 +124,9 @@ pub(crate) fn holds(numbers: &[u32]) -> bool
     if numbers.len() < BENCH_NUMBERS {
         return false;
     }
-    let narrow = each_below(numbers, 80, 4, 256);
-    let wide = each_below(numbers, 16, 84, 65536);
-    let records = encoding::holds_records(&numbers[100..356]);
+    let narrow = each_below(numbers, NARROW, ENDS_AT, 256);
+    let wide = each_below(numbers, MOST_BRIDGES, NUMBER_AT, NUMBERS);
+    let records = encoding::holds_records(&numbers[RECORDS_AT..CUT_AT]);
     both(narrow, both(wide, records))
 }
 
@@ -155,22 +172,22 @@ fn number_at(bench: Bench, k: usize) -> u32
     requires { ⌜ k < 388 ⌝ }
     ensures { λ r. ⌜ r ≡ numberAt bench k ⌝ }
 {
-    if k < 4 {
+    if k < ENDS_AT {
         return count_at(bench, k);
     }
-    if k < 68 {
-        return bench.ends[k - 4] as u32;
+    if k < VIEW_AT {
+        return bench.ends[k - ENDS_AT] as u32;
     }
-    if k < 84 {
-        return bench.view[k - 68] as u32;
+    if k < NUMBER_AT {
+        return bench.view[k - VIEW_AT] as u32;
     }
-    if k < 100 {
-        return bench.number[k - 84] as u32;
+    if k < RECORDS_AT {
+        return bench.number[k - NUMBER_AT] as u32;
     }
-    if k < 356 {
-        return field_of(bench.records[(k - 100) / 4], k % 4);
+    if k < CUT_AT {
+        return field_of(bench.records[(k - RECORDS_AT) / 4], k % 4);
     }
-    encoding::flag_number(bench.cut[k - 356])
+    encoding::flag_number(bench.cut[k - CUT_AT])
 }
 
 pub(crate) fn store(bench: Bench, numbers: &mut [u32])

@@ -13,8 +13,11 @@ ghost use Rattle.bench.specs.Batches.{refusalIn};
 ghost use Rattle.encoding.specs.Replies.{callOutcome};
 ghost use Rattle.exports_network.specs.Lists.{storedIfMade, countsOf, netRunReply};
 
+// The events made, the bytes used and the numbers answered with.
+const COUNTS: usize = 3;
+
 // The new bench goes to `numbers` where an event was made, and the counts to `out`.
-fn settle_list(batch: BatchResult, used: usize, numbers: &mut [u32], out: &mut [u32]) -> u8
+fn store_batch(batch: BatchResult, used: usize, numbers: &mut [u32], out: &mut [u32]) -> u8
     requires { ⌜ (388 ≤ length (now numbers)) × (3 ≤ length (now out)) ⌝ }
     ensures { λ r. ⌜ (r ≡ refusalIn (batch .disposition)) × (now (numbers .exit) ≡ storedIfMade (batch .made) (batch .bench) (now (numbers .entry))) × (now (out .exit) ≡ sets (now (out .entry)) 0 (countsOf (batch .made) used (batch .answered))) ⌝ }
 {
@@ -50,7 +53,7 @@ pub extern "C" fn bench_net_run(
     if !benches::holds(bench) {
         return 17;
     }
-    if out.len() < 3 {
+    if out.len() < COUNTS {
         return 17;
     }
     let old = benches::load(bench);
@@ -60,5 +63,5 @@ pub extern "C" fn bench_net_run(
     let count = ends[0] as usize;
     let batch = bench::batches::run(old, costs, sent, held, messages, events, count, answers);
     let used = plan::events::bytes_of(&ends, batch.made);
-    settle_list(batch, used, bench, out)
+    store_batch(batch, used, bench, out)
 }

@@ -4,17 +4,18 @@ use crate::benches;
 use bench::Changed;
 use bench::DeliveryResult;
 use bench::Forwarding;
+use bench::PathReply;
 use bench::Reaction;
 use bench::Reply;
-use bench::Way;
 use bench::answers;
 use bench::changes;
+use encoding::ANSWER;
 ghost use mathlib.Core.Path.{_≡_};
 ghost use mathlib.Core.List.{[], _∷_};
 ghost use Prim.Native.Nat.{_≤_};
 ghost use lib.ListN.{length};
 ghost use Rattle.bench.specs.Changes.{number};
-ghost use Rattle.bench.specs.Deliveries.{reactionSays};
+ghost use Rattle.bench.specs.Deliveries.{reactionResponse};
 ghost use Rattle.agreement.specs.Record.{answerNumbers};
 ghost use Rattle.encoding.specs.Replies.{callOutcome, withValue};
 ghost use Rattle.exports_network.specs.Network.{withBench, withAnswered, netFreshReply, netUpdateReply, netCutReply, netRestoreReply, netSendReply, netLoseReply, netDeliverReply, netRepeatReply, netPortReply, netReportReply, netPathReply};
@@ -29,7 +30,7 @@ fn number_of(reply: Reply) -> u8
 }
 
 // The new bench goes to `numbers` where the call was not refused.
-pub(crate) fn settle(changed: Changed, numbers: &mut [u32]) -> u8
+pub(crate) fn store_change(changed: Changed, numbers: &mut [u32]) -> u8
     requires { ⌜ 388 ≤ length (now numbers) ⌝ }
     ensures { λ r. ⌜ (r ≡ number (changed .reply)) × (now (numbers .exit) ≡ withBench (number (changed .reply)) (changed .bench) (now (numbers .entry))) ⌝ }
 {
@@ -42,9 +43,9 @@ pub(crate) fn settle(changed: Changed, numbers: &mut [u32]) -> u8
 }
 
 // The answer goes to `out` too.
-pub(crate) fn settle_delivery(delivered: DeliveryResult, numbers: &mut [u32], out: &mut [u32]) -> u8
+pub(crate) fn store_delivery(delivered: DeliveryResult, numbers: &mut [u32], out: &mut [u32]) -> u8
     requires { ⌜ (388 ≤ length (now numbers)) × (3 ≤ length (now out)) ⌝ }
-    ensures { λ r. ⌜ (r ≡ reactionSays (delivered .reply) .number) × (now (numbers .exit) ≡ withAnswered (reactionSays (delivered .reply) .value) (delivered .bench) (now (numbers .entry))) × (now (out .exit) ≡ withValue answerNumbers (now (out .entry)) (reactionSays (delivered .reply) .value)) ⌝ }
+    ensures { λ r. ⌜ (r ≡ reactionResponse (delivered .reply) .number) × (now (numbers .exit) ≡ withAnswered (reactionResponse (delivered .reply) .value) (delivered .bench) (now (numbers .entry))) × (now (out .exit) ≡ withValue answerNumbers (now (out .entry)) (reactionResponse (delivered .reply) .value)) ⌝ }
 {
     let reply = delivered.reply;
     match reply {
@@ -72,7 +73,7 @@ pub extern "C" fn bench_net_fresh(
     }
     let old = benches::load(bench);
     let changed = changes::fresh(old, costs, sent, held);
-    settle(changed, bench)
+    store_change(changed, bench)
 }
 
 // `bench::changes::update`
@@ -92,7 +93,7 @@ pub extern "C" fn bench_net_update(
     }
     let old = benches::load(bench);
     let changed = changes::update(old, costs, sent, held, bridge, view);
-    settle(changed, bench)
+    store_change(changed, bench)
 }
 
 // `bench::changes::cut`
@@ -105,7 +106,7 @@ pub extern "C" fn bench_net_cut(bench: &mut [u32], link: usize) -> u8
     }
     let old = benches::load(bench);
     let changed = changes::cut(old, link);
-    settle(changed, bench)
+    store_change(changed, bench)
 }
 
 // `bench::changes::restore`
@@ -118,7 +119,7 @@ pub extern "C" fn bench_net_restore(bench: &mut [u32], link: usize) -> u8
     }
     let old = benches::load(bench);
     let changed = changes::restore(old, link);
-    settle(changed, bench)
+    store_change(changed, bench)
 }
 
 // `bench::messages::send`
@@ -136,7 +137,7 @@ pub extern "C" fn bench_net_send(
     }
     let old = benches::load(bench);
     let changed = bench::messages::send(old, messages, bridge, link);
-    settle(changed, bench)
+    store_change(changed, bench)
 }
 
 // `bench::messages::lose`
@@ -149,7 +150,7 @@ pub extern "C" fn bench_net_lose(bench: &mut [u32], messages: &mut [u32], place:
     }
     let old = benches::load(bench);
     let changed = bench::messages::lose(old, messages, place);
-    settle(changed, bench)
+    store_change(changed, bench)
 }
 
 // `bench::messages::deliver`: the answer goes to `out`, 0 stale, 1 agreed, 2 noted, then the number and the view taken.
@@ -168,12 +169,12 @@ pub extern "C" fn bench_net_deliver(
     if !benches::holds(bench) {
         return 17;
     }
-    if out.len() < 3 {
+    if out.len() < ANSWER {
         return 17;
     }
     let old = benches::load(bench);
     let delivered = bench::messages::deliver(old, costs, sent, held, messages, place);
-    settle_delivery(delivered, bench, out)
+    store_delivery(delivered, bench, out)
 }
 
 // `bench::messages::repeat`, the answer as for `deliver`
@@ -192,12 +193,12 @@ pub extern "C" fn bench_net_repeat(
     if !benches::holds(bench) {
         return 17;
     }
-    if out.len() < 3 {
+    if out.len() < ANSWER {
         return 17;
     }
     let old = benches::load(bench);
     let delivered = bench::messages::repeat(old, costs, sent, held, messages, place);
-    settle_delivery(delivered, bench, out)
+    store_delivery(delivered, bench, out)
 }
 
 // `bench::answers::port`: the link, or 4,294,967,295 where no port forwards, goes to out[0].
@@ -266,18 +267,18 @@ pub extern "C" fn bench_net_path(
     if !benches::holds(bench) {
         return 17;
     }
-    if out.len() < 3 {
+    if out.len() < ANSWER {
         return 17;
     }
     let old = benches::load(bench);
     let way = answers::path(old, costs, sent, held, start, dest);
     match way {
-        Way::Refused(by) => by,
-        Way::Delivered(hops) => {
+        PathReply::Refused(by) => by,
+        PathReply::Delivered(hops) => {
             encoding::put_three(0, 0, benches::low_of(hops), out);
             0
         }
-        Way::Stops(last, hops) => {
+        PathReply::Stops(last, hops) => {
             encoding::put_three(1, benches::low_of(last), benches::low_of(hops), out);
             0
         }

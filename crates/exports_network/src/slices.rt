@@ -3,6 +3,7 @@
 use crate::benches;
 use crate::network;
 use bench::sizes::MESSAGES;
+use encoding::ANSWER;
 use messages::plain;
 ghost use mathlib.Core.Path.{_≡_};
 ghost use mathlib.Core.List.{[], _∷_, _++_};
@@ -60,7 +61,7 @@ pub extern "C" fn bench_slice_send(
     let numbers = sent.numbers;
     put_array(numbers, messages);
     let changed = sent.changed;
-    network::settle(changed, bench)
+    network::store_change(changed, bench)
 }
 
 // `messages::calls::lose`
@@ -79,7 +80,7 @@ pub extern "C" fn bench_slice_lose(bench: &mut [u32], messages: &mut [u32], plac
     let numbers = lost.numbers;
     put_array(numbers, messages);
     let changed = lost.changed;
-    network::settle(changed, bench)
+    network::store_change(changed, bench)
 }
 
 // `messages::calls::deliver`, the answer as for `bench_net_deliver`
@@ -101,7 +102,7 @@ pub extern "C" fn bench_slice_deliver(
     if !benches::holds(bench) {
         return 17;
     }
-    if out.len() < 3 {
+    if out.len() < ANSWER {
         return 17;
     }
     let old = benches::load(bench);
@@ -109,7 +110,7 @@ pub extern "C" fn bench_slice_deliver(
     let numbers = taken.numbers;
     put_array(numbers, messages);
     let delivered = taken.delivered;
-    network::settle_delivery(delivered, bench, out)
+    network::store_delivery(delivered, bench, out)
 }
 
 // `messages::calls::repeat`, the answer as for `bench_net_deliver`
@@ -131,10 +132,10 @@ pub extern "C" fn bench_slice_repeat(
     if !benches::holds(bench) {
         return 17;
     }
-    if out.len() < 3 {
+    if out.len() < ANSWER {
         return 17;
     }
     let old = benches::load(bench);
     let delivered = plain::repeat(old, costs, sent, held, array_of(messages), place);
-    network::settle_delivery(delivered, bench, out)
+    network::store_delivery(delivered, bench, out)
 }

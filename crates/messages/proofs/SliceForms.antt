@@ -33,12 +33,12 @@ slice-same ms ns first rest =
     ∙ take-append-drop 64 ns
 
 -- the same call over a slice and over its numbers, each with the outcome that its contract names: reply, network and messages are the same
-pub same-flown :
+pub same-queue :
     (o : QueueOutcome) (reply said : ℕ) (b c : Bench) (ms : List Message) (numbers : List ℕ) →
     queueOutcome reply b (flight ms) ≡ o →
     queueOutcome said c numbers ≡ o →
     (reply ≡ said) × (b ≡ c) × (flight ms ≡ numbers)
-same-flown o reply said b c ms numbers slice number =
+same-queue o reply said b c ms numbers slice number =
     let e = slice ∙ sym number in (ap (λ x. x .reply) e, ap (λ x. x .bench) e, ap (λ x. x .messages) e)
 
 pub same-delivered :

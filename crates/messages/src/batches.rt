@@ -7,6 +7,7 @@ use crate::plain::messages_in;
 use bench::BatchResult;
 use bench::Bench;
 use bench::Event;
+use bench::sizes::MESSAGE;
 use bench::sizes::MESSAGES;
 use bench::sizes::MOST_EVENTS;
 use bench::sizes::MOST_MESSAGES;
@@ -45,7 +46,7 @@ pub(crate) fn run_numbers(
     requires { ⌜ length (now numbers) ≡ 320 ⌝ }
     ensures { λ r. ⌜ batchOutcome (r .made) (r .answered) (r .disposition) (state (r .bench) (now (costs .entry)) (now (sent .exit)) (now (held .exit)) (took len (now (numbers .exit)))) (now (answers .exit)) ≡ batchOf (state bench (now (costs .entry)) (now (sent .entry)) (now (held .entry)) (took len (now (numbers .entry)))) events count (now (answers .entry)) ⌝ }
 {
-    let taken = &mut numbers[..5 * room(len)];
+    let taken = &mut numbers[..MESSAGE * room(len)];
     bench::batches::run(bench, costs, sent, held, taken, events, count, answers)
 }
 

@@ -12,7 +12,7 @@ ghost use lib.ListN.{drop};
 ghost use Rattle.bench.specs.Changes.{number, NoZero};
 ghost use Rattle.bench.specs.State.{state};
 ghost use Rattle.bench.specs.Queue.{queueOutcome, sendOf, loseOf};
-ghost use Rattle.bench.specs.Deliveries.{reactionSays, deliveryOutcome, deliverOf, repeatOf};
+ghost use Rattle.bench.specs.Deliveries.{reactionResponse, deliveryOutcome, deliverOf, repeatOf};
 ghost use Rattle.messages.specs.Slices.{flight};
 
 // Appends the message of a bridge over a link.
@@ -46,7 +46,7 @@ pub fn deliver(
     ms: &mut [Message],
     place: usize,
 ) -> DeliveryResult
-    ensures { λ r. ⌜ deliveryOutcome (reactionSays (r .reply)) (r .bench) (now (sent .exit)) (now (held .exit)) (flight (now (ms .exit))) ≡ deliverOf (state bench (now (costs .entry)) (now (sent .entry)) (now (held .entry)) (flight (now (ms .entry)))) place ⌝ }
+    ensures { λ r. ⌜ deliveryOutcome (reactionResponse (r .reply)) (r .bench) (now (sent .exit)) (now (held .exit)) (flight (now (ms .exit))) ≡ deliverOf (state bench (now (costs .entry)) (now (sent .entry)) (now (held .entry)) (flight (now (ms .entry)))) place ⌝ }
     ensures { λ _. ⌜ drop 64 (now (ms .exit)) ≡ drop 64 (now (ms .entry)) ⌝ }
 {
     let numbers = numbers_in(ms);
@@ -64,7 +64,7 @@ pub fn repeat(
     ms: &[Message],
     place: usize,
 ) -> DeliveryResult
-    ensures { λ r. ⌜ deliveryOutcome (reactionSays (r .reply)) (r .bench) (now (sent .exit)) (now (held .exit)) (flight (now (ms .entry))) ≡ repeatOf (state bench (now (costs .entry)) (now (sent .entry)) (now (held .entry)) (flight (now (ms .entry)))) place ⌝ }
+    ensures { λ r. ⌜ deliveryOutcome (reactionResponse (r .reply)) (r .bench) (now (sent .exit)) (now (held .exit)) (flight (now (ms .entry))) ≡ repeatOf (state bench (now (costs .entry)) (now (sent .entry)) (now (held .entry)) (flight (now (ms .entry)))) place ⌝ }
 {
     let numbers = numbers_in(ms);
     decisions::decide_repeat(bench, costs, sent, held, numbers, ms.len(), place)

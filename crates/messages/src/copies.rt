@@ -1,6 +1,7 @@
 // The slice's numbers, and messages from numbers.
 use crate::Message;
 use crate::places::message_at;
+use bench::sizes::MESSAGE;
 ghost use mathlib.Core.Path.{_≡_};
 ghost use mathlib.Core.List.{[], _∷_};
 ghost use Prim.Native.Nat.{_*_, _+_, _≤_};
@@ -13,7 +14,7 @@ pub(crate) fn write_numbers(numbers: &mut [u32], place: usize, m: Message)
     requires { ⌜ 5 * place + 5 ≤ length (now numbers) ⌝ }
     ensures { λ _. ⌜ now (numbers .exit) ≡ sets (now (numbers .entry)) (5 * place) (numbersIn (m ∷ [])) ⌝ }
 {
-    let at = 5 * place;
+    let at = MESSAGE * place;
     numbers[at] = m.link;
     numbers[at + 1] = m.direction;
     numbers[at + 2] = m.view;
@@ -25,7 +26,7 @@ pub(crate) fn read_message(numbers: &[u32], place: usize) -> Message
     requires { ⌜ 5 * place + 5 ≤ length (now numbers) ⌝ }
     ensures { λ r. ⌜ r ≡ messageOfNumbers (now (numbers .entry)) place ⌝ }
 {
-    let at = 5 * place;
+    let at = MESSAGE * place;
     Message {
         link: numbers[at],
         direction: numbers[at + 1],

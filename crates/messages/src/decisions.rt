@@ -2,6 +2,7 @@
 use bench::Bench;
 use bench::Changed;
 use bench::DeliveryResult;
+use bench::sizes::MESSAGE;
 use bench::sizes::MESSAGES;
 use bench::sizes::MOST_MESSAGES;
 ghost use mathlib.Core.Path.{_≡_};
@@ -11,7 +12,7 @@ ghost use lib.Seq.{sets};
 ghost use Rattle.bench.specs.Changes.{number, NoZero};
 ghost use Rattle.bench.specs.State.{state};
 ghost use Rattle.bench.specs.Queue.{queueOutcome, sendOf, loseOf};
-ghost use Rattle.bench.specs.Deliveries.{reactionSays, deliveryOutcome, deliverOf, repeatOf};
+ghost use Rattle.bench.specs.Deliveries.{reactionResponse, deliveryOutcome, deliverOf, repeatOf};
 ghost use Rattle.messages.specs.Steps.{took, shifted};
 
 // The messages that a call reads of a slice of this length.
@@ -50,7 +51,7 @@ pub(crate) fn decide_send(
     ensures { λ r. ⌜ ((queueOutcome (number (r .changed .reply)) (r .changed .bench) (took len (now (numbers .exit))) ≡ sendOf bench (took len (now (numbers .entry))) bridge link) × NoZero (r .changed .reply)) × ((r .from ≤ r .past) × ((r .past ≤ min len 64) × (took len (now (numbers .exit)) ≡ sets (took len (now (numbers .entry))) (5 * r .from) (take (5 * (r .past - r .from)) (drop (5 * r .from) (now (numbers .exit))))))) ⌝ }
 {
     let before = bench.messages;
-    let changed = bench::messages::send(bench, &mut numbers[..5 * room(len)], bridge, link);
+    let changed = bench::messages::send(bench, &mut numbers[..MESSAGE * room(len)], bridge, link);
     let count = changed.bench.messages;
     if before < count {
         return Decision {
@@ -77,7 +78,7 @@ pub(crate) fn decide_lose(
 {
     let before = bench.messages;
     let mut left = numbers;
-    let changed = bench::messages::lose(bench, &mut left[..5 * room(len)], place);
+    let changed = bench::messages::lose(bench, &mut left[..MESSAGE * room(len)], place);
     let count = changed.bench.messages;
     if count < before {
         return Decision {
@@ -102,7 +103,7 @@ pub(crate) fn decide_deliver(
     len: usize,
     place: usize,
 ) -> Decided
-    ensures { λ r. ⌜ (deliveryOutcome (reactionSays (r .delivered .reply)) (r .delivered .bench) (now (sent .exit)) (now (held .exit)) (shifted (r .from) (r .past) (took len numbers)) ≡ deliverOf (state bench (now (costs .entry)) (now (sent .entry)) (now (held .entry)) (took len numbers)) place) × ((r .from ≤ r .past) × ((r .past ≤ len - 1) × (r .past ≤ 63))) ⌝ }
+    ensures { λ r. ⌜ (deliveryOutcome (reactionResponse (r .delivered .reply)) (r .delivered .bench) (now (sent .exit)) (now (held .exit)) (shifted (r .from) (r .past) (took len numbers)) ≡ deliverOf (state bench (now (costs .entry)) (now (sent .entry)) (now (held .entry)) (took len numbers)) place) × ((r .from ≤ r .past) × ((r .past ≤ len - 1) × (r .past ≤ 63))) ⌝ }
 {
     let before = bench.messages;
     let mut left = numbers;
@@ -111,7 +112,7 @@ pub(crate) fn decide_deliver(
         costs,
         sent,
         held,
-        &mut left[..5 * room(len)],
+        &mut left[..MESSAGE * room(len)],
         place,
     );
     let count = delivered.bench.messages;
@@ -138,8 +139,8 @@ pub(crate) fn decide_repeat(
     len: usize,
     place: usize,
 ) -> DeliveryResult
-    ensures { λ r. ⌜ deliveryOutcome (reactionSays (r .reply)) (r .bench) (now (sent .exit)) (now (held .exit)) (took len numbers) ≡ repeatOf (state bench (now (costs .entry)) (now (sent .entry)) (now (held .entry)) (took len numbers)) place ⌝ }
+    ensures { λ r. ⌜ deliveryOutcome (reactionResponse (r .reply)) (r .bench) (now (sent .exit)) (now (held .exit)) (took len numbers) ≡ repeatOf (state bench (now (costs .entry)) (now (sent .entry)) (now (held .entry)) (took len numbers)) place ⌝ }
 {
     let all = numbers;
-    bench::messages::repeat(bench, costs, sent, held, &all[..5 * room(len)], place)
+    bench::messages::repeat(bench, costs, sent, held, &all[..MESSAGE * room(len)], place)
 }

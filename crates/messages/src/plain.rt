@@ -13,7 +13,7 @@ ghost use mathlib.Core.Path.{_≡_};
 ghost use Rattle.bench.specs.Changes.{number, NoZero};
 ghost use Rattle.bench.specs.State.{state};
 ghost use Rattle.bench.specs.Queue.{queueOutcome, sendOf, loseOf};
-ghost use Rattle.bench.specs.Deliveries.{reactionSays, deliveryOutcome, deliverOf, repeatOf};
+ghost use Rattle.bench.specs.Deliveries.{reactionResponse, deliveryOutcome, deliverOf, repeatOf};
 ghost use Rattle.messages.specs.Slices.{numbersIn};
 
 pub struct ChangedNumbers {
@@ -91,7 +91,7 @@ pub fn deliver(
     numbers: [u32; MESSAGES],
     place: usize,
 ) -> DeliveredNumbers
-    ensures { λ r. ⌜ deliveryOutcome (reactionSays (r .delivered .reply)) (r .delivered .bench) (now (sent .exit)) (now (held .exit)) (r .numbers) ≡ deliverOf (state bench (now (costs .entry)) (now (sent .entry)) (now (held .entry)) numbers) place ⌝ }
+    ensures { λ r. ⌜ deliveryOutcome (reactionResponse (r .delivered .reply)) (r .delivered .bench) (now (sent .exit)) (now (held .exit)) (r .numbers) ≡ deliverOf (state bench (now (costs .entry)) (now (sent .entry)) (now (held .entry)) numbers) place ⌝ }
 {
     let mut ms = messages_in(numbers);
     let delivered = calls::deliver(bench, costs, sent, held, &mut ms, place);
@@ -110,7 +110,7 @@ pub fn repeat(
     numbers: [u32; MESSAGES],
     place: usize,
 ) -> DeliveryResult
-    ensures { λ r. ⌜ deliveryOutcome (reactionSays (r .reply)) (r .bench) (now (sent .exit)) (now (held .exit)) numbers ≡ repeatOf (state bench (now (costs .entry)) (now (sent .entry)) (now (held .entry)) numbers) place ⌝ }
+    ensures { λ r. ⌜ deliveryOutcome (reactionResponse (r .reply)) (r .bench) (now (sent .exit)) (now (held .exit)) numbers ≡ repeatOf (state bench (now (costs .entry)) (now (sent .entry)) (now (held .entry)) numbers) place ⌝ }
 {
     let ms = messages_in(numbers);
     calls::repeat(bench, costs, sent, held, &ms, place)

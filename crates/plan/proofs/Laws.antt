@@ -15,7 +15,7 @@ use Rattle.distances.specs.Refusal.{check, refusal}
 use Rattle.distances.proofs.Booleans.{both-true, one-true}
 use Rattle.distances.proofs.Ranges.{allBelow-true, allBelow-none, allBelow-more}
 use Rattle.plan.specs.Sizes.{leastBridges, mostBridges, mostLinks, mostViews, headerBytes}
-use Rattle.plan.specs.Tags.{tags, mayCome, passes, known, setsUp, inOrder, rightLength}
+use Rattle.plan.specs.Tags.{tags, mayCome, passes, known, isSetup, inOrder, rightLength}
 use Rattle.plan.specs.Fields.{value, tag, valueLength, size, costIn, eventBy, fieldOf}
 use Rattle.plan.specs.Reading.{headerChecks, costsFit, bridgeChecks, linkChecks, viewChecks, valueChecks, fieldRefusal, readOf, progressInRange, readReply}
 use Rattle.plan.specs.declared.Progress.{Progress}
@@ -243,7 +243,7 @@ pub header-passed : (rest : List ℕ) (p : Progress) {f : Field} {k : ℕ} → r
 header-passed rest p read = none-applies rest p read .header
 
 -- no event by a tag that sets the network up
-pub event-no-setup : (rest : List ℕ) (p : Progress) {e : Event} {k : ℕ} → readReply rest p ≡ Read.Field (Field.Event e) k → setsUp (tag rest) ≡ false
+pub event-no-setup : (rest : List ℕ) (p : Progress) {e : Event} {k : ℕ} → readReply rest p ≡ Read.Field (Field.Event e) k → isSetup (tag rest) ≡ false
 event-no-setup rest p read =
     let t = none-applies rest p read in
     let h = header-told rest p (t .header) in
@@ -259,7 +259,7 @@ event-no-setup rest p read =
 
 -- with any other tag that the header's checks let pass there is one: its value has no check
 pub event-read :
-    (rest : List ℕ) (p : Progress) → progressInRange p ≡ true → refusal (headerChecks rest p) ≡ 0 → setsUp (tag rest) ≡ false →
+    (rest : List ℕ) (p : Progress) → progressInRange p ≡ true → refusal (headerChecks rest p) ≡ 0 → isSetup (tag rest) ≡ false →
     readReply rest p ≡ Read.Field (Field.Event (eventBy (tag rest) (value rest 0) (value rest 1))) (size rest)
 unfolding readReply readOf fieldRefusal valueChecks fieldOf refusal
 event-read rest p inside passes event =

@@ -2,4 +2,4 @@ pub mod TagTable
 pub mod Laws
 pub mod CostRows
 pub mod EventLaws
-pub mod EventTurns
+pub mod EventLoop

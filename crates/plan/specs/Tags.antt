@@ -55,8 +55,8 @@ unfoldable pub known : ℕ → Bool
 known t = passes (λ r. true) t tags
 
 -- of the known tags, 1 to 3 set the network up and the others are events
-abbrev pub setsUp : ℕ → Bool
-setsUp t = leb t 3
+abbrev pub isSetup : ℕ → Bool
+isSetup t = leb t 3
 
 unfoldable pub inOrder : ℕ → ℕ → Bool
 inOrder t stage = passes (λ r. mayCome (r .place) stage) t tags

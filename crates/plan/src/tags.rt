@@ -5,7 +5,7 @@ ghost use mathlib.Core.Path.{_≡_};
 ghost use mathlib.Core.Bool.{true};
 ghost use Prim.Native.Nat.{_≤_};
 ghost use Rattle.plan.specs.Sizes.{mostLinks};
-ghost use Rattle.plan.specs.Tags.{row, mayCome, lengthFits, known, setsUp, IsRow};
+ghost use Rattle.plan.specs.Tags.{row, mayCome, lengthFits, known, isSetup, IsRow};
 
 // Where in the plan a field may come: first of all, after the bridge count and before views or events, or after a view.
 pub(crate) enum Place {
@@ -51,7 +51,7 @@ pub(crate) fn known(tag: usize) -> bool
 
 // Of the known tags, 1 to 3 set the network up and the others are events.
 pub(crate) fn sets_up(tag: u8) -> bool
-    ensures { λ r. ⌜ r ≡ setsUp tag ⌝ }
+    ensures { λ r. ⌜ r ≡ isSetup tag ⌝ }
 {
     tag <= LAST_SETUP_TAG
 }

@@ -11,7 +11,7 @@ use Rattle.runner.specs.Steps.{StepOutcome}
 use Rattle.runner.specs.Plans.{firstRunner, firstBuffers, prints}
 use Rattle.runner.specs.Fills.{buffersWithOut, fillOf}
 use Rattle.runner.specs.declared.Runner.{Runner}
-use Rattle.runner.proofs.FillTurns.{fill-within}
+use Rattle.runner.proofs.FillSteps.{fill-within}
 use Rattle.runner.proofs.FillLaws.{fill-prints, first-out, prints-most}
 
 -- the bytes that a plan prints
@@ -41,7 +41,7 @@ cond-length true l = refl
 cond-length false l = refl
 
 -- a filling, from a place of a plan that goes on
-pub record Turned (plan : List ℕ) (at printed : ℕ) (t : StepOutcome) : Type 0 where
+pub record LoopStep (plan : List ℕ) (at printed : ℕ) (t : StepOutcome) : Type 0 where
   pub written : t .written ≤ length (t .buffers .out)
   pub fits : printed + t .written ≤ whole plan
   pub place : Place plan (t .going) (at + t .used) (printed + t .written) (t .runner) (t .buffers)
@@ -70,7 +70,7 @@ module _ (plan : List ℕ) (at printed : ℕ) (r : Runner) (k : Buffers) (p : Pl
   used-some true e = omega (arith, fill-within r k rest .goes e, fill-within r k rest .used, length-drop at plan)
   used-some false e = omega arith
 
-  filled : Turned plan at printed t
+  filled : LoopStep plan at printed t
   filled =
       record {
         written = fill-within r k rest .written;
@@ -84,15 +84,15 @@ module _ (plan : List ℕ) (at printed : ℕ) (r : Runner) (k : Buffers) (p : Pl
       }
 
   -- the part of the plan that is handed on
-  filled-part : (u : StepOutcome) → u ≡ fillOf r k (take (length plan - at) (drop at plan)) → Turned plan at printed u
+  filled-part : (u : StepOutcome) → u ≡ fillOf r k (take (length plan - at) (drop at plan)) → LoopStep plan at printed u
   filled-part u e =
       let part = take-all (length plan - at) (drop at plan) (omega (arith, length-drop at plan)) in
-      subst (Turned plan at printed) (sym (e ∙ ap (fillOf r k) part)) filled
+      subst (LoopStep plan at printed) (sym (e ∙ ap (fillOf r k) part)) filled
 
 module _ (plan : List ℕ) (going : Bool) (at : ℕ) (on : going ≡ true) where
   pub turned :
       (printed : ℕ) (r : Runner) (k : Buffers) (u : StepOutcome) → Place plan going at printed r k →
-      u ≡ fillOf r k (take (length plan - at) (drop at plan)) → Turned plan at printed u
+      u ≡ fillOf r k (take (length plan - at) (drop at plan)) → LoopStep plan at printed u
   turned printed r k u p = filled-part plan at printed r k (subst (λ (b : Bool). Place plan b at printed r k) on p) u
 
   pub fewer-left : (more : ℕ) → more < suc (length plan - at) → more < left going plan at
@@ -100,7 +100,7 @@ module _ (plan : List ℕ) (going : Bool) (at : ℕ) (on : going ≡ true) where
 
 -- a write that failed had a byte to write
 pub stopped :
-    (plan : List ℕ) (at printed : ℕ) (u : StepOutcome) → Turned plan at printed u →
+    (plan : List ℕ) (at printed : ℕ) (u : StepOutcome) → LoopStep plan at printed u →
     (taken : Bool) → taken ≡ false → (taken ≡ false → 0 < length (take (u .written) (u .buffers .out))) → printed < whole plan
 stopped plan at printed u t taken e some = omega (arith, some e, t .fits, length-take-le (u .written) (u .buffers .out) (t .written))
 

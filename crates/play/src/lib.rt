@@ -1,5 +1,5 @@
-// A plan read from a descriptor and carried out from its first field to its end. What it prints goes to standard output each time the
-// runner has filled a buffer of fixed size, so it never stands in memory whole.
+// A plan read from a descriptor and carried out from its first field to its end. What it prints goes to standard output after each field or
+// list of events, from a buffer of fixed size, so it never stands in memory whole.
 use agreement::sizes::LIMITS;
 use bench::sizes::COSTS;
 use libc::STDOUT_FILENO;
@@ -39,8 +39,8 @@ enum Input {
     Failed,
 }
 
-// Reads a plan and prints all that document 01 asks for it. `read_on` is called at two places, which the compiler does not take into this
-// function's memory then: a short plan never touches what a long one needs.
+// Reads a plan and prints all that document 01 asks for it. `read_on` is called at two places, so that the compiler keeps it a function of its
+// own: a short plan never touches the memory that a long one needs.
 pub fn play(fd: i32) -> Reply
     ensures { λ r. ⌜ Played [] r ⌝ }
 {
@@ -50,7 +50,7 @@ pub fn play(fd: i32) -> Reply
         return Reply::Unread;
     };
     if n == 0 {
-        return carry_out(&begun[..n]);
+        return run_plan(&begun[..n]);
     }
     if n == SHORT_BYTES {
         return read_on(fd, &begun[..n]);
@@ -60,7 +60,7 @@ pub fn play(fd: i32) -> Reply
         return Reply::Unread;
     };
     if end == n {
-        return carry_out(&begun[..n]);
+        return run_plan(&begun[..n]);
     }
     read_on(fd, &begun[..end])
 }
@@ -118,7 +118,7 @@ pub fn print(plan: &[u8]) -> Reply
     if LONGEST_PLAN < plan.len() {
         return too_long();
     }
-    carry_out(plan)
+    run_plan(plan)
 }
 
 // Prints the refusal of a plan that is too long.
@@ -138,7 +138,7 @@ fn too_long() -> Reply
 }
 
 // Carries a plan out and prints what it fills, until it goes no further or a write fails.
-fn carry_out(plan: &[u8]) -> Reply
+fn run_plan(plan: &[u8]) -> Reply
     requires { ⌜ length (now plan) ≤ 61440 ⌝ }
     ensures { λ r. ⌜ Handed r (prints (suc (length (now (plan .entry)))) firstRunner firstBuffers (now (plan .entry))) ⌝ }
 {

@@ -26,7 +26,7 @@ pub record SendFacts (n : Network) (b l : ℕ) : Type 0 where
   pub room : length (n .messages) < 64
 
 -- an accepted update
-pub record UpdateListed (n : Network) (b t : ℕ) : Type 0 where
+pub record UpdateExists (n : Network) (b t : ℕ) : Type 0 where
   pub bridge : b < n .plan .graph .bridges
   pub view : t < n .plan .views
   pub numberLeft : (eqb (n .number b) 65535 && not (eqb (n .view b) t)) ≡ false
@@ -47,7 +47,7 @@ module _ (n : Network) where
         room = leb-false 64 (length (n .messages)) (five .0);
       }
 
-  pub update-listed : (b t : ℕ) → accepted n (change (update b t)) ≡ true → UpdateListed n b t
+  pub update-listed : (b t : ℕ) → accepted n (change (update b t)) ≡ true → UpdateExists n b t
   unfolding checks changeChecks noSuchBridge noSuchView noNumberLeft
   update-listed b t a =
       let one = passed (noSuchBridge n b) _ (omega arith) (accepted-checks n (change (update b t)) a) in

@@ -11,7 +11,7 @@ use Rattle.agreement.specs.declared.Port.the-variants.{Closed, Open}
 use Rattle.protocol.specs.Net.{Network, Plan, fresh}
 use Rattle.protocol.specs.Calls.{Call, change, update, cut, send, deliver, run, messageAt, answerAt}
 use Rattle.protocol.specs.Ports.{forwardingPort, ownDistance}
-use Rattle.protocol.specs.Paths.{Way, delivered, stops, path}
+use Rattle.protocol.specs.Paths.{PathResult, delivered, stops, path}
 
 -- the triangle with its two views
 unfoldable pub costsIn : ℕ → Costs
@@ -51,7 +51,7 @@ abbrev pub linkUsed : Port → ℕ
 linkUsed Closed = NONE
 linkUsed (Open l) = l
 
-abbrev pub exampleNumbers : Way → List ℕ
+abbrev pub exampleNumbers : PathResult → List ℕ
 exampleNumbers (delivered h) = 0 ∷ h ∷ []
 exampleNumbers (stops b h) = 1 ∷ b ∷ h ∷ []
 

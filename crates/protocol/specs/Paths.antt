@@ -9,22 +9,22 @@ use Rattle.protocol.specs.Net.{Network}
 use Rattle.protocol.specs.Ports.{Hop, stays, crosses, hop}
 
 -- delivered with its hops, or the last bridge and the hops up to it
-pub data Way : Type 0 where
-  delivered : ℕ → Way
-  stops : ℕ → ℕ → Way
+pub data PathResult : Type 0 where
+  delivered : ℕ → PathResult
+  stops : ℕ → ℕ → PathResult
 
 -- by the hop from bridge y with h hops behind it: it stops there, or goes on from the bridge across
-unfoldable pub follow : ℕ → ℕ → (ℕ → Way) → Hop → Way
+unfoldable pub follow : ℕ → ℕ → (ℕ → PathResult) → Hop → PathResult
 follow y h on stays = stops y h
 follow y h on (crosses l z) = on z
 
 -- by the hops that `next` gives to d, from bridge y with h hops behind it, over at most `left` links more
-unfoldable pub onward : (ℕ → Hop) → ℕ → ℕ → ℕ → ℕ → Way
+unfoldable pub onward : (ℕ → Hop) → ℕ → ℕ → ℕ → ℕ → PathResult
 onward next d zero h y = cond (eqb y d) (delivered h) (stops y h)
 onward next d (suc left) h y = cond (eqb y d) (delivered h) (follow y h (onward next d left (suc h)) (next y))
 
 -- the path from s to d: unless delivered, it stops after as many links as there are bridges less one
-unfoldable pub path : Network → ℕ → ℕ → Way
+unfoldable pub path : Network → ℕ → ℕ → PathResult
 path n s d = onward (hop n d) d (n .plan .graph .bridges - 1) 0 s
 
 -- the links that a path crosses, in order
@@ -40,12 +40,12 @@ unfoldable pub linksCrossed : Network → ℕ → ℕ → List ℕ
 linksCrossed n s d = onwardLinks (hop n d) d (n .plan .graph .bridges - 1) s
 
 -- a path "ends by itself" if it is delivered, or ends at a bridge from which the frame crosses no link
-abbrev pub EndsByItself : Network → ℕ → Way → Type 0
+abbrev pub EndsByItself : Network → ℕ → PathResult → Type 0
 EndsByItself n d (delivered h) = Unit {0}
 EndsByItself n d (stops b h) = hop n d b ≡ stays
 
 -- its hop count
-abbrev pub hops : Way → ℕ
+abbrev pub hops : PathResult → ℕ
 hops (delivered h) = h
 hops (stops b h) = h
 

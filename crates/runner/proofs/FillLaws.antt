@@ -17,7 +17,7 @@ use Rattle.runner.specs.Fills.{buffersWithOut, stepOn, stepsOn, fills, f
 use Rattle.runner.specs.declared.Runner.{Runner}
 use Rattle.runner.proofs.RunFuel.{prints-next, prints-last}
 use Rattle.runner.proofs.FillTexts.{step-texts, step-within}
-use Rattle.runner.proofs.FillTurns.{buffersBehind, restBehind, next, on-within, step-written, fill-within}
+use Rattle.runner.proofs.FillSteps.{buffersBehind, restBehind, next, on-within, step-written, fill-within}
 
 -- a text that fits, read back from the first bytes
 taken-text : (out text : List ℕ) → length text ≤ length out → take (length text) (sets out 0 text) ≡ text

@@ -18,7 +18,7 @@ use Rattle.bench.specs.declared.Event.{Event}
 use Rattle.bench.specs.declared.Event.the-variants.{Update, Send, Deliver, Repeat, Lose, Cut, Restore, Report, Path}
 use Rattle.bench.proofs.BatchRuns.{accepted-bridges, answers-length}
 use Rattle.bench.proofs.QueueCalls.{refusal-none}
-use Rattle.bench.proofs.WalkSteps.{bridge-listed, bridges-listed}
+use Rattle.bench.proofs.PathSteps.{bridge-listed, bridges-listed}
 use Rattle.plan.specs.Reading.{readReply}
 use Rattle.plan.specs.declared.Field.{Field}
 use Rattle.plan.specs.declared.Read.{Read}
@@ -27,7 +27,7 @@ use Rattle.text.specs.Lines.{deliveredText, stopsText, endText, refusedText}
 use Rattle.text.proofs.Laws.{length-reportText, length-deliveredText, length-stopsText, length-endText, length-refusedText}
 use Rattle.runner.specs.Buffers.{Buffers, buffers, buffersLong, stateOn, buffersWith, progressOf}
 use Rattle.runner.specs.Events.{pathText, eventText, textOf, stateAfter}
-use Rattle.runner.specs.Steps.{StepOutcome, stepOutcome, lastStep, lastText, setupStep, withBridges, withLink, withView, withRow, opened, viewStep, eventStep, fieldStep, readStep, runnerInRange, stepOf}
+use Rattle.runner.specs.Steps.{StepOutcome, stepOutcome, lastStep, lastText, setupStep, withBridges, withLink, withView, withRow, freshWithView, viewStep, eventStep, fieldStep, readStep, runnerInRange, stepOf}
 use Rattle.runner.specs.Fills.{buffersWithOut}
 use Rattle.runner.specs.declared.Runner.{Runner}
 
@@ -132,7 +132,7 @@ module _ (e : Event) (used most : ℕ) (r : Runner) (k : Buffers) where
 
 module _ (b : Bench) (costs : List ℕ) (used most : ℕ) (r : Runner) (k : Buffers) where
   abbrev network : ChangeOutcome
-  network = opened b costs (k .sent) (k .held)
+  network = freshWithView b costs (k .sent) (k .held)
 
   view-texts : used ≤ most → Texts most (λ out. viewStep used b costs r (buffersWithOut out k))
   unfolding viewStep setupStep lastStep

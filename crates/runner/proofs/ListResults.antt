@@ -23,13 +23,13 @@ use Rattle.plan.proofs.EventLaws.{ReadAs, reads-as, sizes-fit, lastEnd, end-wit
 use Rattle.runner.specs.Buffers.{Buffers, buffers, buffersLong}
 use Rattle.runner.specs.Steps.{StepOutcome, stepOutcome, stepOf}
 use Rattle.runner.specs.Fills.{stepOn, fills, listFits, answerRoom, fieldsAtOnce, fillOf}
-use Rattle.runner.specs.Lists.{textsOf, stepOutcomeOn, madeOn, endedOn, batchOn, refusedOn, ResultFits}
+use Rattle.runner.specs.Lists.{textsOf, outcomeOn, afterEvents, withDisposition, batchStep, withRefusal, ResultFits}
 use Rattle.runner.specs.declared.Runner.{Runner}
-use Rattle.runner.specs.declared.Stepped.{Stepped}
-use Rattle.runner.proofs.FillTurns.{fills-more}
+use Rattle.runner.specs.declared.StepResult.{StepResult}
+use Rattle.runner.proofs.FillSteps.{fills-more}
 use Rattle.runner.proofs.ListSteps.{stateAt, Roomy, steps-on}
 use Rattle.runner.proofs.ListTexts.{texts-head}
-use Rattle.runner.proofs.ListTurns.{replyAfter, reply-still, some-number, texts-few, At, listOn, list-steps}
+use Rattle.runner.proofs.ListFields.{replyAfter, reply-still, some-number, texts-few, At, listOn, list-steps}
 
 -- ---- the end of a list, with all of the buffers
 
@@ -37,8 +37,8 @@ module _ (costs sent held messages : List ℕ) where
   abbrev with : StepOutcome → StepOutcome
   with u = stepOutcome (u .reply) (u .going) (u .used) (u .written) (u .runner) (buffers costs sent held messages (u .buffers .out))
 
-  ended-with : (how : Disposition) (t : StepOutcome) → with (endedOn how t) ≡ endedOn how (with t)
-  unfolding endedOn refusedOn
+  ended-with : (how : Disposition) (t : StepOutcome) → with (withDisposition how t) ≡ withDisposition how (with t)
+  unfolding withDisposition withRefusal
   ended-with Disposition.Complete t = refl
   ended-with (Disposition.Refused k) t = refl
   ended-with Disposition.Full t = refl
@@ -234,10 +234,10 @@ module _
 
       -- the steps of the list
       pub list-filled :
-          (s : Stepped) {out' : List ℕ} →
-          stepOutcomeOn s out' ≡ batchOn r result events ends (answers' ++ more) out →
+          (s : StepResult) {out' : List ℕ} →
+          outcomeOn s out' ≡ batchStep r result events ends (answers' ++ more) out →
           stepOutcome (s .reply) (s .going) (s .used) (s .written) (s .runner) (buffers costs sent' held' messages' out') ≡ fillOf r k rest
-      unfolding batchOn fillOf
+      unfolding batchStep fillOf
       list-filled s {out'} left = whole ∙ sym (list-steps rest (r .offset) xs from 0 numbers here reads roomy fitting) ∙ steps-are xs refl
         where
           here : At rest (r .offset) 0 from
@@ -253,7 +253,7 @@ module _
               (record { bench = z .bench; stage = 3; events = r .events + b .made; offset = r .offset + lastEnd 0 (take (b .made) xs) })
               (buffers (z .costs) (z .sent) (z .held) (z .messages) (sets out 0 text))
 
-          as-told : stepOutcome (s .reply) (s .going) (s .used) (s .written) (s .runner) (buffers costs sent' held' messages' out') ≡ endedOn (b .disposition) (told (state (result .bench) costs sent' held' messages'))
+          as-told : stepOutcome (s .reply) (s .going) (s .used) (s .written) (s .runner) (buffers costs sent' held' messages' out') ≡ withDisposition (b .disposition) (told (state (result .bench) costs sent' held' messages'))
           as-told =
               ap (with costs sent' held' messages') left
               ∙ ended-with costs sent' held' messages' (result .disposition) _
@@ -262,8 +262,8 @@ module _
           listed-so : told (b .state) ≡ listOn rest (r .offset) from 0 xs b
           listed-so = rw (reply-still (b .made), zero-add)
 
-          whole : stepOutcome (s .reply) (s .going) (s .used) (s .written) (s .runner) (buffers costs sent' held' messages' out') ≡ endedOn (b .disposition) (listOn rest (r .offset) from 0 xs b)
-          whole = as-told ∙ ap (λ (z : State). endedOn (b .disposition) (told z)) state-is ∙ ap (endedOn (b .disposition)) listed-so
+          whole : stepOutcome (s .reply) (s .going) (s .used) (s .written) (s .runner) (buffers costs sent' held' messages' out') ≡ withDisposition (b .disposition) (listOn rest (r .offset) from 0 xs b)
+          whole = as-told ∙ ap (λ (z : State). withDisposition (b .disposition) (told z)) state-is ∙ ap (withDisposition (b .disposition)) listed-so
 
           -- the first of them is a step from nothing
           steps-are : (ys : List Placed) → xs ≡ ys → fills (length xs) from rest ≡ fillOf r k rest

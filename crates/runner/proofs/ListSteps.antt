@@ -22,9 +22,9 @@ use Rattle.runner.specs.Buffers.{buffers, buffersLong, stateOn, progress
 use Rattle.runner.specs.Events.{textOf, stateAfter}
 use Rattle.runner.specs.Steps.{StepOutcome, stepOutcome, lastStep, eventStep, fieldStep, readStep, runnerInRange, stepOf}
 use Rattle.runner.specs.Fills.{stepOn, stepsOn}
-use Rattle.runner.specs.Lists.{refusedOn}
+use Rattle.runner.specs.Lists.{withRefusal}
 use Rattle.runner.proofs.FillTexts.{text-short}
-use Rattle.runner.proofs.FillTurns.{buffersBehind, next}
+use Rattle.runner.proofs.FillSteps.{buffersBehind, next}
 
 -- a text behind what is written
 pub behind-is : (out text : List ℕ) (w : ℕ) → w + length text ≤ length out → take w out ++ sets (drop w out) 0 text ≡ sets out w text
@@ -97,8 +97,8 @@ module _ (rest : List ℕ) (more numbers : ℕ) (t : StepOutcome) (roomy : Roomy
         let short = text-short (stateAt t) e none in
         rw (step-is-event, none, behind-is (t .buffers .out) (textOf (stateAt t) e) (t .written) (omega (arith, short .room, roomy .room)))
 
-    pub step-on-refused : (replyOf (stateAt t) e ≡ 0 → ⊥) → stepOn t rest ≡ refusedOn (replyOf (stateAt t) e) t
-    unfolding stepOn eventStep lastStep refusedOn
+    pub step-on-refused : (replyOf (stateAt t) e ≡ 0 → ⊥) → stepOn t rest ≡ withRefusal (replyOf (stateAt t) e) t
+    unfolding stepOn eventStep lastStep withRefusal
     step-on-refused some =
         let k : ℕ = replyOf (stateAt t) e in
         let short = length-refusedText k (t .runner .offset) in

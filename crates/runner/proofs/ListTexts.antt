@@ -17,8 +17,8 @@ use Rattle.text.proofs.Laws.{length-refusedText}
 use Rattle.text.proofs.Puts.{joined, nothing}
 use Rattle.runner.specs.Events.{eventText, NoText, Line, line, lineOf}
 use Rattle.runner.specs.Steps.{StepOutcome, lastText}
-use Rattle.runner.specs.Lists.{textsOf, stepOutcomeOn, refusedOn, endedOn, SomeNumber}
-use Rattle.runner.specs.declared.Stepped.{Stepped}
+use Rattle.runner.specs.Lists.{textsOf, outcomeOn, withRefusal, withDisposition, SomeNumber}
+use Rattle.runner.specs.declared.StepResult.{StepResult}
 use Rattle.runner.proofs.ListSteps.{behind-is}
 
 -- the part of a list from `at` to its end, as the code lends it
@@ -141,7 +141,7 @@ texts-head bridges (e ∷ es) a b few =
 
 -- ---- the refusal of the next event, behind what is written
 
-module _ (done : Stepped) (number : ℕ) (some : 0 < number) (out : List ℕ) (room : done .written + 544 ≤ length out) where
+module _ (done : StepResult) (number : ℕ) (some : 0 < number) (out : List ℕ) (room : done .written + 544 ≤ length out) where
   pub refused-room : 544 ≤ length (take (length out - done .written) (drop (done .written) out))
   refused-room = lent-room out (done .written) room
 
@@ -161,10 +161,10 @@ module _ (done : Stepped) (number : ℕ) (some : 0 < number) (out : List ℕ) (r
     refused-few = omega (arith, ap (λ (l : Line). l .count) put-text, length-refusedText number (done .runner .offset))
 
     pub refused-behind :
-        stepOutcomeOn (record { runner = done .runner; messages = done .messages; going = false; used = done .used; written = done .written + count; reply = number })
+        outcomeOn (record { runner = done .runner; messages = done .messages; going = false; used = done .used; written = done .written + count; reply = number })
         (take (done .written) out ++ (after ++ drop (length out - done .written) (drop (done .written) out)))
-        ≡ refusedOn number (stepOutcomeOn done out)
-    unfolding refusedOn
+        ≡ withRefusal number (outcomeOn done out)
+    unfolding withRefusal
     refused-behind =
         let none = drop-of-length-le (drop (done .written) out) {i = length out - done .written} (omega (arith, length-drop (done .written) out)) in
         let counted : count ≡ length text = ap (λ (l : Line). l .count) put-text in
@@ -173,14 +173,14 @@ module _ (done : Stepped) (number : ℕ) (some : 0 < number) (out : List ℕ) (r
 
 -- ---- why a list ended
 
-pub ended-none : (how : Disposition) → SomeNumber how → refusalIn how ≡ 0 → (t : StepOutcome) → endedOn how t ≡ t
-unfolding endedOn
+pub ended-none : (how : Disposition) → SomeNumber how → refusalIn how ≡ 0 → (t : StepOutcome) → withDisposition how t ≡ t
+unfolding withDisposition
 ended-none Disposition.Complete some none t = refl
 ended-none (Disposition.Refused k) some none t = absurd (omega arith)
 ended-none Disposition.Full some none t = refl
 
-pub ended-refused : (how : Disposition) → (refusalIn how ≡ 0 → ⊥) → (t : StepOutcome) → endedOn how t ≡ refusedOn (refusalIn how) t
-unfolding endedOn
+pub ended-refused : (how : Disposition) → (refusalIn how ≡ 0 → ⊥) → (t : StepOutcome) → withDisposition how t ≡ withRefusal (refusalIn how) t
+unfolding withDisposition
 ended-refused Disposition.Complete some t = absurd (some refl)
 ended-refused (Disposition.Refused k) some t = refl
 ended-refused Disposition.Full some t = absurd (some refl)

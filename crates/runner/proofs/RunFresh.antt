@@ -13,9 +13,9 @@ use Rattle.bench.specs.Changes.{ChangeOutcome, changeOutcome, freshBench, fresh
 use Rattle.bench.specs.declared.Bench.{Bench}
 use Rattle.bench.proofs.TieFresh.{FreshLimits, fresh-opens, limits-same}
 use Rattle.plan.proofs.Laws.{ViewRead}
-use Rattle.runner.specs.Steps.{withView, withRow, opened}
+use Rattle.runner.specs.Steps.{withView, withRow, freshWithView}
 use Rattle.runner.proofs.RunSetup.{Begun, view-begun, fresh-begun, lasts}
-use Rattle.runner.proofs.ViewTurns.{opened-reply}
+use Rattle.runner.proofs.ViewSteps.{fresh-with-view-reply}
 
 -- the bench and the limits are those of a fresh network
 pub record Stands (b : Bench) (costs sent held : List ℕ) : Type 0 where
@@ -45,12 +45,12 @@ module _
   rows = withRow rest b costs
 
   abbrev network : ChangeOutcome
-  network = opened (withView b) rows sent held
+  network = freshWithView (withView b) rows sent held
 
   -- it is not refused
   pub view-taken : 1024 ≤ length costs → 1024 ≤ length rows → 1024 ≤ length sent → 1024 ≤ length held → network .reply ≡ 0
   view-taken long rowsLong sentLong heldLong =
-      opened-reply rest b costs sent held (record { room = told .room; listed = told .listed; costs = told .costs }) long sentLong heldLong
+      fresh-with-view-reply rest b costs sent held (record { room = told .room; listed = told .listed; costs = told .costs }) long sentLong heldLong
       ∙ rw (lasts 2 (withView b) rows (view-begun stage b costs (s .begun) rest told long) refl rowsLong .graph) (either (eqb (b .views) 0))
     where
       either : (q : Bool) → cond {A = ℕ} (cond q true true) 0 17 ≡ 0
@@ -63,7 +63,7 @@ module _
       1024 ≤ length sent →
       1024 ≤ length held →
       Standing 2 (network .bench) rows (network .sent) (network .held)
-  unfolding opened
+  unfolding freshWithView
   view-stands long rowsLong sentLong heldLong = go (eqb (b .views + 1) 1) refl
     where
       now : Begun 2 (withView b) rows

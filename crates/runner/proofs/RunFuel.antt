@@ -15,9 +15,9 @@ use Rattle.bench.specs.declared.Event.{Event}
 use Rattle.plan.specs.declared.Field.{Field}
 use Rattle.plan.proofs.Laws.{field-size}
 use Rattle.runner.specs.Buffers.{Buffers, stateOn, progressOf}
-use Rattle.runner.specs.Steps.{lastStep, setupStep, withView, withRow, opened, viewStep, eventStep, fieldStep, stepOf}
+use Rattle.runner.specs.Steps.{lastStep, setupStep, withView, withRow, freshWithView, viewStep, eventStep, fieldStep, stepOf}
 use Rattle.runner.specs.Plans.{prints}
-use Rattle.runner.specs.Whole.{setupRead, calls, leaves, setsUp, Same, FuelEnough}
+use Rattle.runner.specs.Whole.{setupRead, calls, leaves, afterSetup, Same, FuelEnough}
 use Rattle.runner.specs.declared.Runner.{Runner}
 use Rattle.runner.proofs.RunSteps.{Step, refused, ended, carried, step-is}
 
@@ -32,9 +32,9 @@ event-used e used r k = go (eqb (replyOf (stateOn (r .bench) k) e) 0) refl
 
 view-used : (used : ℕ) (b : Bench) (costs : List ℕ) (r : Runner) (k : Buffers) → viewStep used b costs r k .going ≡ true → viewStep used b costs r k .used ≡ used
 unfolding viewStep setupStep lastStep
-view-used used b costs r k = go (eqb (opened b costs (k .sent) (k .held) .reply) 0) refl
+view-used used b costs r k = go (eqb (freshWithView b costs (k .sent) (k .held) .reply) 0) refl
   where
-    go : (q : Bool) → eqb (opened b costs (k .sent) (k .held) .reply) 0 ≡ q → viewStep used b costs r k .going ≡ true → viewStep used b costs r k .used ≡ used
+    go : (q : Bool) → eqb (freshWithView b costs (k .sent) (k .held) .reply) 0 ≡ q → viewStep used b costs r k .going ≡ true → viewStep used b costs r k .used ≡ used
     go true q h = rw q
     go false q h = absurd (false≢true (rw q at h))
 
@@ -57,7 +57,7 @@ uses r k rest = go (step-is r k rest)
         rw (e, field-used rest f used r k (rw e at h), length-drop) (omega arith)
 
 pub fuel-enough : FuelEnough
-unfolding prints calls leaves setsUp
+unfolding prints calls leaves afterSetup
 fuel-enough r k rest zero more h g = absurd (not-suc-le-zero h)
 fuel-enough r k rest (suc fuel) zero h g = absurd (not-suc-le-zero g)
 fuel-enough r k rest (suc fuel) (suc more) h g = go (stepOf r k rest .going) refl (fuel-enough (stepOf r k rest .runner) (stepOf r k rest .buffers) (drop (stepOf r k rest .used) rest) fuel more)

@@ -25,12 +25,12 @@ use Rattle.plan.proofs.Laws.{FieldRead, field-read}
 use Rattle.runner.specs.Buffers.{Buffers, buffersLong, stateOn, progressOf}
 use Rattle.runner.specs.Steps.{lastStep, setupStep, withView, withRow, fieldStep, stepOf}
 use Rattle.runner.specs.Plans.{firstRunner, firstBuffers}
-use Rattle.runner.specs.Whole.{Position, position, stateAt, planAt, calls, leaves, setsUp, NoEvent, RunsFrom, PlanRuns}
+use Rattle.runner.specs.Whole.{Position, position, stateAt, planAt, calls, leaves, afterSetup, NoEvent, RunsFrom, PlanRuns}
 use Rattle.runner.specs.declared.Runner.{Runner}
 use Rattle.runner.proofs.RunSteps.{Step, refused, ended, carried, step-is}
 use Rattle.runner.proofs.RunEvents.{accepts, end, made, event-ran, event-stopped, follows}
 use Rattle.runner.proofs.RunSetup.{Begun, row-kept, begun-first, bridges-begun, link-begun, lasts}
-use Rattle.runner.proofs.ViewTurns.{view-goes}
+use Rattle.runner.proofs.ViewSteps.{view-goes}
 use Rattle.runner.proofs.RunFresh.{Standing, view-taken, view-stands}
 
 -- buffers that are long enough
@@ -92,13 +92,13 @@ module _ (fuel : ℕ) (v : Event) (used : ℕ) (r : Runner) (k : Buffers) (rest 
           let left = event-stopped fuel v used r k rest q in
           inl (record { stage = omega (arith, left .1, two); none = left .2 })
 
-set-up : (fuel : ℕ) (r : Runner) (k : Buffers) (rest : List ℕ) → SetUp r k → Outcome (setsUp fuel r k rest) (leaves fuel r k rest) (calls fuel r k rest)
-unfolding setsUp leaves calls lastStep fieldStep setupStep
+set-up : (fuel : ℕ) (r : Runner) (k : Buffers) (rest : List ℕ) → SetUp r k → Outcome (afterSetup fuel r k rest) (leaves fuel r k rest) (calls fuel r k rest)
+unfolding afterSetup leaves calls lastStep fieldStep setupStep
 set-up zero r k rest s = inl (record { stage = omega (arith, s .begun .early); none = refl })
 set-up (suc fuel) r k rest s = go (set-up fuel) (step-is r k rest)
   where
-    go : ((r : Runner) (k : Buffers) (rest : List ℕ) → SetUp r k → Outcome (setsUp fuel r k rest) (leaves fuel r k rest) (calls fuel r k rest)) → Step r k rest →
-        Outcome (setsUp (suc fuel) r k rest) (leaves (suc fuel) r k rest) (calls (suc fuel) r k rest)
+    go : ((r : Runner) (k : Buffers) (rest : List ℕ) → SetUp r k → Outcome (afterSetup fuel r k rest) (leaves fuel r k rest) (calls fuel r k rest)) → Step r k rest →
+        Outcome (afterSetup (suc fuel) r k rest) (leaves (suc fuel) r k rest) (calls (suc fuel) r k rest)
     go next (refused e) = inl (rw e (record { stage = omega (arith, s .begun .early); none = refl }))
     go next (ended number d e) = inl (rw e (record { stage = omega (arith, s .begun .early); none = refl }))
     go next (carried f used long d e) = field f d e (field-read rest (progressOf r) d)
@@ -108,7 +108,7 @@ set-up (suc fuel) r k rest s = go (set-up fuel) (step-is r k rest)
         early now = record { begun = now; stood = λ h. absurd (omega arith) }
 
         field : (f : Field) → readReply rest (progressOf r) ≡ Read.Field f used → stepOf r k rest ≡ fieldStep rest f used r k → FieldRead rest (progressOf r) f →
-            Outcome (setsUp (suc fuel) r k rest) (leaves (suc fuel) r k rest) (calls (suc fuel) r k rest)
+            Outcome (afterSetup (suc fuel) r k rest) (leaves (suc fuel) r k rest) (calls (suc fuel) r k rest)
         field (Field.Bridges n) d e told = rw (e, d) (next _ _ (drop used rest) (early (bridges-begun _ _ _ (s .begun) n (told .opening) (told .least) (told .most))))
         field (Field.Link x y) d e told =
             rw (e, d) (next _ _ (drop used rest) (early (link-begun _ _ _ (s .begun) x y (told .counted) (told .room) (record { first = told .first; second = told .second; differ = told .differ }))))

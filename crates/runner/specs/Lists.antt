@@ -17,7 +17,7 @@ use Rattle.runner.specs.Events.{eventText}
 use Rattle.runner.specs.Steps.{StepOutcome, stepOutcome}
 use Rattle.runner.specs.Fills.{buffersWithOut}
 use Rattle.runner.specs.declared.Runner.{Runner}
-use Rattle.runner.specs.declared.Stepped.{Stepped}
+use Rattle.runner.specs.declared.StepResult.{StepResult}
 use Rattle.runner.specs.Sizes.{longestPlan}
 use Rattle.text.specs.Writing.{longestText}
 use Rattle.plan.specs.Sizes.{mostEvents}
@@ -29,12 +29,12 @@ textsOf bridges (e ∷ es) answers =
     eventText bridges e (take (answerSize bridges e) answers) ++ textsOf bridges es (drop (answerSize bridges e) answers)
 
 -- a step of which only the bytes to be printed are lent
-abbrev pub stepOutcomeOn : Stepped → List ℕ → StepOutcome
-stepOutcomeOn s out = stepOutcome (s .reply) (s .going) (s .used) (s .written) (s .runner) (buffers [] [] [] [] out)
+abbrev pub outcomeOn : StepResult → List ℕ → StepOutcome
+outcomeOn s out = stepOutcome (s .reply) (s .going) (s .used) (s .written) (s .runner) (buffers [] [] [] [] out)
 
 -- with so many events of so many bytes made, and texts of so many
-abbrev pub madeOn : Runner → List Message → Bench → ℕ → ℕ → ℕ → Stepped
-madeOn r messages b made used written =
+abbrev pub afterEvents : Runner → List Message → Bench → ℕ → ℕ → ℕ → StepResult
+afterEvents r messages b made used written =
     record {
       runner = record { bench = b; stage = 3; events = r .events + made; offset = r .offset + used };
       messages = messages;
@@ -45,24 +45,24 @@ madeOn r messages b made used written =
     }
 
 -- the plan ends with the refusal of its next event
-unfoldable pub refusedOn : ℕ → StepOutcome → StepOutcome
-refusedOn number t =
+unfoldable pub withRefusal : ℕ → StepOutcome → StepOutcome
+withRefusal number t =
     let text : List ℕ = refusedText number (t .runner .offset) in
     stepOutcome number false (t .used) (t .written + length text) (t .runner)
     (buffersWithOut (sets (t .buffers .out) (t .written) text) (t .buffers))
 
 -- why a list ended
-unfoldable pub endedOn : Disposition → StepOutcome → StepOutcome
-endedOn Disposition.Complete t = t
-endedOn (Disposition.Refused k) t = refusedOn k t
-endedOn Disposition.Full t = t
+unfoldable pub withDisposition : Disposition → StepOutcome → StepOutcome
+withDisposition Disposition.Complete t = t
+withDisposition (Disposition.Refused k) t = withRefusal k t
+withDisposition Disposition.Full t = t
 
 -- the events that were made, with their lines, and the refusal of the next one if it was refused
-unfoldable pub batchOn : Runner → BatchResult → List Event → List ℕ → List ℕ → List ℕ → StepOutcome
-batchOn r batch events ends answers out =
+unfoldable pub batchStep : Runner → BatchResult → List Event → List ℕ → List ℕ → List ℕ → StepOutcome
+batchStep r batch events ends answers out =
     let texts : List ℕ = textsOf (r .bench .bridges) (take (batch .made) events) answers in
-    endedOn (batch .disposition)
-    (stepOutcomeOn (madeOn r [] (batch .bench) (batch .made) (bytesBy ends (batch .made)) (length texts)) (sets out 0 texts))
+    withDisposition (batch .disposition)
+    (outcomeOn (afterEvents r [] (batch .bench) (batch .made) (bytesBy ends (batch .made)) (length texts)) (sets out 0 texts))
 
 -- a refusal has a number
 abbrev pub SomeNumber : Disposition → Type 0

@@ -95,13 +95,13 @@ withRow rest b costs =
     ++ (costsReply rest (b .links) (part 32 (b .views) costs) .row ++ drop 32 (drop (32 * b .views) costs))
 
 -- "A fresh network": it is made with the first view, which is all that it needs
-unfoldable pub opened : Bench → List ℕ → List ℕ → List ℕ → ChangeOutcome
-opened b costs sent held = cond (eqb (b .views) 1) (freshOf b costs sent held) (changeOutcome 0 b sent held)
+unfoldable pub freshWithView : Bench → List ℕ → List ℕ → List ℕ → ChangeOutcome
+freshWithView b costs sent held = cond (eqb (b .views) 1) (freshOf b costs sent held) (changeOutcome 0 b sent held)
 
 -- a view of so many bytes, which b and costs have: the plan goes on, or ends where the network cannot be made
 unfoldable pub viewStep : ℕ → Bench → List ℕ → Runner → Buffers → StepOutcome
 viewStep used b costs r k =
-    let o : ChangeOutcome = opened b costs (k .sent) (k .held) in
+    let o : ChangeOutcome = freshWithView b costs (k .sent) (k .held) in
     cond (eqb (o .reply) 0)
     (setupStep used (o .bench) 2 r (buffers costs (o .sent) (o .held) (k .messages) (k .out)))
     (lastStep (o .reply) (refusedText (o .reply) (r .offset)) r k)

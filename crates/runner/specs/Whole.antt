@@ -67,18 +67,18 @@ leaves (suc fuel) r k rest =
     cond (t .going) (leaves fuel (t .runner) (t .buffers) (drop (t .used) rest)) (position (t .runner) (t .buffers))
 
 -- where the setup ends: before the first event, carried out or refused
-unfoldable pub setsUp : ℕ → Runner → Buffers → List ℕ → Position
-setsUp zero r k rest = position r k
-setsUp (suc fuel) r k rest =
+unfoldable pub afterSetup : ℕ → Runner → Buffers → List ℕ → Position
+afterSetup zero r k rest = position r k
+afterSetup (suc fuel) r k rest =
     let t : StepOutcome = stepOf r k rest in
-    cond (setupRead (readReply rest (progressOf r)) && t .going) (setsUp fuel (t .runner) (t .buffers) (drop (t .used) rest)) (position r k)
+    cond (setupRead (readReply rest (progressOf r)) && t .going) (afterSetup fuel (t .runner) (t .buffers) (drop (t .used) rest)) (position r k)
 
 -- the calls of a whole plan, the place of its first event, its end
 abbrev pub planCalls : List ℕ → List Call
 planCalls plan = calls (suc (length plan)) firstRunner firstBuffers plan
 
 abbrev pub planStart : List ℕ → Position
-planStart plan = setsUp (suc (length plan)) firstRunner firstBuffers plan
+planStart plan = afterSetup (suc (length plan)) firstRunner firstBuffers plan
 
 abbrev pub planEnd : List ℕ → Position
 planEnd plan = leaves (suc (length plan)) firstRunner firstBuffers plan
@@ -108,7 +108,7 @@ pub record Same (fuel more : ℕ) (r : Runner) (k : Buffers) (rest : List ℕ) :
   pub printed : prints fuel r k rest ≡ prints more r k rest
   pub made : calls fuel r k rest ≡ calls more r k rest
   pub left : leaves fuel r k rest ≡ leaves more r k rest
-  pub start : setsUp fuel r k rest ≡ setsUp more r k rest
+  pub start : afterSetup fuel r k rest ≡ afterSetup more r k rest
 
 abbrev pub FuelEnough : Type 0
 FuelEnough = (r : Runner) (k : Buffers) (rest : List ℕ) (fuel more : ℕ) → length rest < fuel → length rest < more → Same fuel more r k rest

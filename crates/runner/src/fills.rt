@@ -1,8 +1,8 @@
 // Several fields of a plan at once: the events of a list.
 use crate::Runner;
-use crate::Stepped;
+use crate::StepResult;
 use crate::lists::answer_room;
-use crate::lists::batch_on;
+use crate::lists::batch_step;
 use crate::lists::list_fits;
 use crate::sizes::ANSWERS;
 use crate::steps::buffers_long;
@@ -30,7 +30,7 @@ fn fill_by_list(
     held: &mut [u32],
     messages: [Message; MOST_MESSAGES],
     out: &mut [u8],
-) -> Stepped
+) -> StepResult
     requires { ⌜ (listFits r (length (now rest)) ≡ true) × (buffersLong (buffers (now costs) (now sent) (now held) (numbersIn messages) (now out)) ≡ true) ⌝ }
     ensures { λ s. ⌜ stepOutcome (s .reply) (s .going) (s .used) (s .written) (s .runner) (buffers (now (costs .exit)) (now (sent .exit)) (now (held .exit)) (numbersIn (s .messages)) (now (out .exit))) ≡ fillOf r (buffers (now (costs .entry)) (now (sent .entry)) (now (held .entry)) (numbersIn messages) (now (out .entry))) (now (rest .entry)) ⌝ }
 {
@@ -54,7 +54,7 @@ fn fill_by_list(
         count,
         &mut answers[..room],
     );
-    batch_on(r, reply, events, &ends, &answers, out)
+    batch_step(r, reply, events, &ends, &answers, out)
 }
 
 // The next field of a plan, or the events that come next: `out[..written]` is to be printed, and where the plan is still going the next call
@@ -67,7 +67,7 @@ pub fn fill(
     held: &mut [u32],
     messages: [Message; MOST_MESSAGES],
     out: &mut [u8],
-) -> Stepped
+) -> StepResult
     ensures { λ s. ⌜ stepOutcome (s .reply) (s .going) (s .used) (s .written) (s .runner) (buffers (now (costs .exit)) (now (sent .exit)) (now (held .exit)) (numbersIn (s .messages)) (now (out .exit))) ≡ fillOf r (buffers (now (costs .entry)) (now (sent .entry)) (now (held .entry)) (numbersIn messages) (now (out .entry))) (now (rest .entry)) ⌝ }
 {
     let fits = list_fits(r, rest.len());

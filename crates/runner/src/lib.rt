@@ -21,7 +21,7 @@ pub struct Runner {
 
 // After a step or several: the messages in flight, whether the plan goes on, the bytes of it that were used, the bytes that are to be printed, and
 // document 01's number, 0 where nothing is refused.
-pub struct Stepped {
+pub struct StepResult {
     pub runner: Runner,
     pub messages: [Message; MOST_MESSAGES],
     pub going: bool,

@@ -1,6 +1,6 @@
 // Events that are carried out in a list: whether they can be, the room that their lines have, and the lines.
 use crate::Runner;
-use crate::Stepped;
+use crate::StepResult;
 use crate::events::event_text;
 use crate::events::has_text;
 use crate::sizes::ANSWERS;
@@ -23,7 +23,7 @@ ghost use lib.ListN.{length, take};
 ghost use Rattle.bench.specs.Batches.{answerSizes};
 ghost use Rattle.text.specs.Writing.{Put};
 ghost use Rattle.runner.specs.Fills.{listFits, answerRoom};
-ghost use Rattle.runner.specs.Lists.{textsOf, stepOutcomeOn, madeOn, refusedOn, ResultFits, batchOn};
+ghost use Rattle.runner.specs.Lists.{textsOf, outcomeOn, afterEvents, withRefusal, ResultFits, batchStep};
 
 // A list of events from here on stays in range.
 pub(crate) fn list_fits(r: Runner, left: usize) -> bool
@@ -81,16 +81,16 @@ fn put_texts(
 }
 
 // With so many events of so many bytes made, and texts of so many.
-fn made_on(
+fn after_events(
     r: Runner,
     messages: [Message; MOST_MESSAGES],
     bench: Bench,
     made: usize,
     used: usize,
     written: usize,
-) -> Stepped
+) -> StepResult
     requires { ⌜ (r .events + made ≤ 61440) × (r .offset + used ≤ 61440) ⌝ }
-    ensures { λ s. ⌜ s ≡ madeOn r messages bench made used written ⌝ }
+    ensures { λ s. ⌜ s ≡ afterEvents r messages bench made used written ⌝ }
 {
     let runner = Runner {
         bench,
@@ -98,7 +98,7 @@ fn made_on(
         events: r.events + made as u32,
         offset: r.offset + used as u32,
     };
-    Stepped {
+    StepResult {
         runner,
         messages,
         going: true,
@@ -109,16 +109,16 @@ fn made_on(
 }
 
 // The plan ends with the refusal of its next event, behind what is written.
-fn refused_on(done: Stepped, number: u8, out: &mut [u8]) -> Stepped
+fn with_refusal(done: StepResult, number: u8, out: &mut [u8]) -> StepResult
     requires { ⌜ (0 < number) × (done .written + 544 ≤ length (now out)) ⌝ }
-    ensures { λ s. ⌜ stepOutcomeOn s (now (out .exit)) ≡ refusedOn number (stepOutcomeOn done (now (out .entry))) ⌝ }
+    ensures { λ s. ⌜ outcomeOn s (now (out .exit)) ≡ withRefusal number (outcomeOn done (now (out .entry))) ⌝ }
     ensures { λ s. ⌜ s .messages ≡ done .messages ⌝ }
 {
     let written = done.written;
     let r = done.runner;
     let messages = done.messages;
     let count = last_line(&mut out[written..], number, r.events, r.offset);
-    Stepped {
+    StepResult {
         runner: r,
         messages,
         going: false,
@@ -129,16 +129,16 @@ fn refused_on(done: Stepped, number: u8, out: &mut [u8]) -> Stepped
 }
 
 // The events that were made, with their lines, and the refusal of the next one if it was refused.
-pub(crate) fn batch_on(
+pub(crate) fn batch_step(
     r: Runner,
     reply: BatchAndMessages,
     events: [Event; MOST_EVENTS],
     ends: &[u16],
     answers: &[u32],
     out: &mut [u8],
-) -> Stepped
+) -> StepResult
     requires { ⌜ ResultFits r (reply .batch) events (now ends) (now answers) (length (now out)) ⌝ }
-    ensures { λ s. ⌜ stepOutcomeOn s (now (out .exit)) ≡ batchOn r (reply .batch) events (now (ends .entry)) (now (answers .entry)) (now (out .entry)) ⌝ }
+    ensures { λ s. ⌜ outcomeOn s (now (out .exit)) ≡ batchStep r (reply .batch) events (now (ends .entry)) (now (answers .entry)) (now (out .entry)) ⌝ }
     ensures { λ s. ⌜ s .messages ≡ reply .messages ⌝ }
 {
     let old = r.bench;
@@ -150,9 +150,9 @@ pub(crate) fn batch_on(
     let number = refusal_in(how);
     let written = put_texts(old.bridges, events, made, answers, out);
     let used = plan::events::bytes_of(ends, made);
-    let next = made_on(r, left, after, made, used, written);
+    let next = after_events(r, left, after, made, used, written);
     if number == 0 {
         return next;
     }
-    refused_on(next, number, out)
+    with_refusal(next, number, out)
 }

@@ -1,10 +1,11 @@
 // Setup fields: the bridge count, links, views.
 use bench::Bench;
+use bench::sizes::COST_ROW;
 ghost use mathlib.Core.Path.{_≡_};
 ghost use Prim.Native.Nat.{_≤_, _<_};
 ghost use lib.ListN.{length};
 ghost use Rattle.bench.specs.Changes.{changeOutcome};
-ghost use Rattle.runner.specs.Steps.{withBridges, withLink, withView, withRow, mayView, opened};
+ghost use Rattle.runner.specs.Steps.{withBridges, withLink, withView, withRow, mayView, freshWithView};
 
 pub(crate) fn with_bridges(bench: Bench, count: u8) -> Bench
     ensures { λ r. ⌜ r ≡ withBridges bench count ⌝ }
@@ -40,8 +41,8 @@ pub(crate) fn store_row(rest: &[u8], bench: Bench, costs: &mut [u32])
     requires { ⌜ (bench .views < 32) × (1024 ≤ length (now costs)) ⌝ }
     ensures { λ r. ⌜ now (costs .exit) ≡ withRow (now (rest .entry)) bench (now (costs .entry)) ⌝ }
 {
-    let row = 32 * bench.views;
-    let past = row + 32;
+    let row = COST_ROW * bench.views;
+    let past = row + COST_ROW;
     plan::fields::read_costs(rest, bench.links, &mut costs[row..past]);
 }
 
@@ -57,9 +58,14 @@ pub(crate) fn may_view(bench: Bench) -> bool
 }
 
 // The network is fresh with the first view.
-pub(crate) fn open(bench: Bench, costs: &[u32], sent: &mut [u32], held: &mut [u32]) -> Bench
-    requires { ⌜ opened bench (now costs) (now sent) (now held) .reply ≡ 0 ⌝ }
-    ensures { λ b. ⌜ changeOutcome 0 b (now (sent .exit)) (now (held .exit)) ≡ opened bench (now (costs .entry)) (now (sent .entry)) (now (held .entry)) ⌝ }
+pub(crate) fn fresh_with_view(
+    bench: Bench,
+    costs: &[u32],
+    sent: &mut [u32],
+    held: &mut [u32],
+) -> Bench
+    requires { ⌜ freshWithView bench (now costs) (now sent) (now held) .reply ≡ 0 ⌝ }
+    ensures { λ b. ⌜ changeOutcome 0 b (now (sent .exit)) (now (held .exit)) ≡ freshWithView bench (now (costs .entry)) (now (sent .entry)) (now (held .entry)) ⌝ }
 {
     if bench.views == 1 {
         let started = bench::changes::fresh(bench, costs, sent, held);

@@ -1,11 +1,12 @@
 // The public calls: a runner before the first field, and one step of a plan.
 use crate::Runner;
-use crate::Stepped;
+use crate::StepResult;
 use crate::events::event_text;
 use crate::setup;
 use crate::sizes::MOST_COUNTED;
 use crate::stops::last_line;
 use crate::stops::stop_number;
+use agreement::sizes::ENDS;
 use agreement::sizes::LIMITS;
 use bench::Bench;
 use bench::Event;
@@ -14,7 +15,10 @@ use bench::sizes::COSTS;
 use bench::sizes::MESSAGES;
 use bench::sizes::MOST_EVENTS;
 use bench::sizes::MOST_MESSAGES;
+use bench::sizes::REPORT;
 use distances::ready::both;
+use distances::sizes::MOST_BRIDGES;
+use distances::sizes::MOST_LINKS;
 use messages::Message;
 use messages::batches::run_by_value;
 use plan::Field;
@@ -36,12 +40,12 @@ ghost use Rattle.runner.specs.Plans.{firstRunner};
 pub fn first() -> Runner
     ensures { λ r. ⌜ r ≡ firstRunner ⌝ }
 {
-    let ends = [0u8; 64];
-    let view = [0u8; 16];
-    let number = [1u16; 16];
+    let ends = [0u8; ENDS];
+    let view = [0u8; MOST_BRIDGES];
+    let number = [1u16; MOST_BRIDGES];
     let record = agreement::calls::fresh_record();
-    let records = [record; 64];
-    let cut = [false; 32];
+    let records = [record; ENDS];
+    let cut = [false; MOST_LINKS];
     let bench = Bench {
         bridges: 0,
         links: 0,
@@ -93,13 +97,13 @@ fn runner_in_range(r: Runner) -> bool
 }
 
 // The plan ends here.
-fn ended(r: Runner, messages: [Message; MOST_MESSAGES], number: u8, out: &mut [u8]) -> Stepped
+fn ended(r: Runner, messages: [Message; MOST_MESSAGES], number: u8, out: &mut [u8]) -> StepResult
     requires { ⌜ 544 ≤ length (now out) ⌝ }
     ensures { λ s. ⌜ stepOutcome (s .reply) (s .going) (s .used) (s .written) (s .runner) (buffers [] [] [] [] (now (out .exit))) ≡ lastStep number (lastText number (r .events) (r .offset)) r (buffers [] [] [] [] (now (out .entry))) ⌝ }
     ensures { λ s. ⌜ s .messages ≡ messages ⌝ }
 {
     let written = last_line(out, number, r.events, r.offset);
-    Stepped {
+    StepResult {
         runner: r,
         messages,
         going: false,
@@ -115,7 +119,7 @@ fn set_up(
     bench: Bench,
     stage: usize,
     used: usize,
-) -> Stepped
+) -> StepResult
     requires { ⌜ (r .offset ≤ 61440) × (used ≤ 65538) ⌝ }
     ensures { λ s. ⌜ stepOutcome (s .reply) (s .going) (s .used) (s .written) (s .runner) (buffers [] [] [] [] []) ≡ setupStep used bench stage r (buffers [] [] [] [] []) ⌝ }
     ensures { λ s. ⌜ s .messages ≡ messages ⌝ }
@@ -126,7 +130,7 @@ fn set_up(
         events: r.events,
         offset: r.offset + used as u32,
     };
-    Stepped {
+    StepResult {
         runner,
         messages,
         going: true,
@@ -146,13 +150,13 @@ fn event_step(
     out: &mut [u8],
     event: Event,
     used: usize,
-) -> Stepped
+) -> StepResult
     requires { ⌜ (r .offset ≤ 61440) × (r .events ≤ 61440) × (used ≤ 65538) × (544 ≤ length (now out)) ⌝ }
     ensures { λ s. ⌜ stepOutcome (s .reply) (s .going) (s .used) (s .written) (s .runner) (buffers (now (costs .entry)) (now (sent .exit)) (now (held .exit)) (numbersIn (s .messages)) (now (out .exit))) ≡ fieldStep [] (Field.Event event) used r (buffers (now (costs .entry)) (now (sent .entry)) (now (held .entry)) (numbersIn messages) (now (out .entry))) ⌝ }
 {
     let bench = r.bench;
     let events = [event; MOST_EVENTS];
-    let mut answers = [0u32; 32];
+    let mut answers = [0u32; REPORT];
     let reply = run_by_value(bench, costs, sent, held, messages, events, 1, &mut answers);
     let batch = reply.batch;
     let left = reply.messages;
@@ -170,7 +174,7 @@ fn event_step(
         events: r.events + 1,
         offset: r.offset + used as u32,
     };
-    Stepped {
+    StepResult {
         runner,
         messages: left,
         going: true,
@@ -190,7 +194,7 @@ fn view_step(
     messages: [Message; MOST_MESSAGES],
     out: &mut [u8],
     used: usize,
-) -> Stepped
+) -> StepResult
     requires { ⌜ (r .offset ≤ 61440) × (used ≤ 65538) × (1024 ≤ length (now costs)) × (1024 ≤ length (now sent)) × (1024 ≤ length (now held)) × (544 ≤ length (now out)) ⌝ }
     requires { ⌜ ViewFits (now rest) (r .bench) ⌝ }
     ensures { λ s. ⌜ stepOutcome (s .reply) (s .going) (s .used) (s .written) (s .runner) (buffers (now (costs .exit)) (now (sent .exit)) (now (held .exit)) (numbersIn (s .messages)) (now (out .exit))) ≡ fieldStep (now (rest .entry)) Field.View used r (buffers (now (costs .entry)) (now (sent .entry)) (now (held .entry)) (numbersIn messages) (now (out .entry))) ⌝ }
@@ -201,7 +205,13 @@ fn view_step(
     }
     setup::store_row(rest, bench, costs);
     let viewed = setup::with_view(bench);
-    set_up(r, messages, setup::open(viewed, costs, sent, held), 2, used)
+    set_up(
+        r,
+        messages,
+        setup::fresh_with_view(viewed, costs, sent, held),
+        2,
+        used,
+    )
 }
 
 fn field_step(
@@ -214,7 +224,7 @@ fn field_step(
     out: &mut [u8],
     field: Field,
     used: usize,
-) -> Stepped
+) -> StepResult
     requires { ⌜ (r .offset ≤ 61440) × (r .events ≤ 61440) × (used ≤ 65538) × (1024 ≤ length (now costs)) × (1024 ≤ length (now sent)) × (1024 ≤ length (now held)) × (544 ≤ length (now out)) ⌝ }
     requires { ⌜ fieldFits (now rest) (r .bench) field ⌝ }
     ensures { λ s. ⌜ stepOutcome (s .reply) (s .going) (s .used) (s .written) (s .runner) (buffers (now (costs .exit)) (now (sent .exit)) (now (held .exit)) (numbersIn (s .messages)) (now (out .exit))) ≡ fieldStep (now (rest .entry)) field used r (buffers (now (costs .entry)) (now (sent .entry)) (now (held .entry)) (numbersIn messages) (now (out .entry))) ⌝ }
@@ -243,12 +253,12 @@ pub fn step(
     held: &mut [u32],
     messages: [Message; MOST_MESSAGES],
     out: &mut [u8],
-) -> Stepped
+) -> StepResult
     ensures { λ s. ⌜ stepOutcome (s .reply) (s .going) (s .used) (s .written) (s .runner) (buffers (now (costs .exit)) (now (sent .exit)) (now (held .exit)) (numbersIn (s .messages)) (now (out .exit))) ≡ stepOf r (buffers (now (costs .entry)) (now (sent .entry)) (now (held .entry)) (numbersIn messages) (now (out .entry))) (now (rest .entry)) ⌝ }
 {
     let long = buffers_long(costs.len(), sent.len(), held.len(), MESSAGES, out.len());
     if !both(runner_in_range(r), long) {
-        return Stepped {
+        return StepResult {
             runner: r,
             messages,
             going: false,

@@ -28,14 +28,14 @@ returns c = Played.unread
 array-share-prefix-begun : tie.Need-array-share-prefix-begun
 array-share-prefix-begun c = lies _ _ _ _ _ (c .before .before .first .given .1) (c .before .before .before .before .before .read-piece .ensures) .1
 
-slice-aggregate-carry-out : tie.Need-slice-aggregate-carry-out
-slice-aggregate-carry-out c = sym (length-take-le _ _ (lies _ _ _ _ _ (c .before .before .before .first .given .1) (c .before .before .before .before .before .before .read-piece .ensures) .1))
+slice-aggregate-run-plan : tie.Need-slice-aggregate-run-plan
+slice-aggregate-run-plan c = sym (length-take-le _ _ (lies _ _ _ _ _ (c .before .before .before .first .given .1) (c .before .before .before .before .before .before .read-piece .ensures) .1))
 
-carry-out-requires : tie.Need-carry-out-requires
-carry-out-requires c κs = omega (arith, length-take (c .before .before .before .first .given .0 .0) (c .before .before .before .before .before .before .read-piece .last .1 .0), c .before .before .before .before .before .before .read-piece .kept)
+run-plan-requires : tie.Need-run-plan-requires
+run-plan-requires c κs = omega (arith, length-take (c .before .before .before .first .given .0 .0) (c .before .before .before .before .before .before .read-piece .last .1 .0), c .before .before .before .before .before .before .read-piece .kept)
 
 returns-2 : tie.Need-returns-2
-returns-2 c = carried-told (take (c .before .before .before .before .first .given .0 .0) (c .before .before .before .before .before .before .before .read-piece .last .1 .0)) (c .carry-out .result) (omega (arith, length-take (c .before .before .before .before .first .given .0 .0) (c .before .before .before .before .before .before .before .read-piece .last .1 .0), c .before .before .before .before .before .before .before .read-piece .kept)) (c .carry-out .ensures)
+returns-2 c = carried-told (take (c .before .before .before .before .first .given .0 .0) (c .before .before .before .before .before .before .before .read-piece .last .1 .0)) (c .run-plan .result) (omega (arith, length-take (c .before .before .before .before .first .given .0 .0) (c .before .before .before .before .before .before .before .read-piece .last .1 .0), c .before .before .before .before .before .before .before .read-piece .kept)) (c .run-plan .ensures)
 
 array-share-prefix-begun-2 : tie.Need-array-share-prefix-begun-2
 array-share-prefix-begun-2 c = lies _ _ _ _ _ (c .before .before .before .first .given .1) (c .before .before .before .before .before .before .read-piece .ensures) .1
@@ -67,14 +67,14 @@ returns-4 c = Played.unread
 array-share-prefix-begun-3 : tie.Need-array-share-prefix-begun-3
 array-share-prefix-begun-3 c = omega (arith, lies _ _ _ _ _ (c .before .before .before .before .before .before .before .before .before .before .first .given .1) (c .before .before .before .before .before .before .before .before .before .before .before .before .before .read-piece .ensures) .1, c .before .before .before .before .before .read-piece2 .kept)
 
-slice-aggregate-carry-out-2 : tie.Need-slice-aggregate-carry-out-2
-slice-aggregate-carry-out-2 c = sym (length-take-le _ _ (omega (arith, lies _ _ _ _ _ (c .before .before .before .before .before .before .before .before .before .before .before .first .given .1) (c .before .before .before .before .before .before .before .before .before .before .before .before .before .before .read-piece .ensures) .1, c .before .before .before .before .before .before .read-piece2 .kept)))
+slice-aggregate-run-plan-2 : tie.Need-slice-aggregate-run-plan-2
+slice-aggregate-run-plan-2 c = sym (length-take-le _ _ (omega (arith, lies _ _ _ _ _ (c .before .before .before .before .before .before .before .before .before .before .before .first .given .1) (c .before .before .before .before .before .before .before .before .before .before .before .before .before .before .read-piece .ensures) .1, c .before .before .before .before .before .before .read-piece2 .kept)))
 
-carry-out-requires-2 : tie.Need-carry-out-requires-2
-carry-out-requires-2 c κs = omega (arith, length-take (c .before .before .before .before .before .before .before .before .before .before .before .first .given .0 .0) (c .before .before .before .before .before .before .read-piece2 .last .1 .0), c .before .before .before .before .before .before .before .before .before .before .before .before .before .before .read-piece .kept, c .before .before .before .before .before .before .read-piece2 .kept)
+run-plan-requires-2 : tie.Need-run-plan-requires-2
+run-plan-requires-2 c κs = omega (arith, length-take (c .before .before .before .before .before .before .before .before .before .before .before .first .given .0 .0) (c .before .before .before .before .before .before .read-piece2 .last .1 .0), c .before .before .before .before .before .before .before .before .before .before .before .before .before .before .read-piece .kept, c .before .before .before .before .before .before .read-piece2 .kept)
 
 returns-5 : tie.Need-returns-5
-returns-5 c = carried-told (take (c .before .before .before .before .before .before .before .before .before .before .before .before .first .given .0 .0) (c .before .before .before .before .before .before .before .read-piece2 .last .1 .0)) (c .carry-out2 .result) (omega (arith, length-take (c .before .before .before .before .before .before .before .before .before .before .before .before .first .given .0 .0) (c .before .before .before .before .before .before .before .read-piece2 .last .1 .0), c .before .before .before .before .before .before .before .before .before .before .before .before .before .before .before .read-piece .kept, c .before .before .before .before .before .before .before .read-piece2 .kept)) (c .carry-out2 .ensures)
+returns-5 c = carried-told (take (c .before .before .before .before .before .before .before .before .before .before .before .before .first .given .0 .0) (c .before .before .before .before .before .before .before .read-piece2 .last .1 .0)) (c .run-plan2 .result) (omega (arith, length-take (c .before .before .before .before .before .before .before .before .before .before .before .before .first .given .0 .0) (c .before .before .before .before .before .before .before .read-piece2 .last .1 .0), c .before .before .before .before .before .before .before .before .before .before .before .before .before .before .before .read-piece .kept, c .before .before .before .before .before .before .before .read-piece2 .kept)) (c .run-plan2 .ensures)
 
 array-share-prefix-begun-4 : tie.Need-array-share-prefix-begun-4
 array-share-prefix-begun-4 c = lies _ _ _ _ _ (c .before .before .second .given .1) (c .before .before .before .before .before .read-piece2 .ensures) .1
@@ -98,8 +98,8 @@ play-spec =
     enum-told
     returns
     array-share-prefix-begun
-    slice-aggregate-carry-out
-    carry-out-requires
+    slice-aggregate-run-plan
+    run-plan-requires
     returns-2
     array-share-prefix-begun-2
     slice-aggregate-read-on
@@ -111,8 +111,8 @@ play-spec =
     enum-told-2
     returns-4
     array-share-prefix-begun-3
-    slice-aggregate-carry-out-2
-    carry-out-requires-2
+    slice-aggregate-run-plan-2
+    run-plan-requires-2
     returns-5
     array-share-prefix-begun-4
     slice-aggregate-read-on-2

@@ -16,11 +16,11 @@ too-long-requires c κs = search needs
 returns : tie.Need-returns
 returns c = subst (Handed (c .too-long .result)) (sym (printed-refused (c .before .before .before .args .plan .now) (omega (arith, c .before .if1 .taken)))) (c .too-long .ensures)
 
-carry-out-requires : tie.Need-carry-out-requires
-carry-out-requires c κs = omega (arith, c .if1 .left)
+run-plan-requires : tie.Need-run-plan-requires
+run-plan-requires c κs = omega (arith, c .if1 .left)
 
 returns-2 : tie.Need-returns-2
-returns-2 c = subst (Handed (c .carry-out .result)) (sym (printed-carried (c .before .before .before .args .plan .now) (omega (arith, c .before .if1 .left)))) (c .carry-out .ensures)
+returns-2 c = subst (Handed (c .run-plan .result)) (sym (printed-carried (c .before .before .before .args .plan .now) (omega (arith, c .before .if1 .left)))) (c .run-plan .ensures)
 
 pub print-spec : {M : Type 1} → statement M
-print-spec = tie.close (tie.spec too-long-requires returns carry-out-requires returns-2)
+print-spec = tie.close (tie.spec too-long-requires returns run-plan-requires returns-2)

@@ -4,7 +4,7 @@ use mathlib.Core.Bool.{true}
 use mathlib.Core.Path.{_≡_, _∙_, sym}
 use borrow.Author.Needs.{needs}
 use Rattle.agreement.specs.Call.{ViewData, viewData, lentEndInRange}
-use Rattle.agreement.proofs.BetweenLaws.{EndListed, end-listed, deliver-between}
+use Rattle.agreement.proofs.BetweenLaws.{EndExists, end-listed, deliver-between}
 use Rattle.agreement.proofs.Outcomes.{deliver-refused}
 use Rattle.agreement.proofs.calls.deliver_end.Statement.{statement}
 use Rattle.agreement.proofs.calls.deliver_end.Tie as tie
@@ -15,7 +15,7 @@ View s = let a = s .args in viewData (a .bridges) (a .links) (a .ends .now) (a .
 accepted : (c : tie.Then1) → let s = c .before .before .before .before .before .before .before in lentEndInRange (View s) (s .args .sent .now) (s .args .held .now) (s .args .end) ≡ true
 accepted c = sym (c .before .end-in-range .ensures) ∙ c .if1 .taken
 
-listed : (c : tie.After-opposite-end) → let a = c .before .before .before .before .before .before .before .before .args in EndListed (a .ends .now) (a .costs .now) (a .end) (c .opposite-end .result)
+listed : (c : tie.After-opposite-end) → let a = c .before .before .before .before .before .before .before .before .args in EndExists (a .ends .now) (a .costs .now) (a .end) (c .opposite-end .result)
 listed c =
     let s = c .before .before .before .before .before .before .before .before in
     end-listed (View s) (s .args .end) (s .args .sent .now) (s .args .held .now) (accepted (c .before)) (c .opposite-end .result) (c .opposite-end .ensures)

@@ -5,7 +5,7 @@ use borrow.Author.Needs.{needs}
 use borrow.Author.Tests.{not-true, not-false}
 use Rattle.bench.specs.Answers.{pathOf}
 use Rattle.bench.specs.Deliveries.{refusedBy}
-use Rattle.bench.proofs.EntrySettled.{out-of-range}
+use Rattle.bench.proofs.EntryOutcomes.{out-of-range}
 use Rattle.bench.proofs.TableSteps.{tables-none}
 use Rattle.bench.proofs.ChainSteps.{ends-told}
 use Rattle.bench.proofs.answers.path.Statement.{statement}

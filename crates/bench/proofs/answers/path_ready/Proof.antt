@@ -5,9 +5,9 @@ use Rattle.bench.specs.Answers.{pathOf}
 use Rattle.bench.specs.Deliveries.{refusedBy}
 use Rattle.bench.specs.State.{networkOf}
 use Rattle.protocol.specs.Calls.{refuse, checks, noSuchBridge}
-use Rattle.bench.proofs.WalkSteps.{bridges-listed}
+use Rattle.bench.proofs.PathSteps.{bridges-listed}
 use Rattle.bench.proofs.ChoiceSteps.{ports-told}
-use Rattle.bench.proofs.EntrySettled.{turned-down, goes-on}
+use Rattle.bench.proofs.EntryOutcomes.{turned-down, goes-on}
 use Rattle.bench.proofs.answers.path_ready.Statement.{statement}
 use Rattle.bench.proofs.answers.path_ready.Tie as tie
 

@@ -8,10 +8,10 @@ use Rattle.protocol.specs.Calls.{refuse, checks, noSuchBridge}
 use Rattle.bench.specs.State.{State, state, networkOf}
 use Rattle.bench.specs.Deliveries.{refusedBy}
 use Rattle.bench.specs.Answers.{portOf}
-use Rattle.bench.proofs.EntrySettled.{out-of-range, turned-down, goes-on}
+use Rattle.bench.proofs.EntryOutcomes.{out-of-range, turned-down, goes-on}
 use Rattle.bench.proofs.ChoiceSteps.{ports-told}
 use Rattle.bench.proofs.ChainSteps.{ends-told}
-use Rattle.bench.proofs.WalkSteps.{bridges-listed}
+use Rattle.bench.proofs.PathSteps.{bridges-listed}
 use Rattle.bench.proofs.TableSteps.{tables-none}
 use Rattle.bench.proofs.answers.port.Statement.{statement}
 use Rattle.bench.proofs.answers.port.Tie as tie

@@ -9,9 +9,9 @@ use Rattle.protocol.specs.Calls.{refuse, checks, noSuchBridge}
 use Rattle.bench.specs.State.{State, state, networkOf}
 use Rattle.bench.specs.Changes.{stateInRange}
 use Rattle.bench.specs.Answers.{ReportOutcome, reportOutcome, reportOf}
-use Rattle.bench.proofs.EntrySettled.{out-of-range, turned-down, goes-on}
+use Rattle.bench.proofs.EntryOutcomes.{out-of-range, turned-down, goes-on}
 use Rattle.bench.proofs.ChoiceSteps.{ports-told}
-use Rattle.bench.proofs.WalkSteps.{bridge-listed}
+use Rattle.bench.proofs.PathSteps.{bridge-listed}
 use Rattle.bench.proofs.TableSteps.{tables-none}
 use Rattle.bench.proofs.answers.report.Statement.{statement}
 use Rattle.bench.proofs.answers.report.Tie as tie

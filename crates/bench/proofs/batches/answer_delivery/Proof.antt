@@ -1,6 +1,6 @@
 -- `batches::answer_delivery` meets its contract: the number, and the answer where there is one. Assumes nothing.
 use mathlib.Core.Path.{refl}
-use Rattle.bench.specs.Batches.{answeredNumbers}
+use Rattle.bench.specs.Batches.{valueNumbers}
 use borrow.Author.Needs.{needs}
 use Rattle.bench.proofs.batches.answer_delivery.Statement.{statement}
 use Rattle.bench.proofs.batches.answer_delivery.Tie as tie
@@ -21,14 +21,14 @@ event-result-requires-2 : tie.Need-event-result-requires-2
 event-result-requires-2 c κs = tt
 
 returns : tie.Need-returns
-unfolding answeredNumbers
+unfolding valueNumbers
 returns c = rw (c .before .before .reception .given .1) (c .event-result .ensures, refl)
 
 same-length : tie.Need-same-length
 same-length c = c .before .before .before .put-answer .kept .1 .0
 
 returns-2 : tie.Need-returns-2
-unfolding answeredNumbers
+unfolding valueNumbers
 returns-2 c = rw (c .before .before .before .before .before .before .reception2 .given .1) (c .event-result2 .ensures, c .before .before .before .put-answer .ensures)
 
 pub answer-delivery-spec : {M : Type 1} → statement M

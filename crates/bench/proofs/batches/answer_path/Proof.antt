@@ -1,8 +1,8 @@
 -- `batches::answer_path` meets its contract: the number, and a path's three numbers where there is one. Assumes nothing.
 use mathlib.Core.Path.{refl, subst}
 use native.Mathlib.Omega.{arith}
-use Rattle.bench.specs.Batches.{wayNumbers}
-use Rattle.bench.specs.Answers.{WayFits}
+use Rattle.bench.specs.Batches.{valueNumbers}
+use Rattle.bench.specs.Answers.{PathFits}
 use Rattle.bench.proofs.batches.answer_path.Statement.{statement}
 use Rattle.bench.proofs.batches.answer_path.Tie as tie
 
@@ -10,7 +10,7 @@ enum-known-way : tie.Need-enum-known-way
 enum-known-way c = c .match .keys1
 
 cast-put-three : tie.Need-cast-put-three
-cast-put-three c = let fits = subst WayFits (c .before .way .given .1) (c .before .before .before .before .pre .1) in omega (arith, fits)
+cast-put-three c = let fits = subst PathFits (c .before .way .given .1) (c .before .before .before .before .pre .1) in omega (arith, fits)
 
 put-three-requires : tie.Need-put-three-requires
 put-three-requires c κs = tt
@@ -22,10 +22,10 @@ enum-known-way-2 : tie.Need-enum-known-way-2
 enum-known-way-2 c = c .match .keys2
 
 cast-put-three-2 : tie.Need-cast-put-three-2
-cast-put-three-2 c = let fits = subst WayFits (c .before .way2 .given .1) (c .before .before .before .before .pre .1) in omega (arith, fits .0)
+cast-put-three-2 c = let fits = subst PathFits (c .before .way2 .given .1) (c .before .before .before .before .pre .1) in omega (arith, fits .0)
 
 cast-put-three-3 : tie.Need-cast-put-three-3
-cast-put-three-3 c = let fits = subst WayFits (c .before .way2 .given .1) (c .before .before .before .before .pre .1) in omega (arith, fits .1)
+cast-put-three-3 c = let fits = subst PathFits (c .before .way2 .given .1) (c .before .before .before .before .pre .1) in omega (arith, fits .1)
 
 put-three-requires-2 : tie.Need-put-three-requires-2
 put-three-requires-2 c κs = tt
@@ -43,18 +43,18 @@ same-length : tie.Need-same-length
 same-length c = c .before .before .before .put-three .kept .1 .1 .1 .0
 
 returns : tie.Need-returns
-unfolding wayNumbers
+unfolding valueNumbers
 returns c = rw (c .before .before .before .before .before .before .way .given .1) (c .event-result .ensures, c .before .before .before .put-three .ensures)
 
 same-length-2 : tie.Need-same-length-2
 same-length-2 c = c .before .before .before .put-three2 .kept .1 .1 .1 .0
 
 returns-2 : tie.Need-returns-2
-unfolding wayNumbers
+unfolding valueNumbers
 returns-2 c = rw (c .before .before .before .before .before .before .way2 .given .1) (c .event-result2 .ensures, c .before .before .before .put-three2 .ensures)
 
 returns-3 : tie.Need-returns-3
-unfolding wayNumbers
+unfolding valueNumbers
 returns-3 c = rw (c .before .before .way3 .given .1) (c .event-result3 .ensures, refl)
 
 pub answer-path-spec : {M : Type 1} → statement M

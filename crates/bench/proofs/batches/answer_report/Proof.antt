@@ -6,7 +6,7 @@ use Rattle.protocol.specs.Calls.{checks, refuse}
 use Rattle.bench.specs.State.{State, state, networkOf}
 use Rattle.bench.proofs.BatchSteps.{report-refused, report-done}
 use Rattle.bench.proofs.ChoiceSteps.{ports-told}
-use Rattle.bench.proofs.WalkSteps.{bridge-listed}
+use Rattle.bench.proofs.PathSteps.{bridge-listed}
 use Rattle.bench.proofs.batches.answer_report.Statement.{statement}
 use Rattle.bench.proofs.batches.answer_report.Tie as tie
 

@@ -7,14 +7,14 @@ use Rattle.distances.proofs.Booleans.{both-true}
 use Rattle.bench.specs.State.{State, state}
 use Rattle.bench.specs.Queue.{QueueOutcome}
 use Rattle.bench.specs.Changes.{stateInRange}
-use Rattle.bench.specs.Answers.{waySays}
+use Rattle.bench.specs.Answers.{pathResponse}
 use Rattle.bench.specs.Batches.{answerSize}
 use Rattle.bench.specs.declared.Event.the-variants.{Deliver, Repeat}
 use Rattle.bench.proofs.TieRanges.{StateReady, told, ready, few}
 use Rattle.bench.proofs.QueueRanges.{network-told}
 use Rattle.bench.proofs.RangesSteps.{flightInRange, flight-of, update-stays, cut-stays, restore-stays, send-stays, lose-stays, deliver-stays, repeat-stays}
 use Rattle.bench.proofs.BatchSteps.{full-leaves, room-leaves, leaves-by, told-by, update-leaves, update-told, cut-leaves, cut-told, restore-leaves, restore-told, send-leaves, lose-leaves, queue-told, deliver-receives, repeat-receives, received-leaves, reception-effect-told, report-leaves, report-told, path-leaves, quiet-told}
-use Rattle.bench.proofs.AnswerRanges.{way-fits}
+use Rattle.bench.proofs.AnswerRanges.{path-fits}
 use Rattle.bench.proofs.ChangeSteps.{length-mapped}
 use borrow.Author.Needs.{needs}
 use mir.Syntax.{w64}
@@ -164,7 +164,7 @@ path-ready-requires c κs = (network-ready (c .before .before .before .before .b
 
 answer-path-requires : tie.Need-answer-path-requires
 unfolding answerSize
-answer-path-requires c κs = (rw (c .before .before .before .before .before .before .before .before .before .before .before .event9 .given .1) at (roomy (c .before .before .before .before .before .before .before .before .before .before .before .before .before)), way-fits _ _ _ (c .before .before .before .before .before .path-ready .result) (c .before .before .before .before .before .path-ready .ensures .0))
+answer-path-requires c κs = (rw (c .before .before .before .before .before .before .before .before .before .before .before .event9 .given .1) at (roomy (c .before .before .before .before .before .before .before .before .before .before .before .before .before)), path-fits _ _ _ (c .before .before .before .before .before .path-ready .result) (c .before .before .before .before .before .path-ready .ensures .0))
 
 same-length : tie.Need-same-length
 same-length c = c .before .before .before .before .before .update-ready .kept .1 .1 .0
@@ -300,7 +300,7 @@ returns-10 : tie.Need-returns-10
 unfolding answerSize
 returns-10 c = let room : 3 ≤ length (c .before .before .before .before .before .before .before .before .before .before .before .before .before .before .before .before .before .before .before .before .before .before .before .before .before .before .before .args .answers .now) = rw (c .before .before .before .before .before .before .before .before .before .before .before .before .before .before .event9 .given .1) at (roomy (c .before .before .before .before .before .before .before .before .before .before .before .before .before .before .before .before)) in (
   room-leaves _ _ _ (c .before .before .before .before .before .before .before .before .before .before .before .before .before .before .before .before .before .before .before .before .before .before .before .before .before .before .before .pre .0) (roomy (c .before .before .before .before .before .before .before .before .before .before .before .before .before .before .before .before)) (leaves-by (Given (c .before .before .before .before .before .before .before .before .before .before .before .before .before .before .before .before .before .before .before .before .before .before .before .before .before .before .before)) _ (c .before .before .before .before .before .before .before .before .before .before .before .before .before .before .event9 .given .1) (c .before .before .answer-path .ensures .0) (path-leaves (c .before .before .before .before .before .before .before .before .before .before .before .before .before .before .before .before .before .before .before .before .before .before .before .before .before .before .before .args .bench) (c .before .before .before .before .before .before .before .before .before .before .before .before .before .before .before .before .before .before .before .before .before .before .before .before .before .before .before .args .costs .now) (c .before .before .before .before .before .before .before .before .before .before .before .before .before .before .before .before .before .before .before .before .before .before .before .before .before .before .before .args .sent .now) (c .before .before .before .before .before .before .before .before .before .before .before .before .before .before .before .before .before .before .before .before .before .before .before .before .before .before .before .args .held .now) (c .before .before .before .before .before .before .before .before .before .before .before .before .before .before .before .before .before .before .before .before .before .before .before .before .before .before .before .args .flight .now) (c .before .before .before .before .before .before .before .before .before .before .before .before .before .before .before .before .before .before .before .before .before .before .before .before .before .before .before .args .answers .now) _ _ (c .before .before .before .before .before .before .before .before .path-ready .ensures .0) room (c .before .before .answer-path .ensures .1) (c .before .before .before .before .before .before .before .before .before .before .before .before .before .before .before .before .before .before .before .before .before .before .before .before .before .before .before .pre .0))),
-  (quiet-told (waySays (c .before .before .before .before .before .before .before .before .path-ready .result) .number) 3 (c .before .before .before .before .before .before .before .before .before .before .before .before .before .before .before .before .before .before .before .before .before .before .before .before .before .before .before .args .bench) _ (c .before .before .answer-path .ensures .0), c .before .before .before .before .before .before .before .before .path-ready .ensures .1),
+  (quiet-told (pathResponse (c .before .before .before .before .before .before .before .before .path-ready .result) .number) 3 (c .before .before .before .before .before .before .before .before .before .before .before .before .before .before .before .before .before .before .before .before .before .before .before .before .before .before .before .args .bench) _ (c .before .before .answer-path .ensures .0), c .before .before .before .before .before .before .before .before .path-ready .ensures .1),
 )
 
 cast-l : tie.Need-cast-l

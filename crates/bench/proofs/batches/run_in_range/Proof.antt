@@ -20,7 +20,7 @@ use Rattle.bench.specs.declared.Bench.{Bench}
 use Rattle.agreement.specs.Record.{freshRecord}
 use Rattle.agreement.proofs.Basics.{getD-default}
 use Rattle.bench.proofs.ArrivalSteps.{arrival-told}
-use Rattle.bench.proofs.BatchTurns.{Underway, left, begins, turned, stands, ended, shrinks, behind-all, none-behind}
+use Rattle.bench.proofs.BatchLoop.{Underway, left, begins, turned, stands, ended, shrinks, behind-all, none-behind}
 use Rattle.bench.proofs.CallLengths.{records-long}
 use Rattle.bench.proofs.ChainSteps.{ends-told}
 use Rattle.bench.proofs.ChainLaws.{chained-same}

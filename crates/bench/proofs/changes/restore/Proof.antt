@@ -10,7 +10,7 @@ use Rattle.protocol.specs.Calls.{refuse, checks, changeChecks}
 use Rattle.bench.specs.State.{networkOf}
 use Rattle.bench.specs.Ranges.{benchInRange}
 use Rattle.bench.specs.Changes.{benchOutcome, restoreOf}
-use Rattle.bench.proofs.EntrySettled.{out-of-range, turned-down, goes-on, link-listed}
+use Rattle.bench.proofs.EntryOutcomes.{out-of-range, turned-down, goes-on, link-listed}
 use Rattle.bench.proofs.EntryChecks.{bench-counted}
 use Rattle.bench.proofs.changes.restore.Statement.{statement}
 use Rattle.bench.proofs.changes.restore.Tie as tie

@@ -10,7 +10,7 @@ use borrow.Author.Tests.{not-true, not-false}
 use Rattle.bench.specs.State.{State, state}
 use Rattle.bench.specs.Changes.{BenchOutcome, changeOutcome, stateInRange, updateOf}
 use Rattle.bench.specs.Effects.{updatingTo}
-use Rattle.bench.proofs.EntrySettled.{out-of-range}
+use Rattle.bench.proofs.EntryOutcomes.{out-of-range}
 use Rattle.bench.proofs.QueueRanges.{network-told}
 use Rattle.bench.proofs.TableSteps.{tables-none, tables-filled}
 use Rattle.bench.proofs.ChainSteps.{ends-told}

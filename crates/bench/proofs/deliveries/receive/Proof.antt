@@ -8,7 +8,7 @@ use native.Mathlib.Nat.{le-add-right}
 use Rattle.agreement.specs.Call.{Response}
 use Rattle.agreement.specs.declared.Answer.{Answer}
 use Rattle.agreement.proofs.Ends.{opposite-below}
-use Rattle.bench.proofs.ReceiveSteps.{received-between, answers-there}
+use Rattle.bench.proofs.DeliverySteps.{received-between, answers-there}
 use Rattle.bench.proofs.ChoiceReads.{view-fits, costs-fit, cost-fits, cost-scaled, cost-there, block-fits}
 use Rattle.bench.proofs.ViewReads.{block-past, block-scaled, block-there}
 use Rattle.bench.proofs.deliveries.receive.Statement.{statement}

@@ -3,7 +3,7 @@
 use mathlib.Core.Path.{sym}
 use lib.Dec.{lit<}
 use native.Mathlib.Nat.{le-of-eq}
-use Rattle.bench.proofs.ReceiveSteps.{place-taken, place-filled, place-received}
+use Rattle.bench.proofs.DeliverySteps.{place-taken, place-filled, place-received}
 use Rattle.bench.proofs.QueueReads.{first-fits, place-fits, place-scaled, place-there}
 use Rattle.bench.proofs.ChoiceReads.{view-fits}
 use Rattle.bench.proofs.deliveries.receive_at.Statement.{statement}

@@ -6,9 +6,9 @@ use mathlib.Core.Path.{_≡_, sym, _∙_, refl, ap}
 use borrow.Author.Needs.{needs}
 use lib.ListN.{length}
 use native.Mathlib.Nat.{le-of-eq}
-use Rattle.bench.specs.Effects.{receptionSays, receptionBench, Accepts}
+use Rattle.bench.specs.Effects.{receptionResponse, receptionBench, Accepts}
 use Rattle.bench.specs.declared.effects.EndState.{EndState}
-use Rattle.bench.proofs.ArrivalSteps.{ArrivalTold, arrival-told, stands-in}
+use Rattle.bench.proofs.ArrivalSteps.{ArrivalFacts, arrival-told, stands-in}
 use Rattle.bench.specs.State.{State, state, networkOf}
 use Rattle.protocol.specs.Calls.{deliver, refuse}
 use Rattle.bench.specs.Changes.{refusalOf}
@@ -17,7 +17,7 @@ use Rattle.bench.proofs.TieRefusals.{refusal-ready}
 use Rattle.bench.proofs.TieRanges.{told, few}
 use Rattle.bench.proofs.TieChecks.{message-told}
 use Rattle.bench.proofs.QueueCalls.{delivery-told, deliver-refused, deliver-done}
-use Rattle.bench.proofs.ReceiveSteps.{reception-counted, reception-told}
+use Rattle.bench.proofs.DeliverySteps.{reception-counted, reception-told}
 use Rattle.bench.proofs.messages.deliver_ready.Statement.{statement}
 use Rattle.bench.proofs.messages.deliver_ready.Tie as tie
 
@@ -37,11 +37,11 @@ placed s = search needs
 there : (c : tie.Else1) → c .before .before .before .before .before .before .before .before .before .before .args .place < c .before .before .before .before .before .before .before .before .before .before .args .bench .messages
 there c = delivery-told (Given (c .before .before .before .before .before .before .before .before .before .before)) _ _ (same (c .before .before .before .before .before .before .before .before .before .before) _ (c .before .deliver-refusal .ensures (c .before .before .before .before .before .before .before .before .before .before .args .bench) refl refl)) (c .if1 .left) .listed
 
-arrives : (c : tie.Else1) → ArrivalTold (Given (c .before .before .before .before .before .before .before .before .before .before)) (c .before .before .before .before .before .before .before .before .before .before .args .place)
+arrives : (c : tie.Else1) → ArrivalFacts (Given (c .before .before .before .before .before .before .before .before .before .before)) (c .before .before .before .before .before .before .before .before .before .before .args .place)
 arrives c = arrival-told (Given (c .before .before .before .before .before .before .before .before .before .before)) (c .before .before .before .before .before .before .before .before .before .before .pre .0) _ (there c)
 
 -- layer 2 takes it at its end, which stands so in the bench
-taken : (c : tie.After-receive-at) → (deliveryOutcome (receptionSays (c .receive-at .result)) (receptionBench (c .receive-at .result) (c .before .before .before .before .before .before .before .before .before .before .before .before .before .before .before .before .before .before .before .before .before .before .before .args .bench) (c .before .before .before .before .before .before .before .before .before .before .before .before .before .before .before .before .before .before .before .before .before .before .before .args .bench .messages)) (c .receive-at .last .1 .1 .1 .1 .1 .1 .1 .1 .0) (c .receive-at .last .1 .1 .1 .1 .1 .1 .1 .1 .1 .0) (c .before .before .before .before .before .before .before .before .before .before .before .before .before .before .before .before .before .before .before .before .before .before .before .args .messages .now) ≡ received (Given (c .before .before .before .before .before .before .before .before .before .before .before .before .before .before .before .before .before .before .before .before .before .before .before)) (c .before .before .before .before .before .before .before .before .before .before .before .before .before .before .before .before .before .before .before .before .before .before .before .args .place)) × Accepts (c .receive-at .result)
+taken : (c : tie.After-receive-at) → (deliveryOutcome (receptionResponse (c .receive-at .result)) (receptionBench (c .receive-at .result) (c .before .before .before .before .before .before .before .before .before .before .before .before .before .before .before .before .before .before .before .before .before .before .before .args .bench) (c .before .before .before .before .before .before .before .before .before .before .before .before .before .before .before .before .before .before .before .before .before .before .before .args .bench .messages)) (c .receive-at .last .1 .1 .1 .1 .1 .1 .1 .1 .0) (c .receive-at .last .1 .1 .1 .1 .1 .1 .1 .1 .1 .0) (c .before .before .before .before .before .before .before .before .before .before .before .before .before .before .before .before .before .before .before .before .before .before .before .args .messages .now) ≡ received (Given (c .before .before .before .before .before .before .before .before .before .before .before .before .before .before .before .before .before .before .before .before .before .before .before)) (c .before .before .before .before .before .before .before .before .before .before .before .before .before .before .before .before .before .before .before .before .before .before .before .args .place)) × Accepts (c .receive-at .result)
 taken c =
     c .receive-at .ensures .0 (c .before .before .before .before .before .before .before .before .before .before .before .before .before .before .before .before .before .before .before .before .before .before .before .args .bench) (stands-in (c .before .before .before .before .before .before .before .before .before .before .before .before .before .before .before .before .before .before .before .before .before .before .before .args .bench) _ (c .before .before .before .before .before .before .before .before .before .before .before .before .before .before .before .before .before .before .before .before .before .before .before .args .old) _ (c .before .before .before .before .before .before .before .arrival-state .ensures) (c .before .before .before .before .before .before .before .before .before .before .before .before .before .before .before .before .before .before .before .before .before .before .before .pre .1 .1 (there (c .before .before .before .before .before .before .before .before .before .before .before .before .before)))) refl (c .before .before .before .before .before .before .before .before .before .before .before .before .before .before .before .before .before .before .before .before .before .before .before .pre .0) (there (c .before .before .before .before .before .before .before .before .before .before .before .before .before))
 

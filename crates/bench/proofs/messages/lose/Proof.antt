@@ -3,7 +3,7 @@ use mathlib.Core.Path.{sym, _∙_, refl}
 use borrow.Author.Needs.{needs}
 use borrow.Author.Tests.{not-true, not-false}
 use Rattle.bench.specs.Queue.{queueOutcome, loseOf}
-use Rattle.bench.proofs.EntrySettled.{out-of-range}
+use Rattle.bench.proofs.EntryOutcomes.{out-of-range}
 use Rattle.bench.proofs.QueueCalls.{flown-refused}
 use Rattle.bench.proofs.messages.lose.Statement.{statement}
 use Rattle.bench.proofs.messages.lose.Tie as tie

@@ -2,7 +2,7 @@
 use native.Mathlib.Omega.{arith}
 use mathlib.Core.Path.{refl, sym, _∙_}
 use Rattle.bench.specs.Queue.{queueOutcome, loseOf}
-use Rattle.bench.proofs.EntrySettled.{turned-down, goes-on}
+use Rattle.bench.proofs.EntryOutcomes.{turned-down, goes-on}
 use Rattle.bench.proofs.QueueRanges.{flight-told}
 use Rattle.bench.proofs.QueueCalls.{lose-same, lose-told}
 use Rattle.bench.proofs.messages.lose_ready.Statement.{statement}

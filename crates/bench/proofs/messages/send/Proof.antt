@@ -13,7 +13,7 @@ use Rattle.bench.specs.Queue.{queueOutcome, sendOf}
 use Rattle.bench.proofs.ChangeSteps.{length-mapped}
 use Rattle.bench.proofs.ChoiceReads.{record-fits}
 use Rattle.bench.proofs.QueueRanges.{flight-told}
-use Rattle.bench.proofs.EntrySettled.{out-of-range}
+use Rattle.bench.proofs.EntryOutcomes.{out-of-range}
 use Rattle.bench.proofs.QueueCalls.{flown-refused}
 use Rattle.bench.proofs.messages.send.Statement.{statement}
 use Rattle.bench.proofs.messages.send.Tie as tie

@@ -9,15 +9,15 @@ use mathlib.Core.List.{List, []}
 use borrow.Author.Needs.{needs}
 use lib.ListN.{length}
 use lib.Seq.{sets}
-use Rattle.agreement.specs.Call.{Response, says, carryingSays}
+use Rattle.agreement.specs.Call.{Response, says, carryingResponse}
 use Rattle.agreement.specs.declared.Agreement.{Agreement}
 use Rattle.protocol.specs.Calls.{send, refuse, messageOf}
 use Rattle.bench.specs.State.{networkOf}
 use Rattle.bench.specs.Queue.{queueOutcome, sendOf}
 use Rattle.bench.proofs.RangesSteps.{sent-stays}
-use Rattle.bench.proofs.EntrySettled.{turned-down, goes-on}
+use Rattle.bench.proofs.EntryOutcomes.{turned-down, goes-on}
 use Rattle.bench.proofs.QueueRanges.{flight-told}
-use Rattle.bench.proofs.QueueCalls.{send-same, SendTold, send-told, sent-numbers, said-same}
+use Rattle.bench.proofs.QueueCalls.{send-same, SendFacts, send-told, sent-numbers, said-same}
 use Rattle.bench.proofs.messages.send_ready.Statement.{statement}
 use Rattle.bench.proofs.messages.send_ready.Tie as tie
 
@@ -26,7 +26,7 @@ told :
     (s : tie.Start) (k : ℕ) →
     k ≡ refuse (networkOf (s .args .bench) []) (send (s .args .bridge) (s .args .link)) →
     k ≡ 0 →
-    SendTold (s .args .bench) (s .args .messages .now) (s .args .bridge) (s .args .link)
+    SendFacts (s .args .bench) (s .args .messages .now) (s .args .bridge) (s .args .link)
 told s k e none =
     let a = s .args in
     send-told (a .bench) (a .messages .now) (a .bridge) (a .link) (flight-told _ _ (s .pre .0) .0)
@@ -37,7 +37,7 @@ placed : (s : tie.Start) → length (s .args .bench .ends) ≡ 64
 placed s = search needs
 
 -- layer 2 carries what the message holds
-carries : (c : tie.After-carry) → let a = c .before .before .before .before .before .before .before .before .args in carryingSays (c .carry .result) ≡ says (messageOf (networkOf (a .bench) (a .messages .now)) (a .bridge) (a .link) .agreement)
+carries : (c : tie.After-carry) → let a = c .before .before .before .before .before .before .before .before .args in carryingResponse (c .carry .result) ≡ says (messageOf (networkOf (a .bench) (a .messages .now)) (a .bridge) (a .link) .agreement)
 carries c =
     let s = (c .before .before .before .before .before .before .before .before) in
     let accepted = told s _ (c .before .before .before .before .send-refusal .ensures (c .before .before .before .before .before .before .before .before .args .bench) refl refl refl refl refl) (c .before .before .before .if1 .left) in

@@ -4,7 +4,7 @@ use mathlib.Core.Path.{sym, _∙_}
 use borrow.Author.Needs.{needs}
 use Rattle.protocol.specs.Ports.{hopBy}
 use Rattle.bench.specs.Answers.{hopIn}
-use Rattle.bench.proofs.WalkSteps.{open-link}
+use Rattle.bench.proofs.PathSteps.{open-link}
 use Rattle.bench.proofs.ports.hop_at.Statement.{statement}
 use Rattle.bench.proofs.ports.hop_at.Tie as tie
 

@@ -7,8 +7,8 @@ use Rattle.agreement.specs.Call.{says}
 use Rattle.protocol.specs.Paths.{onward}
 use Rattle.bench.specs.State.{state}
 use Rattle.bench.specs.Answers.{hopIn}
-use Rattle.bench.specs.Steps.{hopSays, Tables}
-use Rattle.bench.proofs.WalkSteps.{hop-leads, onward-here, onward-stops, onward-more, onward-last}
+use Rattle.bench.specs.Steps.{protocolHop, Tables}
+use Rattle.bench.proofs.PathSteps.{hop-leads, onward-here, onward-stops, onward-more, onward-last}
 use Rattle.bench.proofs.ports.walk.Statement.{statement}
 use Rattle.bench.proofs.ports.walk.Tie as tie
 
@@ -48,7 +48,7 @@ enum-told c = c .match .keys2
 
 returns-2 : tie.Need-returns-2 Inv-loop μ-loop
 returns-2 c =
-    let hop = sym (c .before .before .before .before .before .before .hop-at .ensures .0) ∙ ap hopSays (c .enum-told .given .1) in
+    let hop = sym (c .before .before .before .before .before .before .hop-at .ensures .0) ∙ ap protocolHop (c .enum-told .given .1) in
     (ap says (sym (c .before .before .before .before .before .before .before .before .before .before .before .before .loop .inv .0 ∙ onward-stops _ _ _ _ _ (c .before .before .before .before .before .before .before .before .before .if2 .left) hop)), c .before .before .before .before .before .before .hop-at .ensures .1)
 
 add-hops : tie.Need-add-hops Inv-loop μ-loop
@@ -59,7 +59,7 @@ loop-less c = omega arith
 
 loop-again : tie.Need-loop-again Inv-loop μ-loop
 loop-again c =
-    let hop = sym (c .before .before .before .before .before .before .before .hop-at .ensures .0) ∙ ap hopSays (c .before .next .given .1) in
+    let hop = sym (c .before .before .before .before .before .before .before .hop-at .ensures .0) ∙ ap protocolHop (c .before .next .given .1) in
     let low = c .before .before .before .before .before .before .before .before .before .before .before .if1 .taken in (
       c .before .before .before .before .before .before .before .before .before .before .before .before .before .loop .inv .0 ∙ onward-more _ _ _ _ _ _ _ low (c .before .before .before .before .before .before .before .before .before .before .if2 .left) hop,
       hop-leads _ (c .before .before .before .before .before .before .before .before .before .before .before .before .before .before .before .before .before .before .before .before .pre .0 .ready) _ _ _ _ hop,

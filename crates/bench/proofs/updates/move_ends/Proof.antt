@@ -6,7 +6,7 @@ use borrow.Author.Needs.{needs}
 use lib.ListN.{length, getD, length-set}
 use native.Mathlib.Nat.{le-antisymm}
 use Rattle.agreement.specs.Call.{viewData}
-use Rattle.agreement.proofs.BetweenLaws.{EndListed, end-listed}
+use Rattle.agreement.proofs.BetweenLaws.{EndExists, end-listed}
 use Rattle.bench.specs.Changes.{ends, movedEnds}
 use Rattle.bench.specs.Chains.{IsNext}
 use Rattle.bench.proofs.ChangeSteps.{length-mapped}
@@ -47,7 +47,7 @@ own t = t .before .before .loop .inv .1 (t .if1 .taken)
 next-end : (t : tie.Then1 Inv-loop μ-loop) → IsNext (t .before .before .before .before .before .before .before .before .before .before .before .args .bench .links) (t .before .before .before .before .before .before .before .before .before .before .before .args .bench .ends) (t .before .before .before .before .before .before .before .before .before .before .before .args .bridge) (suc (t .before .before .loop .e)) (getD (t .before .before .before .before .before .before .before .before .before .before .before .args .chain .now) (t .before .before .loop .e) 0)
 next-end t = next-own (t .before .before .before .before .before .before .before .before .before .before .before .pre .0 .2) (t .if1 .taken) (own t)
 
-there : (t : tie.After-opposite-end Inv-loop μ-loop) → EndListed (t .before .before .before .before .before .before .before .before .before .before .before .before .args .bench .ends) (t .before .before .before .before .before .before .before .before .before .before .before .before .args .costs .now) (t .before .before .before .loop .e) (t .opposite-end .result)
+there : (t : tie.After-opposite-end Inv-loop μ-loop) → EndExists (t .before .before .before .before .before .before .before .before .before .before .before .before .args .bench .ends) (t .before .before .before .before .before .before .before .before .before .before .before .before .args .costs .now) (t .before .before .before .loop .e) (t .opposite-end .result)
 there t =
     let s = t .before .before .before .before .before .before .before .before .before .before .before .before in
     let e = t .before .before .before .loop .e in

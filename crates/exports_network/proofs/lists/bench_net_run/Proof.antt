@@ -82,8 +82,8 @@ slice-aggregate-bytes-of c = search needs
 bytes-of-requires : tie.Need-bytes-of-requires
 bytes-of-requires c κs = search needs
 
-settle-list-requires : tie.Need-settle-list-requires
-settle-list-requires c κs = (room 388 _ _ (c .before .before .before .before .before .before .before .before .before .before .before .before .before .before .before .before .before .before .before .before .before .before .before .before .before .holds .ensures) (c .before .before .before .before .before .before .before .before .before .before .before .before .before .before .before .before .before .before .before .before .before .before .before .before .if1 .left), c .before .before .before .before .before .before .before .before .before .before .before .before .before .before .before .before .before .before .before .before .before .before .before .if2 .left)
+store-batch-requires : tie.Need-store-batch-requires
+store-batch-requires c κs = (room 388 _ _ (c .before .before .before .before .before .before .before .before .before .before .before .before .before .before .before .before .before .before .before .before .before .before .before .before .before .holds .ensures) (c .before .before .before .before .before .before .before .before .before .before .before .before .before .before .before .before .before .before .before .before .before .before .before .before .if1 .left), c .before .before .before .before .before .before .before .before .before .before .before .before .before .before .before .before .before .before .before .before .before .before .before .if2 .left)
 
 same-length-3 : tie.Need-same-length-3
 same-length-3 c = search needs
@@ -106,7 +106,7 @@ same-length-8 c = search needs
 returns-3 : tie.Need-returns-3
 returns-3 c =
     told-so _ _ _ _ _ _ _ _ (passed (c .before .before .before .before .before .before .before .before .before .before .before .before .before .before .before .before .before .before .before .before .before .before .before .before .before .before .before .before .before .before .holds .ensures) (c .before .before .before .before .before .before .before .before .before .before .before .before .before .before .before .before .before .before .before .before .before .before .before .before .before .before .before .before .before .if1 .left)) (c .before .before .before .before .before .before .before .before .before .before .before .before .before .before .before .before .before .before .before .before .before .before .before .before .before .before .before .before .if2 .left) (rw (c .before .before .before .before .before .before .before .before .before .before .before .before .before .before .before .before .before .before .before .before .before .before .before .before .before .list-progress .ensures, c .before .before .before .before .before .before .before .before .before .before .before .before .before .before .before .before .before .before .before .before .before .before .before .before .before .before .load .ensures) at (c .before .before .before .before .before .before .before .before .before .before .before .before .before .before .before .before .before .before .before .before .before .before .before .read-events .ensures))
-    (rw (c .before .before .before .before .before .before .before .before .before .before .before .before .before .before .before .before .before .before .before .before .before .before .before .before .before .before .load .ensures) at (c .before .before .before .before .before .before .before .before .before .before .before .before .before .before .before .before .before .run .ensures)) (c .before .before .before .before .before .before .before .bytes-of .ensures) (c .before .before .before .before .settle-list .ensures)
+    (rw (c .before .before .before .before .before .before .before .before .before .before .before .before .before .before .before .before .before .before .before .before .before .before .before .before .before .before .load .ensures) at (c .before .before .before .before .before .before .before .before .before .before .before .before .before .before .before .before .before .run .ensures)) (c .before .before .before .before .before .before .before .bytes-of .ensures) (c .before .before .before .before .store-batch .ensures)
 
 pub bench-net-run-spec : {M : Type 1} → statement M
 bench-net-run-spec =
@@ -126,7 +126,7 @@ bench-net-run-spec =
     run-requires
     slice-aggregate-bytes-of
     bytes-of-requires
-    settle-list-requires
+    store-batch-requires
     same-length-3
     same-length-4
     same-length-5

@@ -23,15 +23,15 @@ load-requires c κs = room 388 _ _ (c .before .before .holds .ensures) (c .befor
 cut-requires : tie.Need-cut-requires
 cut-requires c κs = search needs
 
-settle-requires : tie.Need-settle-requires
-settle-requires c κs = room 388 _ _ (c .before .before .before .before .before .holds .ensures) (c .before .before .before .before .if1 .left)
+store-change-requires : tie.Need-store-change-requires
+store-change-requires c κs = room 388 _ _ (c .before .before .before .before .before .holds .ensures) (c .before .before .before .before .if1 .left)
 
 same-length-2 : tie.Need-same-length-2
 same-length-2 c = search needs
 
 returns-2 : tie.Need-returns-2
 unfolding netCutReply
-returns-2 c = rw (passed (c .before .before .before .before .before .before .before .before .holds .ensures) (c .before .before .before .before .before .before .before .if1 .left), ← c .before .before .before .before .before .load .ensures, ← c .before .before .before .before .cut .ensures .0, c .before .before .settle .ensures .0, c .before .before .settle .ensures .1)
+returns-2 c = rw (passed (c .before .before .before .before .before .before .before .before .holds .ensures) (c .before .before .before .before .before .before .before .if1 .left), ← c .before .before .before .before .before .load .ensures, ← c .before .before .before .before .cut .ensures .0, c .before .before .store-change .ensures .0, c .before .before .store-change .ensures .1)
 
 pub bench-net-cut-spec : {M : Type 1} → statement M
 bench-net-cut-spec =
@@ -42,6 +42,6 @@ bench-net-cut-spec =
     returns
     load-requires
     cut-requires
-    settle-requires
+    store-change-requires
     same-length-2
     returns-2)

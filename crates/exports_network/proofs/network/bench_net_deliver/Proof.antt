@@ -31,8 +31,8 @@ load-requires c κs = room 388 _ _ (c .before .before .before .holds .ensures) (
 deliver-requires : tie.Need-deliver-requires
 deliver-requires c κs = search needs
 
-settle-delivery-requires : tie.Need-settle-delivery-requires
-settle-delivery-requires c κs = (room 388 _ _ (c .before .before .before .before .before .before .before .before .before .before .before .before .before .before .before .before .holds .ensures) (c .before .before .before .before .before .before .before .before .before .before .before .before .before .before .before .if1 .left), c .before .before .before .before .before .before .before .before .before .before .before .before .before .before .if2 .left)
+store-delivery-requires : tie.Need-store-delivery-requires
+store-delivery-requires c κs = (room 388 _ _ (c .before .before .before .before .before .before .before .before .before .before .before .before .before .before .before .before .holds .ensures) (c .before .before .before .before .before .before .before .before .before .before .before .before .before .before .before .if1 .left), c .before .before .before .before .before .before .before .before .before .before .before .before .before .before .if2 .left)
 
 same-length-3 : tie.Need-same-length-3
 same-length-3 c = search needs
@@ -51,7 +51,7 @@ same-length-7 c = search needs
 
 returns-3 : tie.Need-returns-3
 unfolding netDeliverReply
-returns-3 c = rw (passed (c .before .before .before .before .before .before .before .before .before .before .before .before .before .before .before .before .before .before .before .before .before .holds .ensures) (c .before .before .before .before .before .before .before .before .before .before .before .before .before .before .before .before .before .before .before .before .if1 .left), le-leb _ _ (c .before .before .before .before .before .before .before .before .before .before .before .before .before .before .before .before .before .before .before .if2 .left), ← c .before .before .before .before .before .before .before .before .before .before .before .before .before .before .before .before .before .load .ensures, ← c .before .before .before .before .before .before .before .before .before .before .before .before .before .deliver .ensures, c .before .before .before .before .settle-delivery .ensures .0, c .before .before .before .before .settle-delivery .ensures .1, c .before .before .before .before .settle-delivery .ensures .2)
+returns-3 c = rw (passed (c .before .before .before .before .before .before .before .before .before .before .before .before .before .before .before .before .before .before .before .before .before .holds .ensures) (c .before .before .before .before .before .before .before .before .before .before .before .before .before .before .before .before .before .before .before .before .if1 .left), le-leb _ _ (c .before .before .before .before .before .before .before .before .before .before .before .before .before .before .before .before .before .before .before .if2 .left), ← c .before .before .before .before .before .before .before .before .before .before .before .before .before .before .before .before .before .load .ensures, ← c .before .before .before .before .before .before .before .before .before .before .before .before .before .deliver .ensures, c .before .before .before .before .store-delivery .ensures .0, c .before .before .before .before .store-delivery .ensures .1, c .before .before .before .before .store-delivery .ensures .2)
 
 pub bench-net-deliver-spec : {M : Type 1} → statement M
 bench-net-deliver-spec =
@@ -64,7 +64,7 @@ bench-net-deliver-spec =
     returns-2
     load-requires
     deliver-requires
-    settle-delivery-requires
+    store-delivery-requires
     same-length-3
     same-length-4
     same-length-5

@@ -31,8 +31,8 @@ load-requires c κs = room 388 _ _ (c .before .before .before .holds .ensures) (
 repeat-requires : tie.Need-repeat-requires
 repeat-requires c κs = search needs
 
-settle-delivery-requires : tie.Need-settle-delivery-requires
-settle-delivery-requires c κs = (room 388 _ _ (c .before .before .before .before .before .before .before .before .before .before .before .before .before .holds .ensures) (c .before .before .before .before .before .before .before .before .before .before .before .before .if1 .left), c .before .before .before .before .before .before .before .before .before .before .before .if2 .left)
+store-delivery-requires : tie.Need-store-delivery-requires
+store-delivery-requires c κs = (room 388 _ _ (c .before .before .before .before .before .before .before .before .before .before .before .before .before .holds .ensures) (c .before .before .before .before .before .before .before .before .before .before .before .before .if1 .left), c .before .before .before .before .before .before .before .before .before .before .before .if2 .left)
 
 same-length-3 : tie.Need-same-length-3
 same-length-3 c = search needs
@@ -48,7 +48,7 @@ same-length-6 c = search needs
 
 returns-3 : tie.Need-returns-3
 unfolding netRepeatReply
-returns-3 c = rw (passed (c .before .before .before .before .before .before .before .before .before .before .before .before .before .before .before .before .before .before .holds .ensures) (c .before .before .before .before .before .before .before .before .before .before .before .before .before .before .before .before .before .if1 .left), le-leb _ _ (c .before .before .before .before .before .before .before .before .before .before .before .before .before .before .before .before .if2 .left), ← c .before .before .before .before .before .before .before .before .before .before .before .before .before .before .load .ensures, ← c .before .before .before .before .before .before .before .before .before .before .before .repeat .ensures, c .before .before .before .before .settle-delivery .ensures .0, c .before .before .before .before .settle-delivery .ensures .1, c .before .before .before .before .settle-delivery .ensures .2)
+returns-3 c = rw (passed (c .before .before .before .before .before .before .before .before .before .before .before .before .before .before .before .before .before .before .holds .ensures) (c .before .before .before .before .before .before .before .before .before .before .before .before .before .before .before .before .before .if1 .left), le-leb _ _ (c .before .before .before .before .before .before .before .before .before .before .before .before .before .before .before .before .if2 .left), ← c .before .before .before .before .before .before .before .before .before .before .before .before .before .before .load .ensures, ← c .before .before .before .before .before .before .before .before .before .before .before .repeat .ensures, c .before .before .before .before .store-delivery .ensures .0, c .before .before .before .before .store-delivery .ensures .1, c .before .before .before .before .store-delivery .ensures .2)
 
 pub bench-net-repeat-spec : {M : Type 1} → statement M
 bench-net-repeat-spec =
@@ -61,7 +61,7 @@ bench-net-repeat-spec =
     returns-2
     load-requires
     repeat-requires
-    settle-delivery-requires
+    store-delivery-requires
     same-length-3
     same-length-4
     same-length-5

@@ -23,8 +23,8 @@ load-requires c κs = room 388 _ _ (c .before .before .holds .ensures) (c .befor
 send-requires : tie.Need-send-requires
 send-requires c κs = search needs
 
-settle-requires : tie.Need-settle-requires
-settle-requires c κs = room 388 _ _ (c .before .before .before .before .before .before .before .before .holds .ensures) (c .before .before .before .before .before .before .before .if1 .left)
+store-change-requires : tie.Need-store-change-requires
+store-change-requires c κs = room 388 _ _ (c .before .before .before .before .before .before .before .before .holds .ensures) (c .before .before .before .before .before .before .before .if1 .left)
 
 same-length-2 : tie.Need-same-length-2
 same-length-2 c = search needs
@@ -34,7 +34,7 @@ same-length-3 c = search needs
 
 returns-2 : tie.Need-returns-2
 unfolding netSendReply
-returns-2 c = rw (passed (c .before .before .before .before .before .before .before .before .before .before .before .holds .ensures) (c .before .before .before .before .before .before .before .before .before .before .if1 .left), ← c .before .before .before .before .before .before .before .before .load .ensures, ← c .before .before .before .before .before .before .send .ensures .0, c .before .before .settle .ensures .0, c .before .before .settle .ensures .1)
+returns-2 c = rw (passed (c .before .before .before .before .before .before .before .before .before .before .before .holds .ensures) (c .before .before .before .before .before .before .before .before .before .before .if1 .left), ← c .before .before .before .before .before .before .before .before .load .ensures, ← c .before .before .before .before .before .before .send .ensures .0, c .before .before .store-change .ensures .0, c .before .before .store-change .ensures .1)
 
 pub bench-net-send-spec : {M : Type 1} → statement M
 bench-net-send-spec =
@@ -45,7 +45,7 @@ bench-net-send-spec =
     returns
     load-requires
     send-requires
-    settle-requires
+    store-change-requires
     same-length-2
     same-length-3
     returns-2)

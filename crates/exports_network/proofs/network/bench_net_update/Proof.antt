@@ -23,8 +23,8 @@ load-requires c κs = room 388 _ _ (c .before .before .holds .ensures) (c .befor
 update-requires : tie.Need-update-requires
 update-requires c κs = search needs
 
-settle-requires : tie.Need-settle-requires
-settle-requires c κs = room 388 _ _ (c .before .before .before .before .before .before .before .before .before .before .before .holds .ensures) (c .before .before .before .before .before .before .before .before .before .before .if1 .left)
+store-change-requires : tie.Need-store-change-requires
+store-change-requires c κs = room 388 _ _ (c .before .before .before .before .before .before .before .before .before .before .before .holds .ensures) (c .before .before .before .before .before .before .before .before .before .before .if1 .left)
 
 same-length-2 : tie.Need-same-length-2
 same-length-2 c = search needs
@@ -37,7 +37,7 @@ same-length-4 c = search needs
 
 returns-2 : tie.Need-returns-2
 unfolding netUpdateReply
-returns-2 c = rw (passed (c .before .before .before .before .before .before .before .before .before .before .before .before .before .before .holds .ensures) (c .before .before .before .before .before .before .before .before .before .before .before .before .before .if1 .left), ← c .before .before .before .before .before .before .before .before .before .before .before .load .ensures, ← c .before .before .before .before .before .before .before .before .update .ensures .0, c .before .before .settle .ensures .0, c .before .before .settle .ensures .1)
+returns-2 c = rw (passed (c .before .before .before .before .before .before .before .before .before .before .before .before .before .before .holds .ensures) (c .before .before .before .before .before .before .before .before .before .before .before .before .before .if1 .left), ← c .before .before .before .before .before .before .before .before .before .before .before .load .ensures, ← c .before .before .before .before .before .before .before .before .update .ensures .0, c .before .before .store-change .ensures .0, c .before .before .store-change .ensures .1)
 
 pub bench-net-update-spec : {M : Type 1} → statement M
 bench-net-update-spec =
@@ -48,7 +48,7 @@ bench-net-update-spec =
     returns
     load-requires
     update-requires
-    settle-requires
+    store-change-requires
     same-length-2
     same-length-3
     same-length-4

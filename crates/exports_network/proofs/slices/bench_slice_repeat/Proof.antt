@@ -41,8 +41,8 @@ array-of-requires c κs = search needs
 repeat-requires : tie.Need-repeat-requires
 repeat-requires c κs = search needs
 
-settle-delivery-requires : tie.Need-settle-delivery-requires
-settle-delivery-requires c κs = (room 388 _ _ (c .before .before .before .before .before .before .before .before .before .before .before .before .before .before .holds .ensures) (c .before .before .before .before .before .before .before .before .before .before .before .before .before .if2 .left), c .before .before .before .before .before .before .before .before .before .before .before .before .if3 .left)
+store-delivery-requires : tie.Need-store-delivery-requires
+store-delivery-requires c κs = (room 388 _ _ (c .before .before .before .before .before .before .before .before .before .before .before .before .before .before .holds .ensures) (c .before .before .before .before .before .before .before .before .before .before .before .before .before .if2 .left), c .before .before .before .before .before .before .before .before .before .before .before .before .if3 .left)
 
 same-length-3 : tie.Need-same-length-3
 same-length-3 c = search needs
@@ -58,7 +58,7 @@ same-length-6 c = search needs
 
 returns-4 : tie.Need-returns-4
 unfolding sliceRepeatReply netRepeatReply followed
-returns-4 c = rw (le-leb _ _ (c .before .before .before .before .before .before .before .before .before .before .before .before .before .before .before .before .before .before .before .before .before .if1 .left), passed (c .before .before .before .before .before .before .before .before .before .before .before .before .before .before .before .before .before .before .before .holds .ensures) (c .before .before .before .before .before .before .before .before .before .before .before .before .before .before .before .before .before .before .if2 .left), le-leb _ _ (c .before .before .before .before .before .before .before .before .before .before .before .before .before .before .before .before .before .if3 .left), ← c .before .before .before .before .before .before .before .before .before .before .before .before .array-of .ensures, ← c .before .before .before .before .before .before .before .before .before .before .before .before .before .before .before .load .ensures, ← c .before .before .before .before .before .before .before .before .before .before .before .repeat .ensures, c .before .before .before .before .settle-delivery .ensures .0, c .before .before .before .before .settle-delivery .ensures .1, c .before .before .before .before .settle-delivery .ensures .2, c .before .before .before .before .before .before .before .before .before .before .before .before .array-of .ensures, take-append-drop 320 (c .before .before .before .before .before .before .before .before .before .before .before .before .before .before .before .before .before .before .before .before .before .before .before .before .before .before .before .before .args .messages .now))
+returns-4 c = rw (le-leb _ _ (c .before .before .before .before .before .before .before .before .before .before .before .before .before .before .before .before .before .before .before .before .before .if1 .left), passed (c .before .before .before .before .before .before .before .before .before .before .before .before .before .before .before .before .before .before .before .holds .ensures) (c .before .before .before .before .before .before .before .before .before .before .before .before .before .before .before .before .before .before .if2 .left), le-leb _ _ (c .before .before .before .before .before .before .before .before .before .before .before .before .before .before .before .before .before .if3 .left), ← c .before .before .before .before .before .before .before .before .before .before .before .before .array-of .ensures, ← c .before .before .before .before .before .before .before .before .before .before .before .before .before .before .before .load .ensures, ← c .before .before .before .before .before .before .before .before .before .before .before .repeat .ensures, c .before .before .before .before .store-delivery .ensures .0, c .before .before .before .before .store-delivery .ensures .1, c .before .before .before .before .store-delivery .ensures .2, c .before .before .before .before .before .before .before .before .before .before .before .before .array-of .ensures, take-append-drop 320 (c .before .before .before .before .before .before .before .before .before .before .before .before .before .before .before .before .before .before .before .before .before .before .before .before .before .before .before .before .args .messages .now))
 
 pub bench-slice-repeat-spec : {M : Type 1} → statement M
 bench-slice-repeat-spec =
@@ -73,7 +73,7 @@ bench-slice-repeat-spec =
     load-requires
     array-of-requires
     repeat-requires
-    settle-delivery-requires
+    store-delivery-requires
     same-length-3
     same-length-4
     same-length-5

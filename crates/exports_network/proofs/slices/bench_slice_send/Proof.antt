@@ -37,8 +37,8 @@ send-requires c κs = search needs
 put-array-requires : tie.Need-put-array-requires
 put-array-requires c κs = search needs
 
-settle-requires : tie.Need-settle-requires
-settle-requires c κs = room 388 _ _ (c .before .before .before .before .before .before .before .before .before .before .before .before .before .holds .ensures) (c .before .before .before .before .before .before .before .before .before .before .before .before .if2 .left)
+store-change-requires : tie.Need-store-change-requires
+store-change-requires c κs = room 388 _ _ (c .before .before .before .before .before .before .before .before .before .before .before .before .before .holds .ensures) (c .before .before .before .before .before .before .before .before .before .before .before .before .if2 .left)
 
 same-length-2 : tie.Need-same-length-2
 same-length-2 c = search needs
@@ -48,7 +48,7 @@ same-length-3 c = search needs
 
 returns-3 : tie.Need-returns-3
 unfolding sliceSendReply netSendReply followed
-returns-3 c = rw (le-leb _ _ (c .before .before .before .before .before .before .before .before .before .before .before .before .before .before .before .before .before .before .if1 .left), passed (c .before .before .before .before .before .before .before .before .before .before .before .before .before .before .before .before .holds .ensures) (c .before .before .before .before .before .before .before .before .before .before .before .before .before .before .before .if2 .left), ← c .before .before .before .before .before .before .before .before .before .before .before .array-of .ensures, ← c .before .before .before .before .before .before .before .before .before .before .before .before .before .load .ensures, ← c .before .before .before .before .before .before .before .before .before .before .send .ensures .0, c .before .before .before .before .before .before .before .put-array .ensures, c .before .before .settle .ensures .0, c .before .before .settle .ensures .1)
+returns-3 c = rw (le-leb _ _ (c .before .before .before .before .before .before .before .before .before .before .before .before .before .before .before .before .before .before .if1 .left), passed (c .before .before .before .before .before .before .before .before .before .before .before .before .before .before .before .before .holds .ensures) (c .before .before .before .before .before .before .before .before .before .before .before .before .before .before .before .if2 .left), ← c .before .before .before .before .before .before .before .before .before .before .before .array-of .ensures, ← c .before .before .before .before .before .before .before .before .before .before .before .before .before .load .ensures, ← c .before .before .before .before .before .before .before .before .before .before .send .ensures .0, c .before .before .before .before .before .before .before .put-array .ensures, c .before .before .store-change .ensures .0, c .before .before .store-change .ensures .1)
 
 pub bench-slice-send-spec : {M : Type 1} → statement M
 bench-slice-send-spec =
@@ -62,7 +62,7 @@ bench-slice-send-spec =
     array-of-requires
     send-requires
     put-array-requires
-    settle-requires
+    store-change-requires
     same-length-2
     same-length-3
     returns-3)

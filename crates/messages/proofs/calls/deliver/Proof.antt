@@ -42,7 +42,7 @@ use denote.Signature.{plain}
 use Rattle.bench.specs.declared.Bench.{Bench}
 use Rattle.bench.specs.declared.DeliveryResult.{DeliveryResult}
 use Rattle.bench.specs.State.{state}
-use Rattle.bench.specs.Deliveries.{reactionSays, deliveryOutcome, deliverOf}
+use Rattle.bench.specs.Deliveries.{reactionResponse, deliveryOutcome, deliverOf}
 use Rattle.bench.proofs.Bench as B
 use Rattle.bench.proofs.Bench.Laws as B′
 use Rattle.bench.proofs.DeliveryResult as R
@@ -92,7 +92,7 @@ stayed = (
 -- what `decide_deliver` ensures of its result and of the limit tables
 abbrev Delivers : Bench → List ℕ → List ℕ → List ℕ → List ℕ → ℕ → DeliveryResult → List ℕ → List ℕ → List ℕ → Type 0
 Delivers h costs sent held m p r ss hs zs =
-    deliveryOutcome (reactionSays (r .reply)) (r .bench) ss hs zs ≡ deliverOf (state h costs sent held m) p
+    deliveryOutcome (reactionResponse (r .reply)) (r .bench) ss hs zs ≡ deliverOf (state h costs sent held m) p
 
 abbrev Decides : Bench → List ℕ → List ℕ → List ℕ → List ℕ → ℕ → ℕ → Decided → List ℕ → List ℕ → Type 0
 Decides h costs sent held m n p d ss hs =
@@ -172,7 +172,7 @@ module _ {M : Type 1} (𝓤 : URA M) (H : Heap 𝓤) (A : Atoms 𝓤) (W : Given
       → Decides h (c .now) (s .now) (l .now) (took (length (x .now)) ns) (length (x .now)) p d ss hs → zs ≡ shiftedUp (d .from) (d .past) (x .now)
       → Delivers h (c .now) (s .now) (l .now) (flight (x .now)) p (d .delivered) ss hs (flight zs)
   done-as ns d ss hs zs e (g, (order, (low, few))) m =
-      ap (λ (y : List ℕ). deliveryOutcome (reactionSays (d .delivered .reply)) (d .delivered .bench) ss hs y) (ap flight m ∙ moved-flight (x .now) (d .from) (d .past) order few)
+      ap (λ (y : List ℕ). deliveryOutcome (reactionResponse (d .delivered .reply)) (d .delivered .bench) ss hs y) (ap flight m ∙ moved-flight (x .now) (d .from) (d .past) order few)
       ∙ subst (λ (y : List ℕ). Delivers h (c .now) (s .now) (l .now) y p (d .delivered) ss hs (shifted (d .from) (d .past) y)) e g
 
   exits :

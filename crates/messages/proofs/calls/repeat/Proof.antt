@@ -40,7 +40,7 @@ use denote.Signature.{plain}
 use Rattle.bench.specs.declared.Bench.{Bench}
 use Rattle.bench.specs.declared.DeliveryResult.{DeliveryResult}
 use Rattle.bench.specs.State.{state}
-use Rattle.bench.specs.Deliveries.{reactionSays, deliveryOutcome, repeatOf}
+use Rattle.bench.specs.Deliveries.{reactionResponse, deliveryOutcome, repeatOf}
 use Rattle.bench.proofs.Bench as B
 use Rattle.bench.proofs.Bench.Laws as B′
 use Rattle.bench.proofs.DeliveryResult as R
@@ -79,7 +79,7 @@ stayed = (
 -- what `decide_repeat` ensures of its result and of the limit tables
 abbrev Repeats : Bench → List ℕ → List ℕ → List ℕ → List ℕ → ℕ → DeliveryResult → List ℕ → List ℕ → Type 0
 Repeats h costs sent held m p r ss hs =
-    deliveryOutcome (reactionSays (r .reply)) (r .bench) ss hs m ≡ repeatOf (state h costs sent held m) p
+    deliveryOutcome (reactionResponse (r .reply)) (r .bench) ss hs m ≡ repeatOf (state h costs sent held m) p
 
 -- the last values of `decide_repeat`'s parameters: those of the limit tables are lists
 abbrev Lasting : Type 0

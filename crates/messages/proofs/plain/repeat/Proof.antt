@@ -44,7 +44,7 @@ use denote.Signature.{plain}
 use Rattle.bench.specs.declared.Bench.{Bench}
 use Rattle.bench.specs.declared.DeliveryResult.{DeliveryResult}
 use Rattle.bench.specs.State.{state}
-use Rattle.bench.specs.Deliveries.{reactionSays, deliveryOutcome, repeatOf}
+use Rattle.bench.specs.Deliveries.{reactionResponse, deliveryOutcome, repeatOf}
 use Rattle.bench.proofs.Bench as B
 use Rattle.bench.proofs.Bench.Laws as B′
 use Rattle.bench.proofs.DeliveryResult as R
@@ -83,7 +83,7 @@ stayed = (
 
 -- what is said of the answer r and of the limit tables' last lists, where the messages' numbers are m
 abbrev Repeats : Bench → List ℕ → List ℕ → List ℕ → List ℕ → ℕ → DeliveryResult → List ℕ → List ℕ → Type 0
-Repeats h costs sent held m p r ss es = deliveryOutcome (reactionSays (r .reply)) (r .bench) ss es m ≡ repeatOf (state h costs sent held m) p
+Repeats h costs sent held m p r ss es = deliveryOutcome (reactionResponse (r .reply)) (r .bench) ss es m ≡ repeatOf (state h costs sent held m) p
 
 -- the last values of `calls::repeat`'s parameters: those of the limit tables are lists
 abbrev Lasting : Type 0

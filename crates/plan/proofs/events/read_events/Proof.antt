@@ -9,10 +9,10 @@ use lib.ListN.{length, set, length-set}
 use lib.Seq.{set-out}
 use lib.Dec.{ltb}
 use Rattle.distances.proofs.Booleans.{both-true}
-use Rattle.bench.proofs.BatchTurns.{behind-all}
+use Rattle.bench.proofs.BatchLoop.{behind-all}
 use Rattle.plan.specs.Events.{eventsAt, listing, eventsReply}
 use Rattle.plan.proofs.EventLaws.{listed-within}
-use Rattle.plan.proofs.EventTurns.{Underway, Turned, begins, most-within, turned, ended, remaining, shrinks}
+use Rattle.plan.proofs.EventLoop.{Underway, LoopStep, begins, most-within, turned, ended, remaining, shrinks}
 use Rattle.plan.proofs.events.read_events.Statement.{statement}
 use Rattle.plan.proofs.events.read_events.Tie as tie
 
@@ -48,7 +48,7 @@ turn :
     let l = c .before .before .before .before .loop in
     let a = c .before .before .before .before .before .before .before .before .before .args in
     let most = c .before .before .before .before .before .most-read .result in
-    Turned (eventsAt most (a .p) (a .room) 0 (a .rest .now)) (a .rest .now) (a .p) most (a .ends .now) (l .ends) (l .events) (l .left) (l .at) (l .count) (c .next-event .result)
+    LoopStep (eventsAt most (a .p) (a .room) 0 (a .rest .now)) (a .rest .now) (a .p) most (a .ends .now) (l .ends) (l .events) (l .left) (l .at) (l .count) (c .next-event .result)
 turn c =
     let l = c .before .before .before .before .loop in
     let rest = c .before .before .before .before .before .before .before .before .before .args .rest .now in

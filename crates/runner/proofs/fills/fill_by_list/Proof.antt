@@ -57,14 +57,14 @@ slice-aggregate-run-by-value c = sym (length-take-le _ _ (omega (arith, c .befor
 run-by-value-requires : tie.Need-run-by-value-requires
 run-by-value-requires c κs = search needs
 
-slice-aggregate-batch-on : tie.Need-slice-aggregate-batch-on
-slice-aggregate-batch-on c = search needs
+slice-aggregate-batch-step : tie.Need-slice-aggregate-batch-step
+slice-aggregate-batch-step c = search needs
 
-slice-aggregate-batch-on-2 : tie.Need-slice-aggregate-batch-on-2
-slice-aggregate-batch-on-2 c = let few = length-take-le (c .before .before .before .before .before .before .before .before .before .before .before .before .before .before .before .before .before .answer-room .result) (replicate {A = ℕ} 2048 0) (omega (arith, c .before .before .before .before .before .before .before .before .before .before .before .before .before .before .before .before .before .answer-room .ensures, length-replicate {A = ℕ} 2048 0)) in sym (length-replicate {A = ℕ} 2048 0) ∙ whole-length (c .before .before .before .before .before .before .before .run-by-value .last .1 .1 .1 .1 .1 .1 .1 .0) (replicate 2048 0) (c .before .before .before .before .before .before .before .before .before .before .before .before .before .before .before .before .before .answer-room .result) (omega (arith, c .before .before .before .before .before .before .before .run-by-value .kept, few)) (omega (arith, c .before .before .before .before .before .before .before .before .before .before .before .before .before .before .before .before .before .answer-room .ensures, length-replicate {A = ℕ} 2048 0))
+slice-aggregate-batch-step-2 : tie.Need-slice-aggregate-batch-step-2
+slice-aggregate-batch-step-2 c = let few = length-take-le (c .before .before .before .before .before .before .before .before .before .before .before .before .before .before .before .before .before .answer-room .result) (replicate {A = ℕ} 2048 0) (omega (arith, c .before .before .before .before .before .before .before .before .before .before .before .before .before .before .before .before .before .answer-room .ensures, length-replicate {A = ℕ} 2048 0)) in sym (length-replicate {A = ℕ} 2048 0) ∙ whole-length (c .before .before .before .before .before .before .before .run-by-value .last .1 .1 .1 .1 .1 .1 .1 .0) (replicate 2048 0) (c .before .before .before .before .before .before .before .before .before .before .before .before .before .before .before .before .before .answer-room .result) (omega (arith, c .before .before .before .before .before .before .before .run-by-value .kept, few)) (omega (arith, c .before .before .before .before .before .before .before .before .before .before .before .before .before .before .before .before .before .answer-room .ensures, length-replicate {A = ℕ} 2048 0))
 
-batch-on-requires : tie.Need-batch-on-requires
-batch-on-requires c κs = result-fits (c .before .before .before .before .before .before .before .before .before .before .before .before .before .before .before .before .before .before .before .before .before .before .before .before .before .args .r) (c .before .before .before .before .before .before .before .before .before .before .before .before .before .before .before .before .before .before .before .before .before .before .before .before .before .args .costs .now) (c .before .before .before .before .before .before .before .before .before .before .before .before .before .before .before .before .before .before .before .before .before .before .before .before .before .args .sent .now) (c .before .before .before .before .before .before .before .before .before .before .before .before .before .before .before .before .before .before .before .before .before .before .before .before .before .args .held .now) (numbersIn (c .before .before .before .before .before .before .before .before .before .before .before .before .before .before .before .before .before .before .before .before .before .before .before .before .before .args .messages)) (c .before .before .before .before .before .before .before .before .before .before .before .before .before .before .before .before .before .before .before .before .before .before .before .before .before .args .out .now) (c .before .before .before .before .before .before .before .before .before .before .before .before .before .before .before .before .before .before .before .before .before .before .before .before .before .args .rest .now) (c .before .before .before .before .before .before .before .before .before .before .before .before .before .before .before .before .before .before .before .before .before .before .before .before .before .pre .0) (c .before .before .before .before .before .before .before .before .before .before .before .before .before .before .before .before .before .before .before .before .before .before .before .before .before .pre .1) _ (length-replicate {A = ℕ} 2049 0) (c .before .before .before .before .before .before .before .before .before .before .before .before .before .before .before .before .before .before .answer-room .result) (c .before .before .before .before .before .before .before .before .before .before .before .before .before .before .before .before .before .before .answer-room .ensures) _ _ (rw (c .before .before .before .before .before .before .before .before .before .before .before .before .before .before .before .before .before .list-progress .ensures) at (c .before .before .before .before .before .before .before .before .before .before .before .before .before .before .before .read-events .ensures)) (c .before .before .before .before .before .before .before .before .before .before .before .before .before .if1 .left) (c .before .before .before .before .before .before .before .before .run-by-value .result .batch) _ _ _ _ _ (length-take-le _ _ (omega (arith, c .before .before .before .before .before .before .before .before .before .before .before .before .before .before .before .before .before .before .answer-room .ensures, length-replicate {A = ℕ} 2048 0))) (c .before .before .before .before .before .before .before .before .run-by-value .ensures) _ (omega (arith, c .before .before .before .before .before .before .before .before .before .before .before .before .before .before .before .read-events .kept))
+batch-step-requires : tie.Need-batch-step-requires
+batch-step-requires c κs = result-fits (c .before .before .before .before .before .before .before .before .before .before .before .before .before .before .before .before .before .before .before .before .before .before .before .before .before .args .r) (c .before .before .before .before .before .before .before .before .before .before .before .before .before .before .before .before .before .before .before .before .before .before .before .before .before .args .costs .now) (c .before .before .before .before .before .before .before .before .before .before .before .before .before .before .before .before .before .before .before .before .before .before .before .before .before .args .sent .now) (c .before .before .before .before .before .before .before .before .before .before .before .before .before .before .before .before .before .before .before .before .before .before .before .before .before .args .held .now) (numbersIn (c .before .before .before .before .before .before .before .before .before .before .before .before .before .before .before .before .before .before .before .before .before .before .before .before .before .args .messages)) (c .before .before .before .before .before .before .before .before .before .before .before .before .before .before .before .before .before .before .before .before .before .before .before .before .before .args .out .now) (c .before .before .before .before .before .before .before .before .before .before .before .before .before .before .before .before .before .before .before .before .before .before .before .before .before .args .rest .now) (c .before .before .before .before .before .before .before .before .before .before .before .before .before .before .before .before .before .before .before .before .before .before .before .before .before .pre .0) (c .before .before .before .before .before .before .before .before .before .before .before .before .before .before .before .before .before .before .before .before .before .before .before .before .before .pre .1) _ (length-replicate {A = ℕ} 2049 0) (c .before .before .before .before .before .before .before .before .before .before .before .before .before .before .before .before .before .before .answer-room .result) (c .before .before .before .before .before .before .before .before .before .before .before .before .before .before .before .before .before .before .answer-room .ensures) _ _ (rw (c .before .before .before .before .before .before .before .before .before .before .before .before .before .before .before .before .before .list-progress .ensures) at (c .before .before .before .before .before .before .before .before .before .before .before .before .before .before .before .read-events .ensures)) (c .before .before .before .before .before .before .before .before .before .before .before .before .before .if1 .left) (c .before .before .before .before .before .before .before .before .run-by-value .result .batch) _ _ _ _ _ (length-take-le _ _ (omega (arith, c .before .before .before .before .before .before .before .before .before .before .before .before .before .before .before .before .before .before .answer-room .ensures, length-replicate {A = ℕ} 2048 0))) (c .before .before .before .before .before .before .before .before .run-by-value .ensures) _ (omega (arith, c .before .before .before .before .before .before .before .before .before .before .before .before .before .before .before .read-events .kept))
 
 same-length-5 : tie.Need-same-length-5
 same-length-5 c = search needs
@@ -79,7 +79,7 @@ same-length-8 : tie.Need-same-length-8
 same-length-8 c = search needs
 
 returns-2 : tie.Need-returns-2
-returns-2 c = rw (c .before .before .batch-on .ensures .1) (list-filled (c .before .before .before .before .before .before .before .before .before .before .before .before .before .before .before .before .before .before .before .before .before .before .before .before .before .before .before .before .args .r) (c .before .before .before .before .before .before .before .before .before .before .before .before .before .before .before .before .before .before .before .before .before .before .before .before .before .before .before .before .args .costs .now) (c .before .before .before .before .before .before .before .before .before .before .before .before .before .before .before .before .before .before .before .before .before .before .before .before .before .before .before .before .args .sent .now) (c .before .before .before .before .before .before .before .before .before .before .before .before .before .before .before .before .before .before .before .before .before .before .before .before .before .before .before .before .args .held .now) (numbersIn (c .before .before .before .before .before .before .before .before .before .before .before .before .before .before .before .before .before .before .before .before .before .before .before .before .before .before .before .before .args .messages)) (c .before .before .before .before .before .before .before .before .before .before .before .before .before .before .before .before .before .before .before .before .before .before .before .before .before .before .before .before .args .out .now) (c .before .before .before .before .before .before .before .before .before .before .before .before .before .before .before .before .before .before .before .before .before .before .before .before .before .before .before .before .args .rest .now) (c .before .before .before .before .before .before .before .before .before .before .before .before .before .before .before .before .before .before .before .before .before .before .before .before .before .before .before .before .pre .0) (c .before .before .before .before .before .before .before .before .before .before .before .before .before .before .before .before .before .before .before .before .before .before .before .before .before .before .before .before .pre .1) _ (length-replicate {A = ℕ} 2049 0) (c .before .before .before .before .before .before .before .before .before .before .before .before .before .before .before .before .before .before .before .before .before .answer-room .result) (c .before .before .before .before .before .before .before .before .before .before .before .before .before .before .before .before .before .before .before .before .before .answer-room .ensures) _ _ (rw (c .before .before .before .before .before .before .before .before .before .before .before .before .before .before .before .before .before .before .before .before .list-progress .ensures) at (c .before .before .before .before .before .before .before .before .before .before .before .before .before .before .before .before .before .before .read-events .ensures)) (c .before .before .before .before .before .before .before .before .before .before .before .before .before .before .before .before .if1 .left) (c .before .before .before .before .before .before .before .before .before .before .before .run-by-value .result .batch) _ _ _ _ _ (length-take-le _ _ (omega (arith, c .before .before .before .before .before .before .before .before .before .before .before .before .before .before .before .before .before .before .before .before .before .answer-room .ensures, length-replicate {A = ℕ} 2048 0))) (c .before .before .before .before .before .before .before .before .before .before .before .run-by-value .ensures) _ (c .before .before .batch-on .result) (c .before .before .batch-on .ensures .0))
+returns-2 c = rw (c .before .before .batch-step .ensures .1) (list-filled (c .before .before .before .before .before .before .before .before .before .before .before .before .before .before .before .before .before .before .before .before .before .before .before .before .before .before .before .before .args .r) (c .before .before .before .before .before .before .before .before .before .before .before .before .before .before .before .before .before .before .before .before .before .before .before .before .before .before .before .before .args .costs .now) (c .before .before .before .before .before .before .before .before .before .before .before .before .before .before .before .before .before .before .before .before .before .before .before .before .before .before .before .before .args .sent .now) (c .before .before .before .before .before .before .before .before .before .before .before .before .before .before .before .before .before .before .before .before .before .before .before .before .before .before .before .before .args .held .now) (numbersIn (c .before .before .before .before .before .before .before .before .before .before .before .before .before .before .before .before .before .before .before .before .before .before .before .before .before .before .before .before .args .messages)) (c .before .before .before .before .before .before .before .before .before .before .before .before .before .before .before .before .before .before .before .before .before .before .before .before .before .before .before .before .args .out .now) (c .before .before .before .before .before .before .before .before .before .before .before .before .before .before .before .before .before .before .before .before .before .before .before .before .before .before .before .before .args .rest .now) (c .before .before .before .before .before .before .before .before .before .before .before .before .before .before .before .before .before .before .before .before .before .before .before .before .before .before .before .before .pre .0) (c .before .before .before .before .before .before .before .before .before .before .before .before .before .before .before .before .before .before .before .before .before .before .before .before .before .before .before .before .pre .1) _ (length-replicate {A = ℕ} 2049 0) (c .before .before .before .before .before .before .before .before .before .before .before .before .before .before .before .before .before .before .before .before .before .answer-room .result) (c .before .before .before .before .before .before .before .before .before .before .before .before .before .before .before .before .before .before .before .before .before .answer-room .ensures) _ _ (rw (c .before .before .before .before .before .before .before .before .before .before .before .before .before .before .before .before .before .before .before .before .list-progress .ensures) at (c .before .before .before .before .before .before .before .before .before .before .before .before .before .before .before .before .before .before .read-events .ensures)) (c .before .before .before .before .before .before .before .before .before .before .before .before .before .before .before .before .if1 .left) (c .before .before .before .before .before .before .before .before .before .before .before .run-by-value .result .batch) _ _ _ _ _ (length-take-le _ _ (omega (arith, c .before .before .before .before .before .before .before .before .before .before .before .before .before .before .before .before .before .before .before .before .before .answer-room .ensures, length-replicate {A = ℕ} 2048 0))) (c .before .before .before .before .before .before .before .before .before .before .before .run-by-value .ensures) _ (c .before .before .batch-step .result) (c .before .before .batch-step .ensures .0))
 
 pub fill-by-list-spec : {M : Type 1} → statement M
 fill-by-list-spec =
@@ -100,9 +100,9 @@ fill-by-list-spec =
     array-borrow-prefix-answers
     slice-aggregate-run-by-value
     run-by-value-requires
-    slice-aggregate-batch-on
-    slice-aggregate-batch-on-2
-    batch-on-requires
+    slice-aggregate-batch-step
+    slice-aggregate-batch-step-2
+    batch-step-requires
     same-length-5
     same-length-6
     same-length-7

@@ -12,7 +12,7 @@ use mathlib.Core.Path.{_∙_}
 use borrow.Author.Needs.{needs}
 use Rattle.runner.specs.Steps.{fieldStep}
 use Rattle.runner.specs.Buffers.{Buffers, buffers}
-use Rattle.runner.proofs.StepTurns.{ended-on, accepted-turn, refused-turn}
+use Rattle.runner.proofs.FieldSteps.{ended-on, accepted-turn, refused-turn}
 use Rattle.runner.proofs.steps.event_step.Statement.{statement}
 use Rattle.runner.proofs.steps.event_step.Tie as tie
 

@@ -1,7 +1,7 @@
 -- `steps::field_step` meets its contract: each setup on all of the buffers, or an event. Assumes nothing.
 use borrow.Author.Needs.{needs}
 use Rattle.runner.specs.Steps.{fieldStep}
-use Rattle.runner.proofs.StepTurns.{setup-on}
+use Rattle.runner.proofs.FieldSteps.{setup-on}
 use Rattle.runner.proofs.steps.field_step.Statement.{statement}
 use Rattle.runner.proofs.steps.field_step.Tie as tie
 

@@ -1,4 +1,4 @@
--- `steps::step` meets its contract: stepOutcomeOn down, or the field that was read or the plan's end. Assumes nothing.
+-- `steps::step` meets its contract: outcomeOn down, or the field that was read or the plan's end. Assumes nothing.
 use Prim.Native.Nat.{_<_}
 use native.Mathlib.Omega.{arith}
 use mathlib.Core.Bool.{Bool, _&&_}
@@ -13,7 +13,7 @@ use Rattle.plan.specs.Fields.{byte}
 use Rattle.runner.specs.Steps.{runnerInRange}
 use Rattle.messages.specs.Slices.{numbersIn}
 use Rattle.runner.specs.Buffers.{Buffers, buffers, buffersLong}
-use Rattle.runner.proofs.StepTurns.{step-told, ended-on, field-fits, field-used, stop-turn, field-turn, step-out, step-read}
+use Rattle.runner.proofs.FieldSteps.{step-told, ended-on, field-fits, field-used, stop-turn, field-turn, step-out, step-read}
 use Rattle.runner.proofs.steps.step.Statement.{statement}
 use Rattle.runner.proofs.steps.step.Tie as tie
 

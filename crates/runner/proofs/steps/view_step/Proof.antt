@@ -1,13 +1,13 @@
--- `steps::view_step` meets its contract: refused where the network cannot be made, else the row is stored and the network opened. Assumes nothing.
+-- `steps::view_step` meets its contract: refused where the network cannot be made, else the row is stored and the network freshWithView. Assumes nothing.
 use mathlib.Core.Path.{_≡_, sym, _∙_, ap}
 use mathlib.Core.Bool.{Bool, true, false, cond}
 use borrow.Author.Tests.{not-true, not-false}
 use borrow.Author.Needs.{needs}
 use Rattle.messages.specs.Slices.{numbersIn}
 use Rattle.runner.specs.Buffers.{Buffers, buffers}
-use Rattle.runner.specs.Steps.{withView, withRow, opened, mayView, fieldStep}
-use Rattle.runner.proofs.StepTurns.{setup-on, ended-on}
-use Rattle.runner.proofs.ViewTurns.{opened-reply, view-ends, view-turn}
+use Rattle.runner.specs.Steps.{withView, withRow, freshWithView, mayView, fieldStep}
+use Rattle.runner.proofs.FieldSteps.{setup-on, ended-on}
+use Rattle.runner.proofs.ViewSteps.{fresh-with-view-reply, view-ends, view-turn}
 use Rattle.runner.proofs.steps.view_step.Statement.{statement}
 use Rattle.runner.proofs.steps.view_step.Tie as tie
 
@@ -23,11 +23,11 @@ replied :
     t ≡ mayView (s .args .r .bench) →
     t ≡ q →
     let a = s .args in
-    opened (withView (a .r .bench)) (withRow (a .rest .now) (a .r .bench) (a .costs .now)) (a .sent .now) (a .held .now) .reply ≡ cond q 0 17
+    freshWithView (withView (a .r .bench)) (withRow (a .rest .now) (a .r .bench) (a .costs .now)) (a .sent .now) (a .held .now) .reply ≡ cond q 0 17
 replied s q same is =
     let a = s .args in
     let p = s .pre in
-    opened-reply (a .rest .now) (a .r .bench) (a .costs .now) (a .sent .now) (a .held .now) (p .1) (p .0 .2) (p .0 .3) (p .0 .4)
+    fresh-with-view-reply (a .rest .now) (a .r .bench) (a .costs .now) (a .sent .now) (a .held .now) (p .1) (p .0 .2) (p .0 .3) (p .0 .4)
     ∙ ap (λ (x : Bool). cond x 0 17) (sym same ∙ is)
 
 may-view-requires : tie.Need-may-view-requires
@@ -53,8 +53,8 @@ store-row-requires c κs = (c .before .before .before .before .before .before .b
 with-view-requires : tie.Need-with-view-requires
 with-view-requires c κs = c .before .before .before .before .before .before .before .before .before .before .before .before .pre .1 .room
 
-open-requires : tie.Need-open-requires
-open-requires c κs = rw (c .before .before .before .with-view .ensures, c .before .before .before .before .before .before .store-row .ensures) (replied (c .before .before .before .before .before .before .before .before .before .before .before .before .before .before .before .before) true (c .before .before .before .before .before .before .before .before .before .may-view .ensures) (not-false _ (c .before .before .before .before .before .before .before .before .if1 .left)))
+fresh-with-view-requires : tie.Need-fresh-with-view-requires
+fresh-with-view-requires c κs = rw (c .before .before .before .with-view .ensures, c .before .before .before .before .before .before .store-row .ensures) (replied (c .before .before .before .before .before .before .before .before .before .before .before .before .before .before .before .before) true (c .before .before .before .before .before .before .before .before .before .may-view .ensures) (not-false _ (c .before .before .before .before .before .before .before .before .if1 .left)))
 
 set-up-requires : tie.Need-set-up-requires
 set-up-requires c κs = (c .before .before .before .before .before .before .before .before .before .before .before .before .before .before .before .before .before .before .before .before .before .pre .0 .0, c .before .before .before .before .before .before .before .before .before .before .before .before .before .before .before .before .before .before .before .before .before .pre .0 .1)
@@ -73,7 +73,7 @@ unfolding fieldStep
 returns-2 c =
     let s = c .before .before .before .before .before .before .before .before .before .before .before .before .before .before .before .before .before .before .before .before .before .before in
     rw (← c .before .before .before .before .before .before .before .before .before .with-view .ensures, ← c .before .before .before .before .before .before .before .before .before .before .before .before .store-row .ensures, c .set-up .ensures .1)
-    (setup-on _ _ _ _ _ (c .set-up .ensures .0) ∙ view-turn (s .args .used) (s .args .r) (BuffersOf s) _ _ (c .before .before .before .before .before .«open» .ensures))
+    (setup-on _ _ _ _ _ (c .set-up .ensures .0) ∙ view-turn (s .args .used) (s .args .r) (BuffersOf s) _ _ (c .before .before .before .before .before .fresh-with-view .ensures))
 
 pub view-step-spec : {M : Type 1} → statement M
 view-step-spec =
@@ -85,7 +85,7 @@ view-step-spec =
     returns
     store-row-requires
     with-view-requires
-    open-requires
+    fresh-with-view-requires
     set-up-requires
     same-length-2
     same-length-3

@@ -1,11 +1,11 @@
--- `lists::refused_on` meets its contract. Assumes nothing.
+-- `lists::with_refusal` meets its contract. Assumes nothing.
 use Rattle.runner.proofs.ListTexts.{refused-room, refused-few, refused-behind}
 use Rattle.text.proofs.Laws.{length-refusedText}
 use mathlib.Core.Path.{refl}
 use native.Mathlib.Omega.{arith}
 use borrow.Author.Needs.{needs}
-use Rattle.runner.proofs.lists.refused_on.Statement.{statement}
-use Rattle.runner.proofs.lists.refused_on.Tie as tie
+use Rattle.runner.proofs.lists.with_refusal.Statement.{statement}
+use Rattle.runner.proofs.lists.with_refusal.Tie as tie
 
 sub-last-line : tie.Need-sub-last-line
 sub-last-line c = omega (arith, c .before .before .before .pre .1)
@@ -28,8 +28,8 @@ returns c = (refused-behind (c .before .before .before .before .before .before .
 add-t9 : tie.Need-add-t9
 add-t9 c = record { fits = omega (arith, refused-few (c .before .before .before .before .before .before .before .args .done) _ (c .before .before .before .before .before .before .before .pre .0) (c .before .before .before .before .before .before .before .args .out .now) (c .before .before .before .before .before .before .before .pre .1) (c .before .before .last-line .ensures), c .before .before .before .before .before .before .before .pre .1, c .before .before .before .before .before .before .before .good) }
 
-pub refused-on-spec : {M : Type 1} → statement M
-refused-on-spec =
+pub with-refusal-spec : {M : Type 1} → statement M
+with-refusal-spec =
     tie.close
     (tie.spec
     sub-last-line

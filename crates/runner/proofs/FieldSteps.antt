@@ -140,7 +140,7 @@ unfolding readStep
 field-turn rest r k read same = rw same
 
 module _ (rest : List ℕ) (r : Runner) (k : Buffers) where
-  -- stepOutcomeOn down, or read
+  -- outcomeOn down, or read
   pub step-out : (runnerInRange r && buffersLong k) ≡ false → stepOutcome 17 false 0 0 r k ≡ stepOf r k rest
   unfolding stepOf
   step-out e = rw e

@@ -1,4 +1,4 @@
--- `carry_out` meets its contract: what was printed and what is still to be printed make up the whole, and a write that failed had a byte
+-- `run_plan` meets its contract: what was printed and what is still to be printed make up the whole, and a write that failed had a byte
 -- of it. Assumes nothing.
 use Rattle.play.proofs.Printing.{left, Place, begun, ended, turned, stopped, fewer-left, whole-few}
 use Rattle.runner.specs.Buffers.{buffers}
@@ -10,8 +10,8 @@ use lib.ListN.{length, replicate, length-replicate}
 use mathlib.Core.Path.{_≡_, refl, sym}
 use native.Mathlib.Omega.{arith}
 use Prim.Native.Nat.{ℕ, _≤_}
-use Rattle.play.proofs.carry_out.Statement.{statement}
-use Rattle.play.proofs.carry_out.Tie as tie
+use Rattle.play.proofs.run_plan.Statement.{statement}
+use Rattle.play.proofs.run_plan.Tie as tie
 
 abbrev Inv-loop : tie.InvT-loop
 Inv-loop plan out₀ costs₀ sent₀ held₀ messages₀ r₀ at₀ printed₀ going₀ out costs sent held messages r at printed going =
@@ -85,8 +85,8 @@ loop-again c = let kept = c .before .before .before .before .before .before .bef
 returns-2 : tie.Need-returns-2 Inv-loop μ-loop
 returns-2 c = ended _ _ _ _ _ _ (c .loop-test .left) (c .before .loop .inv .0)
 
-pub carry-out-spec : {M : Type 1} → statement M
-carry-out-spec =
+pub run-plan-spec : {M : Type 1} → statement M
+run-plan-spec =
     tie.close
     (tie.spec
     Inv-loop

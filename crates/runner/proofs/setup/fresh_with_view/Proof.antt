@@ -1,8 +1,8 @@
--- `setup::open` meets its contract: fresh with the first view, else as it is. Assumes nothing.
+-- `setup::fresh_with_view` meets its contract: fresh with the first view, else as it is. Assumes nothing.
 use borrow.Author.Needs.{needs}
-use Rattle.runner.proofs.ViewTurns.{opens, stays}
-use Rattle.runner.proofs.setup.open.Statement.{statement}
-use Rattle.runner.proofs.setup.open.Tie as tie
+use Rattle.runner.proofs.ViewSteps.{opens, stays}
+use Rattle.runner.proofs.setup.fresh_with_view.Statement.{statement}
+use Rattle.runner.proofs.setup.fresh_with_view.Tie as tie
 
 fresh-requires : tie.Need-fresh-requires
 fresh-requires c κs = search needs
@@ -19,8 +19,8 @@ returns c = opens _ _ _ _ (c .before .before .before .before .before .before .be
 returns-2 : tie.Need-returns-2
 returns-2 c = stays _ _ _ _ (c .if1 .left)
 
-pub open-spec : {M : Type 1} → statement M
-open-spec =
+pub fresh-with-view-spec : {M : Type 1} → statement M
+fresh-with-view-spec =
     tie.close (tie.spec
     fresh-requires
     same-length

@@ -25,9 +25,9 @@ use Rattle.runner.specs.Buffers.{buffers}
 use Rattle.runner.specs.Events.{eventText, textOf}
 use Rattle.runner.specs.Steps.{StepOutcome, stepOutcome}
 use Rattle.runner.specs.Fills.{fills, stepOn}
-use Rattle.runner.specs.Lists.{textsOf, refusedOn, endedOn, SomeNumber}
+use Rattle.runner.specs.Lists.{textsOf, withRefusal, withDisposition, SomeNumber}
 use Rattle.runner.proofs.FillTexts.{text-short}
-use Rattle.runner.proofs.FillTurns.{fills-more, fills-over}
+use Rattle.runner.proofs.FillSteps.{fills-more, fills-over}
 use Rattle.runner.proofs.ListTexts.{above}
 use Rattle.runner.proofs.ListSteps.{stateAt, Roomy, eventOn, steps-on, step-on-event, step-on-refused}
 
@@ -91,8 +91,8 @@ texts-few room s (e ∷ es) = go (texts-few (room - length (answersOf s e)) (ste
         ))
 
 -- a refusal is the last step
-refused-ends : (k : ℕ) (t : StepOutcome) → refusedOn k t .going ≡ false
-unfolding refusedOn
+refused-ends : (k : ℕ) (t : StepOutcome) → withRefusal k t .going ≡ false
+unfolding withRefusal
 refused-ends k t = refl
 
 -- what is left of the plan begins with the list, at `off` in the whole plan
@@ -177,26 +177,26 @@ module _ (rest : List ℕ) (off : ℕ) where
       (t : StepOutcome) (at numbers : ℕ) → At at t → ReadAs (listProgress (t .runner .bench)) (drop (t .used) rest) at xs → Roomy rest (length xs) numbers t →
       answerSizes (t .runner .bench .bridges) (eventsOf xs) ≤ numbers →
       let b : Batch = batchFrom numbers (stateAt t) (eventsOf xs) in
-      fills (length xs) t rest ≡ endedOn (b .disposition) (listOn t at xs b)
+      fills (length xs) t rest ≡ withDisposition (b .disposition) (listOn t at xs b)
 
   pub list-steps : (xs : List Placed) → Steps xs
-  unfolding fills endedOn eventsOf answerSizes
+  unfolding fills withDisposition eventsOf answerSizes
   list-steps [] t at numbers here read roomy sizes = rw runs-none (none-on 0 numbers t at [] Disposition.Complete here roomy)
   list-steps (x ∷ xs) t at numbers here read roomy sizes = go (list-steps xs) (eventBatchIn numbers (stateAt t) (x .event)) refl (first-of numbers (stateAt t) (x .event))
     where
       go :
           Steps xs → (b : Batch) → eventBatchIn numbers (stateAt t) (x .event) ≡ b → First numbers (stateAt t) (x .event) b →
           let r : Batch = batchFrom numbers (stateAt t) (eventsOf (x ∷ xs)) in
-          fills (suc (length xs)) t rest ≡ endedOn (r .disposition) (listOn t at (x ∷ xs) r)
+          fills (suc (length xs)) t rest ≡ withDisposition (r .disposition) (listOn t at (x ∷ xs) r)
       go later b is (full few) = absurd (omega (arith, few, sizes))
       go later b is (refused some) =
           let k : ℕ = replyOf (stateAt t) (x .event) in
-          let end : StepOutcome = refusedOn k t in
+          let end : StepOutcome = withRefusal k t in
           rw (runs-unmade numbers (stateAt t) (x .event) (eventsOf xs) b is refl)
           (fills-more (length xs) t rest (steps-on rest _ numbers t roomy)
           ∙ ap (λ (z : StepOutcome). fills (length xs) z rest) (step-on-refused rest _ numbers t roomy (x .event) (read .used) (read .read) some)
           ∙ fills-over (length xs) end rest (refused-ends k t)
-          ∙ ap (refusedOn k) (none-on _ numbers t at (x ∷ xs) (Disposition.Refused k) here roomy))
+          ∙ ap (withRefusal k) (none-on _ numbers t at (x ∷ xs) (Disposition.Refused k) here roomy))
       go later b is (made none fits) =
           let s : State = stateAt t in
           let u : StepOutcome = eventOn t (x .event) (read .used) in
@@ -218,4 +218,4 @@ module _ (rest : List ℕ) (off : ℕ) where
           reads
           (roomy-on (length xs) numbers t roomy at here x none fits (read .used) (read .past) (size .1))
           left
-          ∙ ap (endedOn (then .disposition)) (list-on (length xs) numbers t roomy at here x none fits (read .used) (read .past) xs then))
+          ∙ ap (withDisposition (then .disposition)) (list-on (length xs) numbers t roomy at here x none fits (read .used) (read .past) xs then))

@@ -107,7 +107,7 @@ begins rest p most room first going is =
 abbrev counts : ℕ → NextEvent → ℕ
 counts count n = cond (eqb (n .used) 0) count (suc count)
 
-pub record Turned (all : List Placed) (rest : List ℕ) (p : Progress) (most : ℕ) (first ends : List ℕ) (events : List Event) (left at count : ℕ) (n : NextEvent) : Type 0 where
+pub record LoopStep (all : List Placed) (rest : List ℕ) (p : Progress) (most : ℕ) (first ends : List ℕ) (events : List Event) (left at count : ℕ) (n : NextEvent) : Type 0 where
   pub size : n .size ≤ left
   pub then :
       Underway all rest p most first (set ends (counts count n) (at + n .used)) (set events count (n .event)) (left - n .size) (at + n .used) (counts count n)
@@ -193,10 +193,10 @@ module _
         long = length-set ends count at ∙ old .long;
       })
 
-  pub turned : Turned all rest p most first ends events left at count n
+  pub turned : LoopStep all rest p most first ends events left at count n
   turned = go (rw (sym is) at (next-or-none p left (drop at rest) (most - suc count) at))
     where
-      go : GoesOn p left (drop at rest) (most - suc count) at n next ⊎ Ends p left (drop at rest) n next → Turned all rest p most first ends events left at count n
+      go : GoesOn p left (drop at rest) (most - suc count) at n next ⊎ Ends p left (drop at rest) n next → LoopStep all rest p most first ends events left at count n
       go (inl on) =
           let some : eqb (n .used) 0 ≡ false = ne-eqb (n .used) 0 (omega (arith, field-size (drop at rest) p (on .goes .read) .0)) in
           record { size = on .goes .fits; then = rw some (goes-on on) }

@@ -1,9 +1,9 @@
--- `lists::settle_list` meets its contract. The counts are stored, and the bench where an event was made. Assumes nothing.
+-- `lists::store_batch` meets its contract. The counts are stored, and the bench where an event was made. Assumes nothing.
 use borrow.Author.Tests.{eq-eqb, ne-eqb}
 use mathlib.Core.Path.{_≡_, refl}
 use borrow.Author.Needs.{needs}
-use Rattle.exports_network.proofs.lists.settle_list.Statement.{statement}
-use Rattle.exports_network.proofs.lists.settle_list.Tie as tie
+use Rattle.exports_network.proofs.lists.store_batch.Statement.{statement}
+use Rattle.exports_network.proofs.lists.store_batch.Tie as tie
 
 low-of-requires : tie.Need-low-of-requires
 low-of-requires c κs = search needs
@@ -41,8 +41,8 @@ returns-2 c = (c .refusal-in2 .ensures, rw (ne-eqb _ 0 (c .before .before .befor
 put-three-requires : tie.Need-put-three-requires
 put-three-requires c κs = search needs
 
-pub settle-list-spec : {M : Type 1} → statement M
-settle-list-spec =
+pub store-batch-spec : {M : Type 1} → statement M
+store-batch-spec =
     tie.close
     (tie.spec
     low-of-requires

@@ -1,10 +1,10 @@
--- `network::settle_delivery` meets its contract. The bench and the answer are stored where there is an answer. Assumes nothing.
+-- `network::store_delivery` meets its contract. The bench and the answer are stored where there is an answer. Assumes nothing.
 use mathlib.Core.Path.{_≡_, refl}
 use Rattle.exports_network.specs.Network.{withAnswered}
 use Rattle.encoding.specs.Replies.{withValue}
 use borrow.Author.Needs.{needs}
-use Rattle.exports_network.proofs.network.settle_delivery.Statement.{statement}
-use Rattle.exports_network.proofs.network.settle_delivery.Tie as tie
+use Rattle.exports_network.proofs.network.store_delivery.Statement.{statement}
+use Rattle.exports_network.proofs.network.store_delivery.Tie as tie
 
 enum-known-reply : tie.Need-enum-known-reply
 enum-known-reply c = search needs
@@ -32,8 +32,8 @@ returns-2 : tie.Need-returns-2
 unfolding withValue withAnswered
 returns-2 c = rw (c .before .before .before .before .before .before .before .before .before .reply2 .given .1, c .before .before .before .before .before .before .store .ensures, c .before .before .put-answer .ensures) (refl, refl, refl)
 
-pub settle-delivery-spec : {M : Type 1} → statement M
-settle-delivery-spec =
+pub store-delivery-spec : {M : Type 1} → statement M
+store-delivery-spec =
     tie.close
     (tie.spec
     enum-known-reply

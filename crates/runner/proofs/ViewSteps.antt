@@ -14,7 +14,7 @@ use Rattle.bench.specs.declared.Bench.{Bench}
 use Rattle.bench.proofs.FreshCalls.{fresh-reply}
 use Rattle.text.specs.Lines.{refusedText}
 use Rattle.runner.specs.Buffers.{Buffers, buffers}
-use Rattle.runner.specs.Steps.{lastStep, lastText, setupStep, withView, withRow, opened, viewStep, mayView, ViewFits}
+use Rattle.runner.specs.Steps.{lastStep, lastText, setupStep, withView, withRow, freshWithView, viewStep, mayView, ViewFits}
 use Rattle.runner.specs.declared.Runner.{Runner}
 use Rattle.runner.proofs.RunSetup.{row-kept, row-passes}
 
@@ -33,9 +33,9 @@ module _
   rows-long : 1024 ≤ length rows
   rows-long = rw (row-kept rest b costs (fits .room) long) long
 
-  pub opened-reply : opened (withView b) rows sent held .reply ≡ cond (mayView b) 0 17
-  unfolding opened
-  opened-reply = go (eqb (b .views) 0) refl
+  pub fresh-with-view-reply : freshWithView (withView b) rows sent held .reply ≡ cond (mayView b) 0 17
+  unfolding freshWithView
+  fresh-with-view-reply = go (eqb (b .views) 0) refl
     where
       first : b .views ≡ 0 → (t : ℕ) → t < b .views + 1 → costsPass (b .links) (part 32 t rows) ≡ true
       first none t h = let same : t ≡ b .views = omega arith in rw same (row-passes rest b costs fits long)
@@ -55,24 +55,24 @@ pub opens :
     b .views ≡ 1 →
     {reply : ℕ} {after : Bench} {sentNow heldNow : List ℕ} →
     changeOutcome reply after sentNow heldNow ≡ freshOf b costs sent held →
-    opened b costs sent held .reply ≡ 0 →
-    changeOutcome 0 after sentNow heldNow ≡ opened b costs sent held
-unfolding opened
+    freshWithView b costs sent held .reply ≡ 0 →
+    changeOutcome 0 after sentNow heldNow ≡ freshWithView b costs sent held
+unfolding freshWithView
 opens b costs sent held first {reply} {after} {sentNow} {heldNow} e none =
     let test = eq-eqb (b .views) 1 first in
     let done : reply ≡ 0 = ap (λ (o : ChangeOutcome). o .reply) e ∙ (rw test at none) in
     rw test (ap (λ (n : ℕ). changeOutcome n after sentNow heldNow) (sym done) ∙ e)
 
 -- with a further one all is as it is
-pub stays : (b : Bench) (costs sent held : List ℕ) → (b .views ≡ 1 → ⊥) → changeOutcome 0 b sent held ≡ opened b costs sent held
-unfolding opened
+pub stays : (b : Bench) (costs sent held : List ℕ) → (b .views ≡ 1 → ⊥) → changeOutcome 0 b sent held ≡ freshWithView b costs sent held
+unfolding freshWithView
 stays b costs sent held later = rw (ne-eqb (b .views) 1 later)
 
 module _ (used : ℕ) (r : Runner) (k : Buffers) (b : Bench) (costs : List ℕ) where
   abbrev network : ChangeOutcome
-  network = opened b costs (k .sent) (k .held)
+  network = freshWithView b costs (k .sent) (k .held)
 
-  -- the plan goes on with what was opened, or it ends
+  -- the plan goes on with what was freshWithView, or it ends
   pub view-goes :
       network .reply ≡ 0 →
       viewStep used b costs r k ≡ setupStep used (network .bench) 2 r (buffers costs (network .sent) (network .held) (k .messages) (k .out))
@@ -83,7 +83,7 @@ module _ (used : ℕ) (r : Runner) (k : Buffers) (b : Bench) (costs : List ℕ) 
   unfolding viewStep lastText
   view-ends e = rw e
 
-  -- what was opened, carried into a turn
+  -- what was freshWithView, carried into a turn
   pub view-turn :
       {bench : Bench} {sent held : List ℕ} →
       changeOutcome 0 bench sent held ≡ network →

@@ -37,11 +37,12 @@ PathFits (PathReply.Refused k) = Unit {0}
 PathFits (PathReply.Delivered h) = h < 4294967296
 PathFits (PathReply.Stops last h) = (last < 4294967296) × (h < 4294967296)
 
--- the port that layer 2 finds for bridge y, in y's view
+-- the port of a reply, closed where there is none
 unfoldable pub found : List Port → Port
 found [] = Closed
 found (p ∷ ps) = p
 
+-- the port that layer 2 finds for bridge y, in y's view
 unfoldable pub portIn : State → ℕ → ℕ → Port
 portIn s y d =
     let b : Bench = s .bench in
@@ -54,7 +55,7 @@ unfoldable pub portOf : State → ℕ → ℕ → Response Port
 portOf s y d =
     orRefused (refusalOf (stateInRange s) (network s) (calls.port y d)) refusedBy (says (portIn s y d))
 
--- The report of destination d: for each bridge below k its distance in its own view and its link, NONE for no port
+-- bridge y in a report of destination d: its distance in its own view and its link, NONE for no port
 unfoldable pub reportedRow : State → ℕ → ℕ → List ℕ → List ℕ
 reportedRow s d y rows =
     set
@@ -62,6 +63,7 @@ reportedRow s d y rows =
     (2 * y + 1)
     (linkNumber (portIn s y d))
 
+-- The report of destination d, for each bridge below k
 unfoldable pub reported : State → ℕ → ℕ → List ℕ → List ℕ
 reported s d zero rows = rows
 reported s d (suc y) rows = reportedRow s d y (reported s d y rows)

@@ -113,11 +113,11 @@ fn answer_delivery(reception: Reception, count: usize, answers: &mut [u32]) -> E
     }
 }
 
-fn answer_path(way: PathReply, answers: &mut [u32]) -> EventResult
-    requires { ⌜ (3 ≤ length (now answers)) × PathFits way ⌝ }
-    ensures { λ r. ⌜ (r ≡ eventResult (pathResponse way .number) 3 Same) × (now (answers .exit) ≡ sets (now (answers .entry)) 0 (valueNumbers pathNumbers (pathResponse way .value))) ⌝ }
+fn answer_path(reply: PathReply, answers: &mut [u32]) -> EventResult
+    requires { ⌜ (3 ≤ length (now answers)) × PathFits reply ⌝ }
+    ensures { λ r. ⌜ (r ≡ eventResult (pathResponse reply .number) 3 Same) × (now (answers .exit) ≡ sets (now (answers .entry)) 0 (valueNumbers pathNumbers (pathResponse reply .value))) ⌝ }
 {
-    match way {
+    match reply {
         PathReply::Delivered(hops) => {
             encoding::put_three(0, 0, hops as u32, answers);
             event_result(0, ANSWER, Effect::Same)
@@ -277,8 +277,8 @@ fn carry_out(
         Event::Path(start, dest) => {
             let y = start as usize;
             let d = dest as usize;
-            let way = answers::path_ready(bench, costs, tables, known, chain, sent, held, y, d);
-            answer_path(way, answers)
+            let reply = answers::path_ready(bench, costs, tables, known, chain, sent, held, y, d);
+            answer_path(reply, answers)
         }
     }
 }

@@ -1,6 +1,7 @@
 // The parts of a fresh network.
 use crate::Bench;
 use agreement::sizes::ENDS;
+use distances::sizes::MOST_BRIDGES;
 use distances::sizes::MOST_LINKS;
 ghost use mathlib.Core.Path.{_≡_};
 ghost use Prim.Native.Nat.{_*_, _≤_};
@@ -38,8 +39,8 @@ pub(crate) fn fresh_bench(bench: Bench) -> Bench
     ensures { λ r. ⌜ r ≡ freshBench bench ⌝ }
 {
     let ends = bench.ends;
-    let view = [0u8; 16];
-    let number = [1u16; 16];
+    let view = [0u8; MOST_BRIDGES];
+    let number = [1u16; MOST_BRIDGES];
     let record = agreement::calls::fresh_record();
     let records = [record; ENDS];
     let cut = [false; MOST_LINKS];

@@ -13,6 +13,7 @@ use agreement::choices::next_choice;
 use agreement::choices::port_by;
 use agreement::ready::opposite_end;
 use agreement::sizes::ENDS;
+use distances::sizes::MOST_BRIDGES;
 use distances::sizes::ROW;
 use distances::sizes::TABLE;
 ghost use mathlib.Core.Path.{_≡_};
@@ -138,7 +139,7 @@ fn first_choices(bench: Bench, tables: &[u32], dest: usize) -> [Choice; 16]
     ensures { λ r. ⌜ ((costs sent held : List ℕ) → AllFilled bench costs (now (tables .entry)) → AreChoices (state bench costs sent held []) dest 0 (bench .bridges) r) ⌝ }
 {
     let none = first_choice(0, true);
-    let mut choices = [none; 16];
+    let mut choices = [none; MOST_BRIDGES];
     let mut y = 0;
     while y < bench.bridges {
         let view = bench.view[y] as usize;

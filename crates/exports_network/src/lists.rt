@@ -36,7 +36,7 @@ fn store_batch(batch: BatchResult, used: usize, numbers: &mut [u32], out: &mut [
 
 // `bench::batches::run` of the events at the head of a plan's bytes, as many as have room for what they answer with: the number of the
 // event that was refused, else 0. How many were made goes to out[0], how many bytes they take to out[1], how many numbers they answered
-// with to out[2]; these are zeros where the network is out of range, and `out` is as it was where a list is too short or a number fits no field.
+// with to out[2]; these are zeros where the network is out of range or another list too short, and `out` is as it was where it is too short itself or `bench` holds no bench.
 #[no_mangle]
 pub extern "C" fn bench_net_run(
     bench: &mut [u32],

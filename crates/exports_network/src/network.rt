@@ -271,8 +271,8 @@ pub extern "C" fn bench_net_path(
         return 17;
     }
     let old = benches::load(bench);
-    let way = answers::path(old, costs, sent, held, start, dest);
-    match way {
+    let reply = answers::path(old, costs, sent, held, start, dest);
+    match reply {
         PathReply::Refused(by) => by,
         PathReply::Delivered(hops) => {
             encoding::put_three(0, 0, benches::low_of(hops), out);

@@ -121,7 +121,7 @@ pub fn list_progress(bench: Bench) -> Progress
     }
 }
 
-// The bytes of the first `made` events, by where each ends; 0 for more than there are.
+// The bytes of the first `made` events, by where each ends; 0 past the lent numbers.
 pub fn bytes_of(ends: &[u16], made: usize) -> usize
     ensures { λ r. ⌜ r ≡ bytesBy (now (ends .entry)) made ⌝ }
 {

@@ -3,9 +3,9 @@ use Prim.Native.Nat.{ℕ, suc, _+_, _-_, _≤_, _<_}
 use native.Mathlib.Omega.{arith}
 use mathlib.Core.Path.{_≡_, refl, sym, ap, subst, _∙_}
 use mathlib.Core.Bool.{Bool, true, false, cond}
-use mathlib.Core.List.{List, []}
+use mathlib.Core.List.{List, [], _++_}
 use lib.ListN.{length, take, drop, length-append, length-drop}
-use lib.Seq.{take-all, length-take-le, drop-drop}
+use lib.Seq.{take-all, length-take-le, drop-drop, drop-at, take-append-seam}
 use Rattle.runner.specs.Buffers.{Buffers}
 use Rattle.runner.specs.Steps.{StepOutcome}
 use Rattle.runner.specs.Plans.{firstRunner, firstBuffers, prints}
@@ -14,11 +14,18 @@ use Rattle.runner.specs.declared.Runner.{Runner}
 use Rattle.runner.proofs.FillSteps.{fill-within}
 use Rattle.runner.proofs.FillLaws.{fill-prints, first-out, prints-most}
 
--- the bytes that a plan prints
-abbrev pub whole : List ℕ → ℕ
-whole plan = length (prints (suc (length plan)) firstRunner firstBuffers plan)
+-- what a plan prints, and how many bytes that is
+abbrev pub text : List ℕ → List ℕ
+text plan = prints (suc (length plan)) firstRunner firstBuffers plan
 
--- those that are still to be printed where a plan stands
+abbrev pub whole : List ℕ → ℕ
+whole plan = length (text plan)
+
+-- what is still to be printed where a plan stands
+abbrev pub textLeft : Bool → List ℕ → Runner → Buffers → List ℕ
+textLeft going rest r k = cond going (prints (suc (length rest)) r k rest) []
+
+-- and how many bytes that is
 abbrev pub toPrint : Bool → List ℕ → Runner → Buffers → ℕ
 toPrint going rest r k = cond going (length (prints (suc (length rest)) r k rest)) 0
 
@@ -29,9 +36,15 @@ left going plan at = cond going (suc (length plan - at)) 0
 pub record Place (plan : List ℕ) (going : Bool) (at printed : ℕ) (r : Runner) (k : Buffers) : Type 0 where
   pub within : at ≤ length plan
   pub counted : printed + toPrint going (drop at plan) r k ≡ whole plan
+  pub next : drop printed (text plan) ≡ textLeft going (drop at plan) r k
 
 pub begun : (plan out : List ℕ) (r : Runner) → 544 ≤ length out → r ≡ firstRunner → Place plan true 0 0 r (buffersWithOut out firstBuffers)
-begun plan out r long e = record { within = omega arith; counted = rw e (omega (arith, ap length (first-out plan out long))) }
+begun plan out r long e =
+    record {
+      within = omega arith;
+      counted = rw e (omega (arith, ap length (first-out plan out long)));
+      next = rw e (sym (first-out plan out long));
+    }
 
 pub ended : (plan : List ℕ) (going : Bool) (at printed : ℕ) (r : Runner) (k : Buffers) → going ≡ false → Place plan going at printed r k → printed ≡ whole plan
 ended plan going at printed r k e p = omega (arith, rw e at (p .counted))
@@ -44,6 +57,7 @@ cond-length false l = refl
 pub record LoopStep (plan : List ℕ) (at printed : ℕ) (t : StepOutcome) : Type 0 where
   pub written : t .written ≤ length (t .buffers .out)
   pub fits : printed + t .written ≤ whole plan
+  pub bytes : take (length (take (t .written) (t .buffers .out))) (drop printed (text plan)) ≡ take (t .written) (t .buffers .out)
   pub place : Place plan (t .going) (at + t .used) (printed + t .written) (t .runner) (t .buffers)
   pub fewer : left (t .going) plan (at + t .used) < suc (length plan - at)
 
@@ -66,6 +80,18 @@ module _ (plan : List ℕ) (at printed : ℕ) (r : Runner) (k : Buffers) (p : Pl
         cond-length (t .going) later,
       )
 
+  abbrev later : List ℕ
+  later = textLeft (t .going) (drop (t .used) rest) (t .runner) (t .buffers)
+
+  comes-next : drop printed (text plan) ≡ take (t .written) (t .buffers .out) ++ later
+  comes-next = p .next ∙ fill-prints r k rest
+
+  behind : drop (printed + t .written) (text plan) ≡ later
+  behind =
+      sym (drop-drop (t .written) printed (text plan))
+      ∙ ap (drop (t .written)) comes-next
+      ∙ drop-at (take (t .written) (t .buffers .out)) later (t .written) (length-take-le (t .written) (t .buffers .out) (fill-within r k rest .written))
+
   used-some : (b : Bool) → t .going ≡ b → left b plan (at + t .used) < suc (length plan - at)
   used-some true e = omega (arith, fill-within r k rest .goes e, fill-within r k rest .used, length-drop at plan)
   used-some false e = omega arith
@@ -75,10 +101,12 @@ module _ (plan : List ℕ) (at printed : ℕ) (r : Runner) (k : Buffers) (p : Pl
       record {
         written = fill-within r k rest .written;
         fits = omega (arith, split, p .counted);
+        bytes = ap (take (length (take (t .written) (t .buffers .out)))) comes-next ∙ take-append-seam (take (t .written) (t .buffers .out)) later;
         place =
             record {
               within = omega (arith, p .within, fill-within r k rest .used, length-drop at plan);
               counted = rw (← drop-drop (t .used) at plan) (omega (arith, split, p .counted));
+              next = rw (← drop-drop (t .used) at plan) behind;
             };
         fewer = used-some (t .going) refl;
       }

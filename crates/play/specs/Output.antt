@@ -2,7 +2,7 @@
 use Prim.Native.Nat.{ℕ, suc, _≤_, _<_}
 use mathlib.Core.Path.{_≡_}
 use mathlib.Core.List.{List, _++_}
-use lib.ListN.{length, take}
+use lib.ListN.{length, take, drop}
 use Rattle.runner.specs.Plans.{printed}
 use Rattle.play.specs.declared.Input.{Input}
 use Rattle.play.specs.declared.Reply.{Reply}
@@ -24,3 +24,7 @@ pub data Played (begun : List ℕ) : Reply → Type 0 where
 abbrev pub ReadBehind : ℕ → Input → List ℕ → List ℕ → Type 0
 ReadBehind from (Input.Read end) before after = (from ≤ end) × (end ≤ length after) × (take from after ≡ take from before)
 ReadBehind from Input.Failed before after = Unit {0}
+
+-- these bytes come next in a plan's output, behind the first `from` of it
+abbrev pub IsNext : List ℕ → ℕ → List ℕ → Type 0
+IsNext plan from bytes = take (length bytes) (drop from (printed plan)) ≡ bytes

@@ -12,7 +12,7 @@ ghost use mathlib.Core.Bool.{false};
 ghost use mathlib.Core.List.{[]};
 ghost use Prim.Native.Nat.{suc, _≤_, _<_};
 ghost use lib.ListN.{length};
-ghost use Rattle.play.specs.Output.{Handed, Played, ReadBehind};
+ghost use Rattle.play.specs.Output.{Handed, Played, ReadBehind, IsNext};
 ghost use Rattle.runner.specs.Plans.{firstRunner, firstBuffers, prints, printed};
 ghost use Rattle.text.specs.Lines.{refusedText};
 
@@ -116,13 +116,14 @@ pub fn print(plan: &[u8]) -> Reply
     ensures { λ r. ⌜ Handed r (printed (now (plan .entry))) ⌝ }
 {
     if LONGEST_PLAN < plan.len() {
-        return too_long();
+        return too_long(plan);
     }
     run_plan(plan)
 }
 
 // Prints the refusal of a plan that is too long.
-fn too_long() -> Reply
+fn too_long(plan: &[u8]) -> Reply
+    requires { ⌜ 61440 < length (now plan) ⌝ }
     ensures { λ r. ⌜ Handed r (refusedText 18 61440) ⌝ }
 {
     let mut out = [0u8; LONGEST];
@@ -131,7 +132,7 @@ fn too_long() -> Reply
     let Written::Bytes(written) = text else {
         return Reply::Unread;
     };
-    if !hand_on(&out[..written]) {
+    if !hand_on(plan, 0, &out[..written]) {
         return Reply::Stopped(0);
     }
     Reply::Printed(written)
@@ -162,7 +163,7 @@ fn run_plan(plan: &[u8]) -> Reply
             &mut out,
         );
         let written = filled.written;
-        if !hand_on(&out[..written]) {
+        if !hand_on(plan, printed, &out[..written]) {
             return Reply::Stopped(printed);
         }
         printed += written;
@@ -174,8 +175,10 @@ fn run_plan(plan: &[u8]) -> Reply
     Reply::Printed(printed)
 }
 
-// Writes these bytes to standard output; false where that failed. Without a byte to write nothing fails.
-fn hand_on(bytes: &[u8]) -> bool
+// Writes the bytes that come next in a plan's output, behind the first `from`, to standard output; false where that failed. Without a byte to
+// write nothing fails. The plan is handed over for the contract: nothing else writes, so nothing but the plan's output is written.
+fn hand_on(plan: &[u8], from: usize, bytes: &[u8]) -> bool
+    requires { ⌜ IsNext (now plan) from (now bytes) ⌝ }
     ensures { λ r. ⌜ (r ≡ false → 0 < length (now (bytes .entry))) ⌝ }
 {
     if bytes.len() == 0 {

@@ -22,7 +22,7 @@ use Rattle.runner.specs.Events.{textOf, stateAfter, Line, line, lineOf}
 use Rattle.runner.specs.Steps.{StepOutcome, stepOutcome, lastStep, lastText, setupStep, eventStep, fieldStep, readStep, stepOf, stopNumber, runnerInRange, fieldFits}
 use Rattle.runner.specs.declared.Runner.{Runner}
 
--- a private call is lent nothing, or the bytes to be printed alone: its turn on all of the buffers
+-- a private call is lent nothing, or the bytes to be printed alone: its step on all of the buffers
 pub setup-on :
     (used : ℕ) (b : Bench) (stage : ℕ) (r : Runner) (k : Buffers) {reply : ℕ} {going : Bool} {taken written : ℕ} {runner : Runner} →
     stepOutcome reply going taken written runner (buffers [] [] [] [] []) ≡ setupStep used b stage r (buffers [] [] [] [] []) →
@@ -140,7 +140,7 @@ unfolding readStep
 field-turn rest r k read same = rw same
 
 module _ (rest : List ℕ) (r : Runner) (k : Buffers) where
-  -- outcomeOn down, or read
+  -- refused, or read
   pub step-out : (runnerInRange r && buffersLong k) ≡ false → stepOutcome 17 false 0 0 r k ≡ stepOf r k rest
   unfolding stepOf
   step-out e = rw e

@@ -83,7 +83,7 @@ last-short number events offset = go (eqb number 0)
     go true = length-endText events
     go false = length-refusedText number offset
 
--- ---- a turn, as it goes by the bytes to be printed
+-- ---- a step, as it goes by the bytes to be printed
 
 pub record Texts (most : ℕ) (f : List ℕ → StepOutcome) : Type 0 where
   pub reply : ℕ

@@ -97,7 +97,7 @@ refused-ends k t = refl
 
 -- what is left of the plan begins with the list, at `off` in the whole plan
 module _ (rest : List ℕ) (off : ℕ) where
-  -- the texts of a list, and the turn with it carried out
+  -- the texts of a list, and the step with it carried out
   abbrev pub textsOn : StepOutcome → List Placed → Batch → List ℕ
   textsOn t xs b = textsOf (t .runner .bench .bridges) (take (b .made) (eventsOf xs)) (b .answers)
 
@@ -107,7 +107,7 @@ module _ (rest : List ℕ) (off : ℕ) where
       (record { bench = b .state .bench; stage = 3; events = t .runner .events + b .made; offset = off + lastEnd at (take (b .made) xs) })
       (buffers (b .state .costs) (b .state .sent) (b .state .held) (b .state .messages) (sets (t .buffers .out) (t .written) (textsOn t xs b)))
 
-  -- where a turn stands in the list
+  -- where a step stands in the list
   pub record At (at : ℕ) (t : StepOutcome) : Type 0 where
     pub used : t .used ≡ at
     pub offset : t .runner .offset ≡ off + at

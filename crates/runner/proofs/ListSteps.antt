@@ -36,7 +36,7 @@ behind-is out text w fits =
     ∙ sym (append-assoc (take w out) text (drop (w + length text) out))
     ∙ sym (sets-eq text out w fits)
 
--- the bench's state at a turn
+-- the bench's state at a step
 abbrev pub stateAt : StepOutcome → State
 stateAt t = stateOn (t .runner .bench) (t .buffers)
 
@@ -53,7 +53,7 @@ pub record Roomy (rest : List ℕ) (more numbers : ℕ) (t : StepOutcome) : Type
   pub held : 1024 ≤ length (t .buffers .held)
   pub messages : 320 ≤ length (t .buffers .messages)
 
--- the turn with an event of so many bytes carried out
+-- the step with an event of so many bytes carried out
 abbrev pub eventOn : StepOutcome → Event → ℕ → StepOutcome
 eventOn t e used =
     let s : State = stateAt t in

@@ -27,7 +27,7 @@ pub record RunsTo (s : State) (end : Position) (cs : List Call) : Type 0 where
   pub state : stateAt end ≡ runBy s cs
   pub stage : end .runner .stage ≡ 3
 
--- what follows a turn
+-- what follows a step
 abbrev pub callsAfter : ℕ → List ℕ → List Call → StepOutcome → List Call
 callsAfter fuel rest read t = cond (t .going) (read ++ calls fuel (t .runner) (t .buffers) (drop (t .used) rest)) []
 

@@ -1,4 +1,4 @@
--- A view's turn: where it may be taken, the network is made or stands, and else the plan ends. Assumes nothing.
+-- A view's step: where it may be taken, the network is made or stands, and else the plan ends. Assumes nothing.
 use Prim.Native.Nat.{ℕ, _+_, _≤_, _<_}
 use native.Mathlib.Omega.{arith}
 use mathlib.Core.Path.{_≡_, refl, sym, _∙_, ap}
@@ -72,7 +72,7 @@ module _ (used : ℕ) (r : Runner) (k : Buffers) (b : Bench) (costs : List ℕ) 
   abbrev network : ChangeOutcome
   network = freshWithView b costs (k .sent) (k .held)
 
-  -- the plan goes on with what was freshWithView, or it ends
+  -- the plan goes on with the network, or it ends
   pub view-goes :
       network .reply ≡ 0 →
       viewStep used b costs r k ≡ setupStep used (network .bench) 2 r (buffers costs (network .sent) (network .held) (k .messages) (k .out))
@@ -83,7 +83,7 @@ module _ (used : ℕ) (r : Runner) (k : Buffers) (b : Bench) (costs : List ℕ) 
   unfolding viewStep lastText
   view-ends e = rw e
 
-  -- what was freshWithView, carried into a turn
+  -- the network, carried into a step
   pub view-turn :
       {bench : Bench} {sent held : List ℕ} →
       changeOutcome 0 bench sent held ≡ network →

@@ -43,13 +43,13 @@ listFits r left = eqb (r .stage) 3 && (leb (r .events + mostEvents) longestPlan 
 abbrev pub answerRoom : ℕ → ℕ
 answerRoom bytes = min mostAnswers ((bytes - longestText) / bytesForANumber)
 
--- how many fields are carried out at once: the events of a list, as long as their answers have room, or else one
+-- how many fields are carried out at once: the events of a list, as long as their answers have room; one where no list fits
 unfoldable pub fieldsAtOnce : Runner → Buffers → List ℕ → ℕ
 fieldsAtOnce r k rest =
     cond (listFits r (length rest) && buffersLong k)
     (length (eventsAt mostEvents (listProgress (r .bench)) (answerRoom (length (k .out))) 0 rest)) 1
 
--- a step, which may be refused with 17, and those of the other fields
+-- a step, which may be refused with 17, and those of the other fields; where no event comes next the step alone
 unfoldable pub fillOf : Runner → Buffers → List ℕ → StepOutcome
 fillOf r k rest = fills (fieldsAtOnce r k rest - 1) (stepOf r k rest) rest
 

@@ -51,7 +51,7 @@ withRefusal number t =
     stepOutcome number false (t .used) (t .written + length text) (t .runner)
     (buffersWithOut (sets (t .buffers .out) (t .written) text) (t .buffers))
 
--- why a list ended
+-- with the refusal of the next event, if that is why the list ended
 unfoldable pub withDisposition : Disposition → StepOutcome → StepOutcome
 withDisposition Disposition.Complete t = t
 withDisposition (Disposition.Refused k) t = withRefusal k t

@@ -1,4 +1,4 @@
-// A plan carried out field by field: one step reads a field, does what it says, and writes the lines that it prints.
+// A plan carried out, field by field and its events in lists: what a field says is done, and the lines that it prints are written.
 use bench::Bench;
 use bench::sizes::MOST_MESSAGES;
 use messages::Message;

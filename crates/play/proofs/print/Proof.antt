@@ -11,7 +11,7 @@ use Rattle.play.proofs.print.Statement.{statement}
 use Rattle.play.proofs.print.Tie as tie
 
 too-long-requires : tie.Need-too-long-requires
-too-long-requires c κs = search needs
+too-long-requires c κs = omega (arith, c .if1 .taken)
 
 returns : tie.Need-returns
 returns c = subst (Handed (c .too-long .result)) (sym (printed-refused (c .before .before .before .args .plan .now) (omega (arith, c .before .if1 .taken)))) (c .too-long .ensures)

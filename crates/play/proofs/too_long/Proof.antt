@@ -1,14 +1,16 @@
 -- `too_long` meets its contract: the text has room, and is handed on whole or not at all. Assumes nothing.
 use Rattle.runner.proofs.EventSteps.{counted}
+use Rattle.runner.proofs.FillLaws.{printed-refused}
+use Rattle.play.specs.Output.{IsNext}
 use Rattle.runner.specs.Steps.{countOf}
 use Rattle.runner.specs.Events.{Line, line, lineOf}
 use Rattle.text.proofs.Laws.{length-refusedText}
 use Rattle.text.specs.declared.Written.{Written}
 use Rattle.text.specs.Writing.{outcome, writing}
 use Rattle.text.specs.Lines.{refusedText}
-use lib.Seq.{length-sets, length-take-le}
-use lib.ListN.{length, replicate, length-replicate, length-append}
-use Prim.Native.Nat.{ℕ, _≤_, _<_}
+use lib.Seq.{sets-eq, length-sets, length-take-le, take-append-seam, take-length}
+use lib.ListN.{length, take, drop, replicate, length-replicate, length-append}
+use Prim.Native.Nat.{ℕ, _+_, _≤_, _<_}
 use mathlib.Core.List.{List}
 use mathlib.Core.Bool.{true}
 use mathlib.Core.Path.{_≡_, refl, sym, ap, _∙_}
@@ -40,6 +42,14 @@ within : (n : ℕ) (m : List ℕ) → line n m ≡ lineOf text lent → n ≤ le
 within n m e =
     omega (arith, counts n m e, ap (λ (l : Line). length (l .out)) e, length-sets lent 0 text, length-refusedText 18 61440, length-replicate {A = ℕ} 544 0)
 
+-- it is all that such a plan prints
+is-next : (plan : List ℕ) (n : ℕ) (m : List ℕ) → 61440 < length plan → line n m ≡ lineOf text lent → IsNext plan 0 (take n m)
+is-next plan n m many e =
+    let room : 0 + length text ≤ length lent = omega (arith, length-refusedText 18 61440, length-replicate {A = ℕ} 544 0) in
+    let written : take n m ≡ text =
+    ap (λ (l : Line). take (l .count) (l .out)) e ∙ ap (take (length text)) (sets-eq text lent 0 room) ∙ take-append-seam text (drop (0 + length text) lent) in
+    rw (printed-refused plan many, written) (take-length text)
+
 slice-aggregate-refused : tie.Need-slice-aggregate-refused
 slice-aggregate-refused c = search needs
 
@@ -62,7 +72,7 @@ slice-aggregate-hand-on : tie.Need-slice-aggregate-hand-on
 slice-aggregate-hand-on c = sym (length-take-le _ _ (within _ _ (told _ _ _ (c .before .before .text .given .1) (c .before .before .before .before .before .refused .ensures))))
 
 hand-on-requires : tie.Need-hand-on-requires
-hand-on-requires c κs = search needs
+hand-on-requires c κs = is-next _ _ _ (c .before .before .before .before .before .before .before .before .pre) (told _ _ _ (c .before .before .text .given .1) (c .before .before .before .before .before .refused .ensures))
 
 returns-2 : tie.Need-returns-2
 returns-2 c = some

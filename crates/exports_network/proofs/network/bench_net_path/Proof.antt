@@ -47,11 +47,11 @@ load-requires c κs = room 388 _ _ (c .before .before .holds .ensures) (c .befor
 path-requires : tie.Need-path-requires
 path-requires c κs = search needs
 
-enum-known-way : tie.Need-enum-known-way
-enum-known-way c = search needs
+enum-known-reply : tie.Need-enum-known-reply
+enum-known-reply c = search needs
 
-enum-known-way-2 : tie.Need-enum-known-way-2
-enum-known-way-2 c = search needs
+enum-known-reply-2 : tie.Need-enum-known-reply-2
+enum-known-reply-2 c = search needs
 
 low-of-requires : tie.Need-low-of-requires
 low-of-requires c κs = search needs
@@ -59,8 +59,8 @@ low-of-requires c κs = search needs
 put-three-requires : tie.Need-put-three-requires
 put-three-requires c κs = search needs
 
-enum-known-way-3 : tie.Need-enum-known-way-3
-enum-known-way-3 c = search needs
+enum-known-reply-3 : tie.Need-enum-known-reply-3
+enum-known-reply-3 c = search needs
 
 low-of-requires-2 : tie.Need-low-of-requires-2
 low-of-requires-2 c κs = search needs
@@ -73,21 +73,21 @@ put-three-requires-2 c κs = search needs
 
 returns-3 : tie.Need-returns-3
 unfolding netPathReply withValue
-returns-3 c = rw (passed (c .before .before .before .before .before .before .before .holds .ensures) (c .before .before .before .before .before .before .if1 .left), le-leb _ _ (c .before .before .before .before .before .if2 .left), ← c .before .before .before .before .load .ensures, ← c .before .before .before .path .ensures, c .before .way .given .1)
+returns-3 c = rw (passed (c .before .before .before .before .before .before .before .holds .ensures) (c .before .before .before .before .before .before .if1 .left), le-leb _ _ (c .before .before .before .before .before .if2 .left), ← c .before .before .before .before .load .ensures, ← c .before .before .before .path .ensures, c .before .reply .given .1)
 
 same-length : tie.Need-same-length
 same-length c = search needs
 
 returns-4 : tie.Need-returns-4
 unfolding netPathReply withValue
-returns-4 c = rw (passed (c .before .before .before .before .before .before .before .before .before .before .before .before .holds .ensures) (c .before .before .before .before .before .before .before .before .before .before .before .if1 .left), le-leb _ _ (c .before .before .before .before .before .before .before .before .before .before .if2 .left), ← c .before .before .before .before .before .before .before .before .before .load .ensures, ← c .before .before .before .before .before .before .before .before .path .ensures, c .before .before .before .before .before .before .way2 .given .1, c .before .before .put-three .ensures, c .before .before .before .before .low-of .ensures, delivered-low _ _ _ (c .before .before .before .before .before .before .way2 .given .1) (c .before .before .before .before .before .before .before .before .path .ensures))
+returns-4 c = rw (passed (c .before .before .before .before .before .before .before .before .before .before .before .before .holds .ensures) (c .before .before .before .before .before .before .before .before .before .before .before .if1 .left), le-leb _ _ (c .before .before .before .before .before .before .before .before .before .before .if2 .left), ← c .before .before .before .before .before .before .before .before .before .load .ensures, ← c .before .before .before .before .before .before .before .before .path .ensures, c .before .before .before .before .before .before .reply2 .given .1, c .before .before .put-three .ensures, c .before .before .before .before .low-of .ensures, delivered-low _ _ _ (c .before .before .before .before .before .before .reply2 .given .1) (c .before .before .before .before .before .before .before .before .path .ensures))
 
 same-length-2 : tie.Need-same-length-2
 same-length-2 c = search needs
 
 returns-5 : tie.Need-returns-5
 unfolding netPathReply withValue
-returns-5 c = rw (passed (c .before .before .before .before .before .before .before .before .before .before .before .before .before .holds .ensures) (c .before .before .before .before .before .before .before .before .before .before .before .before .if1 .left), le-leb _ _ (c .before .before .before .before .before .before .before .before .before .before .before .if2 .left), ← c .before .before .before .before .before .before .before .before .before .before .load .ensures, ← c .before .before .before .before .before .before .before .before .before .path .ensures, c .before .before .before .before .before .before .before .way3 .given .1, c .before .before .put-three2 .ensures, c .before .before .before .before .before .low-of2 .ensures, c .before .before .before .before .low-of3 .ensures, stops-low _ _ _ (c .before .before .before .before .before .before .before .way3 .given .1) (c .before .before .before .before .before .before .before .before .before .path .ensures) .0, stops-low _ _ _ (c .before .before .before .before .before .before .before .way3 .given .1) (c .before .before .before .before .before .before .before .before .before .path .ensures) .1)
+returns-5 c = rw (passed (c .before .before .before .before .before .before .before .before .before .before .before .before .before .holds .ensures) (c .before .before .before .before .before .before .before .before .before .before .before .before .if1 .left), le-leb _ _ (c .before .before .before .before .before .before .before .before .before .before .before .if2 .left), ← c .before .before .before .before .before .before .before .before .before .before .load .ensures, ← c .before .before .before .before .before .before .before .before .before .path .ensures, c .before .before .before .before .before .before .before .reply3 .given .1, c .before .before .put-three2 .ensures, c .before .before .before .before .before .low-of2 .ensures, c .before .before .before .before .low-of3 .ensures, stops-low _ _ _ (c .before .before .before .before .before .before .before .reply3 .given .1) (c .before .before .before .before .before .before .before .before .before .path .ensures) .0, stops-low _ _ _ (c .before .before .before .before .before .before .before .reply3 .given .1) (c .before .before .before .before .before .before .before .before .before .path .ensures) .1)
 
 pub bench-net-path-spec : {M : Type 1} → statement M
 bench-net-path-spec =
@@ -98,11 +98,11 @@ bench-net-path-spec =
     returns-2
     load-requires
     path-requires
-    enum-known-way
-    enum-known-way-2
+    enum-known-reply
+    enum-known-reply-2
     low-of-requires
     put-three-requires
-    enum-known-way-3
+    enum-known-reply-3
     low-of-requires-2
     low-of-requires-3
     put-three-requires-2

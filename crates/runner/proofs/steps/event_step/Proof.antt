@@ -1,4 +1,4 @@
--- `steps::event_step` meets its contract: what happened makes the turn. Assumes nothing.
+-- `steps::event_step` meets its contract: what happened makes the step. Assumes nothing.
 use Rattle.runner.proofs.ListOne.{one-refused, one-made}
 use Rattle.messages.specs.Slices.{numbersIn}
 use Rattle.runner.specs.Buffers.{stateOn}

@@ -1,4 +1,4 @@
--- `steps::step` meets its contract: outcomeOn down, or the field that was read or the plan's end. Assumes nothing.
+-- `steps::step` meets its contract: refused, or the field that was read or the plan's end. Assumes nothing.
 use Prim.Native.Nat.{_<_}
 use native.Mathlib.Omega.{arith}
 use mathlib.Core.Bool.{Bool, _&&_}

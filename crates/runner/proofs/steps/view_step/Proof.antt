@@ -1,4 +1,4 @@
--- `steps::view_step` meets its contract: refused where the network cannot be made, else the row is stored and the network freshWithView. Assumes nothing.
+-- `steps::view_step` meets its contract: refused where the network cannot be made, else the row is stored and the network made with the first view. Assumes nothing.
 use mathlib.Core.Path.{_≡_, sym, _∙_, ap}
 use mathlib.Core.Bool.{Bool, true, false, cond}
 use borrow.Author.Tests.{not-true, not-false}

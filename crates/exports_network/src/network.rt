@@ -43,15 +43,15 @@ pub(crate) fn store_change(changed: Changed, numbers: &mut [u32]) -> u8
 }
 
 // The answer goes to `out` too.
-pub(crate) fn store_delivery(delivered: DeliveryResult, numbers: &mut [u32], out: &mut [u32]) -> u8
+pub(crate) fn store_delivery(delivery: DeliveryResult, numbers: &mut [u32], out: &mut [u32]) -> u8
     requires { ⌜ (388 ≤ length (now numbers)) × (3 ≤ length (now out)) ⌝ }
-    ensures { λ r. ⌜ (r ≡ reactionResponse (delivered .reply) .number) × (now (numbers .exit) ≡ withAnswered (reactionResponse (delivered .reply) .value) (delivered .bench) (now (numbers .entry))) × (now (out .exit) ≡ withValue answerNumbers (now (out .entry)) (reactionResponse (delivered .reply) .value)) ⌝ }
+    ensures { λ r. ⌜ (r ≡ reactionResponse (delivery .reply) .number) × (now (numbers .exit) ≡ withAnswered (reactionResponse (delivery .reply) .value) (delivery .bench) (now (numbers .entry))) × (now (out .exit) ≡ withValue answerNumbers (now (out .entry)) (reactionResponse (delivery .reply) .value)) ⌝ }
 {
-    let reply = delivered.reply;
+    let reply = delivery.reply;
     match reply {
         Reaction::Refused(by) => by,
         Reaction::Answered(answer) => {
-            benches::store(delivered.bench, numbers);
+            benches::store(delivery.bench, numbers);
             encoding::put_answer(answer, out);
             0
         }
@@ -173,8 +173,8 @@ pub extern "C" fn bench_net_deliver(
         return 17;
     }
     let old = benches::load(bench);
-    let delivered = bench::messages::deliver(old, costs, sent, held, messages, place);
-    store_delivery(delivered, bench, out)
+    let delivery = bench::messages::deliver(old, costs, sent, held, messages, place);
+    store_delivery(delivery, bench, out)
 }
 
 // `bench::messages::repeat`, the answer as for `deliver`
@@ -197,8 +197,8 @@ pub extern "C" fn bench_net_repeat(
         return 17;
     }
     let old = benches::load(bench);
-    let delivered = bench::messages::repeat(old, costs, sent, held, messages, place);
-    store_delivery(delivered, bench, out)
+    let delivery = bench::messages::repeat(old, costs, sent, held, messages, place);
+    store_delivery(delivery, bench, out)
 }
 
 // `bench::answers::port`: the link, or 4,294,967,295 where no port forwards, goes to out[0].

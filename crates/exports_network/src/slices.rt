@@ -109,8 +109,8 @@ pub extern "C" fn bench_slice_deliver(
     let taken = plain::deliver(old, costs, sent, held, array_of(messages), place);
     let numbers = taken.numbers;
     put_array(numbers, messages);
-    let delivered = taken.delivered;
-    network::store_delivery(delivered, bench, out)
+    let delivery = taken.delivery;
+    network::store_delivery(delivery, bench, out)
 }
 
 // `messages::calls::repeat`, the answer as for `bench_net_deliver`
@@ -136,6 +136,6 @@ pub extern "C" fn bench_slice_repeat(
         return 17;
     }
     let old = benches::load(bench);
-    let delivered = plain::repeat(old, costs, sent, held, array_of(messages), place);
-    network::store_delivery(delivered, bench, out)
+    let delivery = plain::repeat(old, costs, sent, held, array_of(messages), place);
+    network::store_delivery(delivery, bench, out)
 }

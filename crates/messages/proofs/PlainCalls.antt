@@ -68,7 +68,7 @@ GivenBack ms v ns = (ns ≡ numbersIn ms) × Is Numbers ns (v ∷ [])
 pub changed-is : (r : Changed) (v : Val) (ns : List ℕ) (u : Val) → Is R.the-row r (v ∷ []) → Is Numbers ns (u ∷ []) → Is P.the-row (record { changed = r; numbers = ns }) (vstruct (ofList (v ∷ u ∷ [])) ∷ [])
 changed-is r v ns u r-is n-is = ((v ∷ [], (u ∷ [], tt)), (refl, (r-is, (subst (λ (l : List ℕ). Is Numbers l (u ∷ [])) (sym (map-id ns)) n-is, tt))))
 
-pub delivered-is : (r : DeliveryResult) (v : Val) (ns : List ℕ) (u : Val) → Is S.the-row r (v ∷ []) → Is Numbers ns (u ∷ []) → Is Q.the-row (record { delivered = r; numbers = ns }) (vstruct (ofList (v ∷ u ∷ [])) ∷ [])
+pub delivered-is : (r : DeliveryResult) (v : Val) (ns : List ℕ) (u : Val) → Is S.the-row r (v ∷ []) → Is Numbers ns (u ∷ []) → Is Q.the-row (record { delivery = r; numbers = ns }) (vstruct (ofList (v ∷ u ∷ [])) ∷ [])
 delivered-is r v ns u r-is n-is = ((v ∷ [], (u ∷ [], tt)), (refl, (r-is, (subst (λ (l : List ℕ). Is Numbers l (u ∷ [])) (sym (map-id ns)) n-is, tt))))
 
 module _ {M : Type 1} (𝓤 : URA M) (H : Heap 𝓤) (A : Atoms 𝓤) (mem : Memory → SProp 𝓤) (run : Routine → Fun 𝓤) where

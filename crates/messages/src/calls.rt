@@ -52,7 +52,7 @@ pub fn deliver(
     let numbers = numbers_in(ms);
     let decided = decisions::decide_deliver(bench, costs, sent, held, numbers, ms.len(), place);
     places::remove_at(ms, decided.from, decided.past);
-    decided.delivered
+    decided.delivery
 }
 
 // Delivers a message and leaves it in.

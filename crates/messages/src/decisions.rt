@@ -34,7 +34,7 @@ pub struct Decision {
 }
 
 pub struct Decided {
-    pub delivered: DeliveryResult,
+    pub delivery: DeliveryResult,
     pub from: usize,
     pub past: usize,
 }
@@ -103,11 +103,11 @@ pub(crate) fn decide_deliver(
     len: usize,
     place: usize,
 ) -> Decided
-    ensures { λ r. ⌜ (deliveryOutcome (reactionResponse (r .delivered .reply)) (r .delivered .bench) (now (sent .exit)) (now (held .exit)) (shifted (r .from) (r .past) (took len numbers)) ≡ deliverOf (state bench (now (costs .entry)) (now (sent .entry)) (now (held .entry)) (took len numbers)) place) × ((r .from ≤ r .past) × ((r .past ≤ len - 1) × (r .past ≤ 63))) ⌝ }
+    ensures { λ r. ⌜ (deliveryOutcome (reactionResponse (r .delivery .reply)) (r .delivery .bench) (now (sent .exit)) (now (held .exit)) (shifted (r .from) (r .past) (took len numbers)) ≡ deliverOf (state bench (now (costs .entry)) (now (sent .entry)) (now (held .entry)) (took len numbers)) place) × ((r .from ≤ r .past) × ((r .past ≤ len - 1) × (r .past ≤ 63))) ⌝ }
 {
     let before = bench.messages;
     let mut left = numbers;
-    let delivered = bench::messages::deliver(
+    let delivery = bench::messages::deliver(
         bench,
         costs,
         sent,
@@ -115,16 +115,16 @@ pub(crate) fn decide_deliver(
         &mut left[..MESSAGE * room(len)],
         place,
     );
-    let count = delivered.bench.messages;
+    let count = delivery.bench.messages;
     if count < before {
         return Decided {
-            delivered,
+            delivery,
             from: place,
             past: count,
         };
     }
     Decided {
-        delivered,
+        delivery,
         from: 0,
         past: 0,
     }

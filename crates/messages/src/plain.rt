@@ -22,7 +22,7 @@ pub struct ChangedNumbers {
 }
 
 pub struct DeliveredNumbers {
-    pub delivered: DeliveryResult,
+    pub delivery: DeliveryResult,
     pub numbers: [u32; MESSAGES],
 }
 
@@ -91,12 +91,12 @@ pub fn deliver(
     numbers: [u32; MESSAGES],
     place: usize,
 ) -> DeliveredNumbers
-    ensures { λ r. ⌜ deliveryOutcome (reactionResponse (r .delivered .reply)) (r .delivered .bench) (now (sent .exit)) (now (held .exit)) (r .numbers) ≡ deliverOf (state bench (now (costs .entry)) (now (sent .entry)) (now (held .entry)) numbers) place ⌝ }
+    ensures { λ r. ⌜ deliveryOutcome (reactionResponse (r .delivery .reply)) (r .delivery .bench) (now (sent .exit)) (now (held .exit)) (r .numbers) ≡ deliverOf (state bench (now (costs .entry)) (now (sent .entry)) (now (held .entry)) numbers) place ⌝ }
 {
     let mut ms = messages_in(numbers);
-    let delivered = calls::deliver(bench, costs, sent, held, &mut ms, place);
+    let delivery = calls::deliver(bench, costs, sent, held, &mut ms, place);
     DeliveredNumbers {
-        delivered,
+        delivery,
         numbers: numbers_from(ms),
     }
 }

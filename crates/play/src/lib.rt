@@ -176,7 +176,7 @@ fn run_plan(plan: &[u8]) -> Reply
 }
 
 // Writes the bytes that come next in a plan's output, behind the first `from`, to standard output; false where that failed. Without a byte to
-// write nothing fails. The plan is handed over for the contract: nothing else writes, so nothing but the plan's output is written.
+// write nothing fails. The plan is handed over for the contract; nothing else here writes.
 fn hand_on(plan: &[u8], from: usize, bytes: &[u8]) -> bool
     requires { ⌜ IsNext (now plan) from (now bytes) ⌝ }
     ensures { λ r. ⌜ (r ≡ false → 0 < length (now (bytes .entry))) ⌝ }

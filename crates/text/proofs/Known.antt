@@ -18,10 +18,10 @@ unfolding digits endText
 four-events = refl
 
 -- `path 2 0 delivered 2`
-pub delivered : deliveredText 2 0 2 ≡
+pub delivered-known : deliveredText 2 0 2 ≡
     112 ∷ 97 ∷ 116 ∷ 104 ∷ 32 ∷ 50 ∷ 32 ∷ 48 ∷ 32 ∷ 100 ∷ 101 ∷ 108 ∷ 105 ∷ 118 ∷ 101 ∷ 114 ∷ 101 ∷ 100 ∷ 32 ∷ 50 ∷ 10 ∷ []
 unfolding digits deliveredText
-delivered = refl
+delivered-known = refl
 
 -- `path 2 0 stops 1 1`
 pub stops : stopsText 2 0 1 1 ≡

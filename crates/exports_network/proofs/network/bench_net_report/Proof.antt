@@ -1,6 +1,7 @@
 -- `network::bench_net_report` meets its contract. A list that holds no bench or is too short is refused first; else the call's
 -- own contract, over the bench that was read, gives the outcome. Assumes nothing.
-use Rattle.exports_network.specs.Network.{netReportReply}
+use mathlib.Core.Path.{ap}
+use Rattle.exports_network.specs.Network.{reportReply, netReportReply}
 use borrow.Author.Needs.{needs}
 use Rattle.encoding.proofs.Entry.{passed, failed}
 use Rattle.exports_network.proofs.Room.{room}
@@ -28,7 +29,8 @@ same-length c = search needs
 
 returns-2 : tie.Need-returns-2
 unfolding netReportReply
-returns-2 c = rw (passed (c .before .before .before .before .before .before .before .holds .ensures) (c .before .before .before .before .before .before .if1 .left), ← c .before .before .before .before .before .load .ensures, ← c .before .before .before .report .ensures .0, c .number-of .ensures)
+returns-2 c = rw (passed (c .before .before .before .before .before .before .before .holds .ensures) (c .before .before .before .before .before .before .if1 .left), ← c .before .before .before .before .before .load .ensures, c .number-of .ensures)
+    (ap reportReply (c .before .before .before .report .ensures .0))
 
 pub bench-net-report-spec : {M : Type 1} → statement M
 bench-net-report-spec =

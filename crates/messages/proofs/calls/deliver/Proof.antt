@@ -96,12 +96,12 @@ Delivers h costs sent held m p r ss hs zs =
 
 abbrev Decides : Bench → List ℕ → List ℕ → List ℕ → List ℕ → ℕ → ℕ → Decided → List ℕ → List ℕ → Type 0
 Decides h costs sent held m n p d ss hs =
-    Delivers h costs sent held m p (d .delivered) ss hs (shifted (d .from) (d .past) m) × ((d .from ≤ d .past) × ((d .past ≤ n - 1) × (d .past ≤ 63)))
+    Delivers h costs sent held m p (d .delivery) ss hs (shifted (d .from) (d .past) m) × ((d .from ≤ d .past) × ((d .past ≤ n - 1) × (d .past ≤ 63)))
 
 -- a decision's answer, where the decision stands
-answer-is : (d : Decided) (w : Val) → Is D.the-row d (w ∷ []) → Is R.the-row (d .delivered) (R′.lowered (d .delivered) ∷ [])
+answer-is : (d : Decided) (w : Val) → Is D.the-row d (w ∷ []) → Is R.the-row (d .delivery) (R′.lowered (d .delivery) ∷ [])
 answer-is d w is =
-    let g = LL.owed D.the-type D′.the-laws d _ is .0 in subst (Is R.the-row (d .delivered)) (R′.lowers .val-is (d .delivered) _ g) g
+    let g = LL.owed D.the-type D′.the-laws d _ is .0 in subst (Is R.the-row (d .delivery)) (R′.lowers .val-is (d .delivery) _ g) g
 
 -- the last values of `decide_deliver`'s parameters: those of the limit tables are lists
 abbrev Lasting : Type 0
@@ -170,23 +170,23 @@ module _ {M : Type 1} (𝓤 : URA M) (H : Heap 𝓤) (A : Atoms 𝓤) (W : Given
   done-as :
       (ns : List ℕ) (d : Decided) (ss hs : List ℕ) (zs : List Message) → took (length (x .now)) ns ≡ flight (x .now)
       → Decides h (c .now) (s .now) (l .now) (took (length (x .now)) ns) (length (x .now)) p d ss hs → zs ≡ shiftedUp (d .from) (d .past) (x .now)
-      → Delivers h (c .now) (s .now) (l .now) (flight (x .now)) p (d .delivered) ss hs (flight zs)
+      → Delivers h (c .now) (s .now) (l .now) (flight (x .now)) p (d .delivery) ss hs (flight zs)
   done-as ns d ss hs zs e (g, (order, (low, few))) m =
-      ap (λ (y : List ℕ). deliveryOutcome (reactionResponse (d .delivered .reply)) (d .delivered .bench) ss hs y) (ap flight m ∙ moved-flight (x .now) (d .from) (d .past) order few)
-      ∙ subst (λ (y : List ℕ). Delivers h (c .now) (s .now) (l .now) y p (d .delivered) ss hs (shifted (d .from) (d .past) y)) e g
+      ap (λ (y : List ℕ). deliveryOutcome (reactionResponse (d .delivery .reply)) (d .delivery .bench) ss hs y) (ap flight m ∙ moved-flight (x .now) (d .from) (d .past) order few)
+      ∙ subst (λ (y : List ℕ). Delivers h (c .now) (s .now) (l .now) y p (d .delivery) ss hs (shifted (d .from) (d .past) y)) e g
 
   exits :
-      (d : Decided) (ss hs : List ℕ) (zs : List Message) → Is R.the-row (d .delivered) (R′.lowered (d .delivered) ∷ [])
-      → Delivers h (c .now) (s .now) (l .now) (flight (x .now)) p (d .delivered) ss hs (flight zs) → rest 64 zs ≡ rest 64 (x .now)
+      (d : Decided) (ss hs : List ℕ) (zs : List Message) → Is R.the-row (d .delivery) (R′.lowered (d .delivery) ∷ [])
+      → Delivers h (c .now) (s .now) (l .now) (flight (x .now)) p (d .delivery) ss hs (flight zs) → rest 64 zs ≡ rest 64 (x .now)
       → limits.SameLengths 𝓤 H A κs′ qs′ c s l ss hs → length zs ≡ length (x .now)
-      → ent 𝓤 (⋆ 𝓤 H A (‵ (finally T.the-row (x .name) zs) ∷ ‵ (flft κ q) ∷ Toks ∷ LastLists ss hs ∷ Kept ∷ [])) (Post (R′.lowered (d .delivered)))
+      → ent 𝓤 (⋆ 𝓤 H A (‵ (finally T.the-row (x .name) zs) ∷ ‵ (flft κ q) ∷ Toks ∷ LastLists ss hs ∷ Kept ∷ [])) (Post (R′.lowered (d .delivery)))
   exits d ss hs zs is e same n k =
       qed W (‵ (finally T.the-row (x .name) zs) ∷ ‵ (flft κ q) ∷ Toks ∷ LastLists ss hs ∷ Kept ∷ []) ∵
-      suffices ! _ (ends-at 𝓤 H A deliver.ended stayed (deliver.clauses 𝓤 H A mem run) W ((κs, qs, tt, a, vals), tt) (R′.lowered (d .delivered)) (d .delivered) (tt, (tt, (ss, (hs, (zs, (tt, tt)))))) (tt, (tt, (n .0, (n .1, (k, (tt, tt))))))) $ says-both ! e same $
+      suffices ! _ (ends-at 𝓤 H A deliver.ended stayed (deliver.clauses 𝓤 H A mem run) W ((κs, qs, tt, a, vals), tt) (R′.lowered (d .delivery)) (d .delivery) (tt, (tt, (ss, (hs, (zs, (tt, tt)))))) (tt, (tt, (n .0, (n .1, (k, (tt, tt))))))) $ says-both ! e same $
       move ! (1 ∷ 2 ∷ []) $ use2 W AllToks (limits.all-tokens 𝓤 H A κs′ qs′ c s l W κ q) $ frame ! $ move ! (1 ∷ 2 ∷ 0 ∷ []) $
       use3 W (‵ (All (finally u32 (s .name) ss) (finally u32 (l .name) hs) (finally T.the-row (x .name) zs)))
       (limits.leaves 𝓤 H A κs′ qs′ c s l W h hv h-is p p-fits ss hs (finally T.the-row (x .name) zs)) $
-      owned ! R.the-row (Is R.the-row) (LL.makes R.the-type R′.the-plain 𝓤 H A) (d .delivered) _ is $ move ! (1 ∷ 0 ∷ []) $ done !
+      owned ! R.the-row (Is R.the-row) (LL.makes R.the-type R′.the-plain 𝓤 H A) (d .delivery) _ is $ move ! (1 ∷ 0 ∷ []) $ done !
 
   module _ (C : Calls 𝓤 H) (Λ : Loops 𝓤 H) (fm : FmC 𝓤 H (W .laws) C) (known-numbers : Triple 𝓤 (C #numbers-in) (NumbersIn 𝓤 H A mem run)) (known-decide : Triple 𝓤 (C #decide-deliver) (DecideDeliver 𝓤 H A mem run))
       (known-remove : Triple 𝓤 (C #remove-at) (RemoveAt 𝓤 H A mem run)) where
@@ -239,7 +239,7 @@ module _ {M : Type 1} (𝓤 : URA M) (H : Heap 𝓤) (A : Atoms 𝓤) (W : Given
         (removal.gets 𝓤 H A mem run W (named 0) κ q (x .ptr .0) (x .ptr .1) (x .name) (x .now) (d .from) (d .past) u) $ await ! tt $ pick ! (λ zs. learn ! (λ r. split ! $
         -- [the messages' last list; their token; Toks; LastLists; Kept; _18; …]
         land ! (from ! (stop !)) (init ! 9 refl (subst (λ (y : Val). Holds (hasTy tyUnit y) × WT y) (sym (r .0)) (tt, tt))) $
-        assigns ! (of-opd ! (load ! (from ! (fld ! refl (stop !))) (look-in ! 25 (sub ! 0 refl (whole !))))) (from ! (stop !)) (init ! 41 refl (LL.lawful R.the-type R′.the-laws 𝓤 H A W .typed (d .delivered) _ (answer-is d w is) .0)) $
+        assigns ! (of-opd ! (load ! (from ! (fld ! refl (stop !))) (look-in ! 25 (sub ! 0 refl (whole !))))) (from ! (stop !)) (init ! 41 refl (LL.lawful R.the-type R′.the-laws 𝓤 H A W .typed (d .delivery) _ (answer-is d w is) .0)) $
         returns ! (look ! 41 refl) $ forget ! 5 refl $ forget ! 7 refl $ forget ! 9 refl $ forget ! 11 refl $ forget ! 13 refl $ forget ! 15 refl $ forget ! 17 refl $ forget ! 19 refl $ forget ! 21 refl $ forget ! 23 refl $ forget ! 25 refl $ forget ! 27 refl $ forget ! 29 refl $ forget ! 31 refl $ forget ! 33 refl $ forget ! 35 refl $ forget ! 37 refl $ forget ! 39 refl $ forget ! 41 refl $
         move ! (41 ∷ 42 ∷ []) $ free1 ! $ move ! (39 ∷ 40 ∷ []) $ free1 ! $ move ! (37 ∷ 38 ∷ []) $ free1 ! $ move ! (35 ∷ 36 ∷ []) $ free1 ! $ move ! (33 ∷ 34 ∷ []) $ free1 ! $ move ! (31 ∷ 32 ∷ []) $ free1 ! $ move ! (29 ∷ 30 ∷ []) $ free1 ! $ move ! (27 ∷ 28 ∷ []) $ free1 ! $ move ! (25 ∷ 26 ∷ []) $ free1 ! $ move ! (23 ∷ 24 ∷ []) $ free1 ! $ move ! (21 ∷ 22 ∷ []) $ free1 ! $ move ! (19 ∷ 20 ∷ []) $ free1 ! $ move ! (17 ∷ 18 ∷ []) $ free1 ! $ move ! (15 ∷ 16 ∷ []) $ free1 ! $ move ! (13 ∷ 14 ∷ []) $ free1 ! $ move ! (11 ∷ 12 ∷ []) $ free1 ! $ move ! (9 ∷ 10 ∷ []) $ free1 ! $ move ! (7 ∷ 8 ∷ []) $ free1 ! $ move ! (5 ∷ 6 ∷ []) $ free1 ! $ free0 ! $
         by ! (exits d (ws .1 .1 .0) (ws .1 .1 .1 .0) zs (answer-is d w is) (done-as ns d (ws .1 .1 .0) (ws .1 .1 .1 .0) zs (g .0) e (r .1 .0)) (ap (rest 64) (r .1 .0) ∙ moved-rest (x .now) (d .from) (d .past) (e .1 .0) (e .1 .1 .1)) n (r .1 .1)))))))))))))))))))))))))))))))))))

@@ -183,14 +183,14 @@ module _ {M : Type 1} (𝓤 : URA M) (H : Heap 𝓤) (A : Atoms 𝓤) (W : Given
 
   exits :
       (v : Val) (x : Answer) (ms : List ℕ) → Delivers h (c .now) (s .now) (e .now) ns p (x .0) (x .1 .0) (x .1 .1) ms → limits.SameLengths 𝓤 H A κs qs c s e (x .1 .0) (x .1 .1)
-      → Is P.the-row (record { delivered = x .0; numbers = ms }) (v ∷ []) → ent 𝓤 (⋆ 𝓤 H A (Toks ∷ LastLists (x .1 .0) (x .1 .1) ∷ Kept ∷ [])) (Post v)
+      → Is P.the-row (record { delivery = x .0; numbers = ms }) (v ∷ []) → ent 𝓤 (⋆ 𝓤 H A (Toks ∷ LastLists (x .1 .0) (x .1 .1) ∷ Kept ∷ [])) (Post v)
   exits v x ms f n is =
       qed W (Toks ∷ LastLists (x .1 .0) (x .1 .1) ∷ Kept ∷ []) ∵
-      suffices ! _ (ends-at 𝓤 H A deliver.ended stayed (deliver.clauses 𝓤 H A mem run) W ((κs, qs, tt, a, vals), tt) v (record { delivered = x .0; numbers = ms }) (tt, (tt, (x .1 .0, (x .1 .1, (tt, (tt, tt)))))) (tt, (tt, (n .0, (n .1, (tt, (tt, tt))))))) $ says ! f $
+      suffices ! _ (ends-at 𝓤 H A deliver.ended stayed (deliver.clauses 𝓤 H A mem run) W ((κs, qs, tt, a, vals), tt) v (record { delivery = x .0; numbers = ms }) (tt, (tt, (x .1 .0, (x .1 .1, (tt, (tt, tt)))))) (tt, (tt, (n .0, (n .1, (tt, (tt, tt))))))) $ says ! f $
       frame ! $ owned ! Numbers (Is Numbers) (array.made the-numbers 𝓤 H A W) ns _ n-is $ move ! (1 ∷ 2 ∷ 0 ∷ []) $
       use3 W (‵ (limits.All 𝓤 H A κs qs c s e W h hv h-is p p-fits (finally u32 (s .name) (x .1 .0)) (finally u32 (e .name) (x .1 .1)) (Numbers .own ns (nv ∷ []))))
       (limits.leaves 𝓤 H A κs qs c s e W h hv h-is p p-fits (x .1 .0) (x .1 .1) (Numbers .own ns (nv ∷ []))) $
-      owned ! P.the-row (Is P.the-row) (LL.makes P.the-type P′.the-plain 𝓤 H A) (record { delivered = x .0; numbers = ms }) _ is $ move ! (1 ∷ 0 ∷ []) $ done !
+      owned ! P.the-row (Is P.the-row) (LL.makes P.the-type P′.the-plain 𝓤 H A) (record { delivery = x .0; numbers = ms }) _ is $ move ! (1 ∷ 0 ∷ []) $ done !
 
   module _ (C : Calls 𝓤 H) (Λ : Loops 𝓤 H) (fm : FmC 𝓤 H (W .laws) C) (known-in : Triple 𝓤 (C #messages-in) (MessagesIn 𝓤 H A mem run)) (known-deliver : Triple 𝓤 (C #called) (Deliver 𝓤 H A mem run))
       (known-from : Triple 𝓤 (C #numbers-from) (NumbersFrom 𝓤 H A mem run)) where
@@ -238,7 +238,7 @@ module _ {M : Type 1} (𝓤 : URA M) (H : Heap 𝓤) (A : Atoms 𝓤) (W : Given
         use1 W (later (some (λ (ms : List ℕ). given (GivenBack zs m ms) (‵ ftrue)))) (plainly.gave 𝓤 H A mem run W zs u m) $ await ! tt $ pick ! (λ ms. learn ! (λ k. drop ! $
         land ! (from ! (stop !)) (init ! 4 refl (array.typed the-numbers 𝓤 H A W ms _ (k .1))) $
         assigns ! (agg ! (and-then ! (load ! (from ! (stop !)) (look ! 20 refl)) (and-then ! (load ! (from ! (stop !)) (look ! 4 refl)) (no-more !)))) (from ! (stop !))
-        (init ! 35 refl (LL.lawful P.the-type P′.the-laws 𝓤 H A W .typed (record { delivered = x .0; numbers = ms }) _ (delivered-is (x .0) w ms m (f .0 .1 .1) (k .1)) .0)) $
+        (init ! 35 refl (LL.lawful P.the-type P′.the-laws 𝓤 H A W .typed (record { delivery = x .0; numbers = ms }) _ (delivered-is (x .0) w ms m (f .0 .1 .1) (k .1)) .0)) $
         returns ! (look ! 35 refl) $ forget ! 3 refl $ forget ! 4 refl $ forget ! 6 refl $ forget ! 8 refl $ forget ! 10 refl $ forget ! 12 refl $ forget ! 14 refl $ forget ! 16 refl $ forget ! 18 refl $ forget ! 20 refl $ forget ! 23 refl $ forget ! 25 refl $ forget ! 27 refl $ forget ! 29 refl $ forget ! 31 refl $ forget ! 33 refl $ forget ! 35 refl $
         move ! (35 ∷ 36 ∷ []) $ free1 ! $ move ! (33 ∷ 34 ∷ []) $ free1 ! $ move ! (31 ∷ 32 ∷ []) $ free1 ! $ move ! (29 ∷ 30 ∷ []) $ free1 ! $ move ! (27 ∷ 28 ∷ []) $ free1 ! $ move ! (25 ∷ 26 ∷ []) $ free1 ! $ move ! (23 ∷ 24 ∷ []) $ free1 ! $ move ! (3 ∷ 22 ∷ []) $ free1 ! $ move ! (19 ∷ 20 ∷ []) $ free1 ! $ move ! (17 ∷ 18 ∷ []) $ free1 ! $ move ! (15 ∷ 16 ∷ []) $ free1 ! $ move ! (13 ∷ 14 ∷ []) $ free1 ! $ move ! (11 ∷ 12 ∷ []) $ free1 ! $ move ! (9 ∷ 10 ∷ []) $ free1 ! $ move ! (7 ∷ 8 ∷ []) $ free1 ! $ move ! (5 ∷ 6 ∷ []) $ free1 ! $ move ! (3 ∷ 4 ∷ []) $ free1 ! $ free0 ! $
         by ! (exits _ x ms (done-as ys zs x ms (flight-in ns ys z (g .0)) (flight-out zs ms (f .1) (k .0)) (f .0 .0)) (f .0 .1 .0) (delivered-is (x .0) w ms m (f .0 .1 .1) (k .1)))))))))))))))))))))))))))))))))))

@@ -28,10 +28,11 @@ pub fn distances(bridges: usize, links: usize, ends: &[u8], costs: &[u32], table
     }
 }
 
-/// The lengths that the calls of layer 2 need: a limit table, a record, a message or an answer, the flags, the records.
+/// The lengths that the calls of layer 2 need: a limit table, a record, a message or an answer, a bridge's update, the flags, the records.
 pub const LIMITS: usize = 1024;
 pub const RECORD: usize = 4;
 pub const MESSAGE: usize = 3;
+pub const UPDATE: usize = 2;
 pub const FLAGS: usize = 32;
 pub const RECORDS: usize = 256;
 
@@ -68,6 +69,7 @@ extern "C" {
         held: *mut u32,
         held_len: usize,
     ) -> u8;
+    fn bench_update_bridge(views: usize, present: u8, number: u16, view: u8, out: *mut u32, out_len: usize) -> u8;
     fn bench_update_end(
         bridges: usize,
         links: usize,
@@ -204,6 +206,10 @@ pub fn start_end(v: Lent, end: usize, b: EndBuffers) -> u8 {
             b.held.len(),
         )
     }
+}
+
+pub fn update_bridge(views: usize, present: u8, number: u16, view: u8, out: &mut [u32]) -> u8 {
+    unsafe { bench_update_bridge(views, present, number, view, out.as_mut_ptr(), out.len()) }
 }
 
 pub fn update_end(v: Lent, views: usize, view: u8, end: usize, b: EndBuffers) -> u8 {

@@ -1,5 +1,6 @@
 //! Tests of the compiled bench from Rust. Nothing here is proved, and nothing here is used by the proved crates.
 
+pub mod bridge_update;
 pub mod call;
 pub mod case;
 pub mod case_expected;
@@ -22,6 +23,7 @@ pub mod network_run;
 pub mod plan_bytes;
 pub mod random;
 pub mod random_case;
+pub mod reading_call;
 pub mod records_numbers;
 pub mod slice_call;
 pub mod view;

@@ -1,5 +1,6 @@
 //! The calls of layer 2 as compiled, against document 01 and against reference/.
 
+use bench_tests::bridge_update::{BridgeUpdate, Reply};
 use bench_tests::call::REFUSED;
 use bench_tests::case::{compare, Call, Case, Outcome};
 use bench_tests::count::Met;
@@ -115,6 +116,96 @@ fn random_ports() {
         "closed by several",
     ];
     random_cases(Call::Port, &events);
+}
+
+// ---- updates of a bridge
+
+/// What happened: the one cause of a refusal with 17, or the case of any other update.
+fn bridge_event(case: &BridgeUpdate, reply: u8) -> &'static str {
+    match case.causes()[..] {
+        [] => {}
+        [cause] => return cause,
+        _ => return "refused for several causes",
+    }
+    match (reply, case.stays(), case.number) {
+        (0, true, 65_535) => "stays with the last number",
+        (0, true, _) => "stays",
+        (0, false, 65_534) => "moves to the last number",
+        (0, false, _) => "moves",
+        (10, _, 65_535) => "no such view, with the last number",
+        (10, _, _) => "no such view",
+        (16, false, 65_535) => "no number left",
+        _ => "another",
+    }
+}
+
+const BRIDGE_EVENTS: [&str; 11] = [
+    "out short",
+    "view count",
+    "no such present view",
+    "refused for several causes",
+    "stays with the last number",
+    "stays",
+    "moves to the last number",
+    "moves",
+    "no such view, with the last number",
+    "no such view",
+    "no number left",
+];
+
+fn random_bridge_update(case: u64) -> BridgeUpdate {
+    BridgeUpdate::random(&mut Random::new(9_000_000_000 + case))
+}
+
+#[test]
+fn random_bridge_updates() {
+    let mut met = Met::default();
+    for case in (0..CASES).map(random_bridge_update) {
+        let (reply, out) = case.expected();
+        assert_eq!(case.run(), (reply, out), "{case:?}");
+        met.note(bridge_event(&case, reply));
+    }
+    met.only("updates of a bridge", &BRIDGE_EVENTS, 200);
+}
+
+/// Every bound of every argument beside every other.
+#[test]
+fn bounds_of_bridge_updates() {
+    let views = [0, 1, 2, 31, 32, 33, 255, 256, 1 << 32, usize::MAX];
+    let bytes = [0, 1, 2, 30, 31, 32, 33, 254, 255];
+    let numbers = [0, 1, 2, 65_533, 65_534, 65_535];
+    let mut met = Met::default();
+    for views in views {
+        for (present, view) in bytes.iter().flat_map(|&p| bytes.map(|v| (p, v))) {
+            for (number, length) in numbers.iter().flat_map(|&n| [0, 1, 2, 3].map(|l| (n, l))) {
+                let case = BridgeUpdate { views, present, number, view, out: vec![7; length] };
+                let (reply, out) = case.expected();
+                assert_eq!(case.run(), (reply, out), "{case:?}");
+                met.note(bridge_event(&case, reply));
+            }
+        }
+    }
+    met.only("bounds", &BRIDGE_EVENTS, 10);
+}
+
+/// Each wrong rule, where it applies to the case and the reply, answers something else than the call in many random cases.
+#[test]
+fn wrong_bridge_updates_are_noticed() {
+    type Applies = fn(&BridgeUpdate, u8) -> bool;
+    type Wrong = fn(&BridgeUpdate) -> Reply;
+    let rules: [(&str, Applies, Wrong); 5] = [
+        ("the number stays", |c, r| r == 0 && !c.stays(), |c| c.answers([1, c.number.into()])),
+        ("a rise for the present view", |c, r| r == 0 && c.stays(), |c| c.answers([1, u32::from(c.number) + 1])),
+        ("16 for the present view", |c, r| r == 0 && c.stays() && c.number == 65_535, |c| c.refuses(16)),
+        ("back to 0", |_, r| r == 16, |c| c.answers([1, 0])),
+        ("16 before 10", |c, r| r == 10 && c.number == 65_535, |c| c.refuses(16)),
+    ];
+    for (name, applies, wrong) in rules {
+        let differs = |c: &BridgeUpdate| applies(c, c.expected().0) && wrong(c) != c.run();
+        let noticed = (0..CASES).map(random_bridge_update).filter(differs).count();
+        println!("{name}: {noticed}");
+        assert!(noticed >= 100, "{name}: noticed in only {noticed} of {CASES} cases");
+    }
 }
 
 // ---- refusals

@@ -23,11 +23,12 @@ use Rattle.agreement.specs.declared.Carrying.{Carrying}
 use Rattle.agreement.specs.declared.Reaction.{Reaction}
 use Rattle.agreement.specs.declared.Forwarding.{Forwarding}
 
--- what a reply says: document 01's number, 17 where the call is refused at entry and 0 where it is not, and the value that it brings
+-- what a reply says: document 01's number, 0 where the call is not refused, and the value that it brings
 pub record Response (A : Type 0) : Type 0 where
   pub number : ℕ
   pub value : List A
 
+-- refused at entry
 abbrev pub refused : {A : Type 0} → Response A
 refused = record { number = 17; value = [] }
 

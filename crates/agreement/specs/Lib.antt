@@ -8,5 +8,6 @@ pub mod Rule
 pub mod Ranges
 pub mod Steps
 pub mod Call
+pub mod Update
 pub mod Choice
 pub mod Ends

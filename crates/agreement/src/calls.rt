@@ -1,5 +1,7 @@
-// The calls on a lent view. Every input gets a reply: 17 for what is out of range or too short, and then nothing is changed.
+// The calls on a lent view, and the bridge's own part of an update. Every input gets a reply: 17 for what is out of range or too short, an
+// update of a bridge also document 01's 10 and 16; and then nothing is changed.
 use crate::Agreement;
+use crate::BridgeUpdate;
 use crate::Carrying;
 use crate::Changed;
 use crate::EndRecord;
@@ -20,6 +22,7 @@ use distances::ready::both;
 ghost use mathlib.Core.Path.{_≡_};
 ghost use Rattle.agreement.specs.Ranges.{endInRange};
 ghost use Rattle.agreement.specs.Record.{freshRecord};
+ghost use Rattle.agreement.specs.Update.{bridgeUpdateResponse, bridgeUpdateOutcome};
 ghost use Rattle.agreement.specs.Call.{viewData, outcome, number, offeredResponse, carryingResponse, reactionResponse, forwardingResponse, offerOutcome, freshOutcome, updateOutcome, carryOutcome, deliverOutcome, portOutcome};
 
 // The record of a fresh end.
@@ -140,6 +143,29 @@ pub fn start_end(
             end: fresh,
         }
     }
+}
+
+// The part of an update that is the bridge's own: whether the view differs from its present one, and its agreement number's rise. Where it
+// moves, each of its ends is to be updated, by `update_end`.
+pub fn update_bridge(views: usize, present: u8, number: u16, view: u8) -> BridgeUpdate
+    ensures { λ r. ⌜ bridgeUpdateResponse r ≡ bridgeUpdateOutcome views present number view ⌝ }
+{
+    if !ready::is_view(views, present) {
+        return BridgeUpdate::Refused(17);
+    }
+    let from = present as usize;
+    let to = view as usize;
+    if views <= to {
+        return BridgeUpdate::Refused(10);
+    }
+    if ready::numbers_used_up(number, from, to) {
+        return BridgeUpdate::Refused(16);
+    }
+    if from == to {
+        return BridgeUpdate::Stays;
+    }
+    let next = number + 1;
+    BridgeUpdate::Moves(next)
 }
 
 // An end whose bridge goes to this view, which is the lent one and differs from its present view.

@@ -89,6 +89,13 @@ pub enum Chosen {
     So(Choice),
 }
 
+// An update of a bridge: refused with document 01's number; it is on the view already; or it goes to it, and this is its agreement number there.
+pub enum BridgeUpdate {
+    Refused(u8),
+    Stays,
+    Moves(u16),
+}
+
 // An end's record after a call, beside the reply.
 pub struct Changed {
     pub reply: Reply,

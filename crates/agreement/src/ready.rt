@@ -1,6 +1,7 @@
 // The entry checks: document 01's ranges, and lent buffers that are long enough.
 use crate::Agreement;
 use crate::EndRecord;
+use crate::sizes::LAST_NUMBER;
 use crate::sizes::LIMITS;
 use crate::sizes::NO_VIEW;
 use distances::ready::both;
@@ -14,6 +15,7 @@ ghost use lib.Dec.{eqb, ltb};
 ghost use Rattle.distances.specs.Call.{allBelow};
 ghost use Rattle.agreement.specs.Record.{freshRecord};
 ghost use Rattle.agreement.specs.Offer.{opposite};
+ghost use Rattle.agreement.specs.Update.{numbersUsedUp};
 ghost use Rattle.agreement.specs.Ranges.{isView, recordInRange, recordsInRange, deliveryInRange, portInRange};
 
 pub(crate) fn either(a: bool, b: bool) -> bool
@@ -41,6 +43,13 @@ pub(crate) fn record_in_range(views: usize, old: EndRecord) -> bool
 {
     let t = old.view as usize;
     either(old.view == NO_VIEW, t < views)
+}
+
+// Is there no agreement number left for an update from one view to another? Then it is refused with 16.
+pub fn numbers_used_up(number: u16, present: usize, view: usize) -> bool
+    ensures { λ r. ⌜ r ≡ numbersUsedUp number present view ⌝ }
+{
+    both(number == LAST_NUMBER, present != view)
 }
 
 // The number of views as a byte: no record has a view beyond 255.

@@ -3,21 +3,20 @@
 use Prim.Native.Nat.{ℕ, zero, suc, _-_, _≤_, _<_}
 use native.Mathlib.Omega.{arith}
 use mathlib.Core.Path.{_≡_, refl, sym, ap, subst, _∙_}
-use mathlib.Core.Bool.{Bool, true, false, cond, _&&_}
-use mathlib.Core.List.{List}
-use lib.ListN.{length}
-use lib.Dec.{eqb, leb}
-use Rattle.distances.proofs.Booleans.{both-true}
+use mathlib.Core.Bool.{Bool, true, false, cond}
+use lib.Dec.{eqb}
 use Rattle.agreement.specs.Call.{Response, says}
 use Rattle.protocol.specs.Calls as calls
 use Rattle.protocol.specs.Calls.{refuse, checks}
 use Rattle.protocol.specs.Ports.{Hop, stays, crosses}
 use Rattle.protocol.specs.Paths.{PathResult, delivered, stops, follow, onward, hops}
 use Rattle.bench.specs.State.{State, network}
-use Rattle.bench.specs.Changes.{refusalOf, stateInRange}
-use Rattle.bench.specs.Deliveries.{refusedBy}
-use Rattle.bench.specs.Answers.{PathFits, pathResponse, reportOutcome, reported, reportOf, hopIn, pathOf}
-use Rattle.bench.specs.Steps.{Ready}
+use Rattle.bench.specs.Contracts.{refusalOf}
+use Rattle.bench.specs.Ranges.{networkInRange}
+use Rattle.bench.specs.Contracts.{refusedBy}
+use Rattle.bench.specs.Private.Answers.{PathFits, hopIn, pathOf}
+use Rattle.bench.specs.Contracts.{pathResponse}
+use Rattle.bench.specs.Private.Steps.{Ready}
 use Rattle.bench.specs.declared.PathReply as code
 use Rattle.bench.proofs.EntryOutcomes.{reply-is}
 use Rattle.bench.proofs.QueueCalls.{refusal-none, said-same}
@@ -58,11 +57,11 @@ module _ (s : State) where
   pub path-told : (y d : ℕ) (w : PathResult) → pathOf s y d ≡ says w → PathFacts (s .bench .bridges) w
   unfolding pathOf refuse checks
   path-told y d w e =
-      let k : ℕ = refusalOf (stateInRange s) (network s) (calls.path y d) in
+      let k : ℕ = refusalOf (networkInRange s) (network s) (calls.path y d) in
       let bridges : ℕ = s .bench .bridges in
       let way : PathResult = onward (hopIn s d) d (bridges - 1) 0 y in
       let none : k ≡ 0 = sym (reply-is (λ o. o .number) k refusedBy (says way) (λ j. refl) (λ z. refl)) ∙ ap (λ (o : Response PathResult). o .number) e in
-      let pass = refusal-none (stateInRange s) (network s) (calls.path y d) none in
+      let pass = refusal-none (networkInRange s) (network s) (calls.path y d) none in
       let ready : Ready (s .bench) (s .costs) = network-told _ _ _ _ (pass .0) in
       let start : y < bridges = bridge-listed (network s) y _ (pass .1) in
       subst (PathFacts bridges) (said-same way w (rw none at e))

@@ -9,9 +9,10 @@ use Rattle.agreement.specs.Record.{freshRecord}
 use Rattle.agreement.specs.declared.EndRecord.{EndRecord}
 use Rattle.agreement.proofs.Ends.{opposite-below}
 use Rattle.bench.specs.State.{State}
-use Rattle.bench.specs.Changes.{stateInRange}
-use Rattle.bench.specs.Deliveries.{arrivalEnd, deliveryReady}
-use Rattle.bench.specs.Effects.{LinkFits, MessageFits, endStateIn, StandsIn}
+use Rattle.bench.specs.Ranges.{networkInRange}
+use Rattle.bench.specs.Private.Deliveries.{arrivalEnd}
+use Rattle.bench.specs.Ranges.{stateInRange}
+use Rattle.bench.specs.Private.Effects.{LinkFits, MessageFits, endStateIn, StandsIn}
 use Rattle.bench.specs.declared.Bench.{Bench}
 use Rattle.bench.specs.declared.effects.EndState.{EndState}
 use Rattle.bench.proofs.TieRanges.{told}
@@ -31,10 +32,10 @@ pub record ArrivalFacts (s : State) (p : ℕ) : Type 0 where
   pub view : getD (s .bench .view) (getD (s .bench .ends) (arrivalEnd (s .messages) p) 0) 0 < 32
   pub costs : 1024 ≤ length (s .costs)
 
-pub arrival-told : (s : State) → deliveryReady s ≡ true → (p : ℕ) → p < s .bench .messages → ArrivalFacts s p
+pub arrival-told : (s : State) → stateInRange s ≡ true → (p : ℕ) → p < s .bench .messages → ArrivalFacts s p
 arrival-told s ok p h =
     let all = told s ok in
-    let ready = network-told _ _ _ _ (both-true (stateInRange s) _ ok .0) in
+    let ready = network-told _ _ _ _ (both-true (networkInRange s) _ ok .0) in
     let m = message-told _ _ _ (all .message p h) in
     let low = opposite-below _ _ (from-low (m .link) (m .direction)) in
     let there = placed ready (arrivalEnd (s .messages) p) low in

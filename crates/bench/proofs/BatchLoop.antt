@@ -1,22 +1,20 @@
 -- A list of events, from one to the next: how far it has come, and where it ends. Assumes nothing.
 use Prim.Native.Nat.{ℕ, zero, suc, _+_, _-_, _≤_, _<_}
 use native.Mathlib.Omega.{arith}
-use native.Mathlib.Nat.{add-zero}
-use native.Mathlib.Numerals.{add-one}
 use mathlib.Core.Path.{_≡_, refl, sym, ap, _∙_}
 use mathlib.Core.Logic.{_⊎_, inl, inr}
 use mathlib.Core.Bool.{Bool, true, false, cond, false≢true}
 use mathlib.Core.List.{List, [], _∷_, _++_, append-assoc, append-nil}
-use borrow.Author.Tests.{eqb-true, eqb-false}
+use borrow.Author.Tests.{eqb-true}
 use lib.ListN.{length, getD, take, drop, length-append, length-drop, take-append-drop, drop-of-length-le}
 use lib.Seq.{take-at, drop-at, drop-drop, drop-cons, length-take-le, take-all, take-append-add}
 use lib.Dec.{eqb, ltb}
 use Rattle.bench.specs.declared.Event.{Event}
-use Rattle.bench.specs.State.{State}
+use Rattle.bench.specs.State.{State, network}
 use Rattle.bench.specs.Batches.{callOf}
 use Rattle.bench.specs.Batches.{replyOf, answersOf, answerSize, Batch, batch, eventBatch, eventBatchIn, batchFrom, batchOutcome, batchOutcomeOf}
-use Rattle.bench.specs.Whole.{stepBy}
-use Rattle.bench.specs.Steps.{BatchLeft}
+use Rattle.bench.specs.Standing.{stepIn}
+use Rattle.bench.specs.Private.Steps.{BatchLeft}
 use Rattle.bench.specs.declared.Disposition.{Disposition}
 use Rattle.bench.specs.declared.Disposition.the-variants.{Complete, Refused, Full}
 
@@ -36,7 +34,7 @@ made-or-not room s e = go (ltb room (answerSize (s .bench .bridges) e)) (eqb (re
   where
     go :
         (full accepted : Bool) →
-        let done : Batch = cond accepted (batch 1 Complete (stepBy s (callOf e)) (answersOf s e)) (batch 0 (Refused (replyOf s e)) s []) in
+        let done : Batch = cond accepted (batch 1 Complete (stepIn s (callOf e)) (answersOf (network s) e)) (batch 0 (Refused (replyOf s e)) s []) in
         let b : Batch = cond full (batch 0 Full s []) done in
         EventMade b ⊎ EventUnmade s b
     go true accepted = inr (record { none = refl; same = refl })

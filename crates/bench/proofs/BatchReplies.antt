@@ -6,27 +6,31 @@ use mathlib.Core.List.{[]}
 use Rattle.distances.proofs.Booleans.{both-true}
 use Rattle.protocol.specs.Net.{Network}
 use Rattle.protocol.specs.Calls.{Call, change, update, cut, restore, send, lose, path, report, refuse, checks, changeChecks, noSuchBridge, noSuchLink, already, notOnLink, linkCut, noRoom, noMessage}
-use Rattle.bench.specs.State.{State, network, networkOf}
-use Rattle.bench.specs.Changes.{refusalOf, stateInRange, updateOf, cutOf, restoreOf}
-use Rattle.bench.specs.Queue.{sendOf, loseOf}
-use Rattle.bench.specs.Deliveries.{deliveryReady, refusedBy, deliverOf, repeatOf}
-use Rattle.bench.specs.Answers.{pathOf}
-use Rattle.bench.specs.Batches.{callOf, replyOf}
-use Rattle.bench.specs.declared.Event.{Event}
+use Rattle.bench.specs.State.{State, network}
+use Rattle.bench.specs.Private.Views.{networkOf}
+use Rattle.bench.specs.Contracts.{refusalOf}
+use Rattle.bench.specs.Ranges.{networkInRange}
+use Rattle.bench.specs.Private.Changes.{updateOf, cutOf, restoreOf}
+use Rattle.bench.specs.Private.Queue.{sendOf, loseOf}
+use Rattle.bench.specs.Ranges.{stateInRange}
+use Rattle.bench.specs.Contracts.{refusedBy}
+use Rattle.bench.specs.Private.Deliveries.{deliverOf, repeatOf}
+use Rattle.bench.specs.Private.Answers.{pathOf}
+use Rattle.bench.specs.Batches.{replyOf}
 use Rattle.bench.specs.declared.Event.the-variants.{Update, Send, Deliver, Repeat, Lose, Cut, Restore, Report, Path}
 use Rattle.bench.proofs.CallKept.{update-number, cut-number, restore-number, send-number, lose-number, deliver-number, repeat-number}
 use Rattle.bench.proofs.EntryOutcomes.{reply-is}
 use Rattle.bench.proofs.QueueRanges.{network-bench}
-use Rattle.bench.proofs.RangesSteps.{flightInRange, flight-of}
+use Rattle.bench.proofs.RangesSteps.{flight-of}
 use Rattle.bench.proofs.TieRefusals.{refusal-ready}
 
-module _ (s : State) (ok : deliveryReady s ≡ true) where
+module _ (s : State) (ok : stateInRange s ≡ true) where
   -- what a call is handed is in range, and the table's number is the same
-  number-same : (c : Call) (b : Bool) (n : Network) → b ≡ true → refuse n c ≡ refuse (network s) c → refusalOf (deliveryReady s) (network s) c ≡ refusalOf b n c
+  number-same : (c : Call) (b : Bool) (n : Network) → b ≡ true → refuse n c ≡ refuse (network s) c → refusalOf (stateInRange s) (network s) c ≡ refusalOf b n c
   number-same c b n passes same = refusal-ready _ (network s) c ok ∙ sym same ∙ sym (refusal-ready b n c passes)
 
-  in-range : stateInRange s ≡ true
-  in-range = both-true (stateInRange s) _ ok .0
+  in-range : networkInRange s ≡ true
+  in-range = both-true (networkInRange s) _ ok .0
 
   pub update-reply : (y t : ℕ) → replyOf s (Update y t) ≡ updateOf s y t .reply
   unfolding replyOf
@@ -56,7 +60,7 @@ module _ (s : State) (ok : deliveryReady s ≡ true) where
   unfolding replyOf
   repeat-reply p = sym (repeat-number s p)
 
-  pub report-reply : (d : ℕ) → replyOf s (Report d) ≡ refusalOf (stateInRange s) (network s) (report d)
+  pub report-reply : (d : ℕ) → replyOf s (Report d) ≡ refusalOf (networkInRange s) (network s) (report d)
   unfolding replyOf
   report-reply d = number-same (report d) _ (network s) in-range refl
 

@@ -1,14 +1,14 @@
 -- One event of a list: the number that its call replies, the state that it leaves, and its answers at the head of the lent numbers.
 -- Assumes nothing.
-use Prim.Native.Nat.{ℕ, zero, suc, _+_, _-_, _*_, _≤_, _<_}
+use Prim.Native.Nat.{ℕ, _+_, _-_, _*_, _≤_, _<_}
 use native.Mathlib.Omega.{arith}
 use native.Mathlib.Nat.{zero-add}
 use mathlib.Core.Path.{_≡_, refl, sym, ap, _∙_}
 use mathlib.Core.Bool.{Bool, true, false, cond}
 use mathlib.Core.List.{List, [], _∷_, _++_}
 use borrow.Author.Tests.{eqb-true, eqb-false, eq-eqb, ne-eqb, lt-ltb, le-ltb}
-use lib.ListN.{length, set, take, drop, length-append, length-drop}
-use lib.Seq.{sets, sets-eq, take-at, drop-at, drop-drop}
+use lib.ListN.{length, set, drop}
+use lib.Seq.{sets, sets-eq}
 use lib.Dec.{eqb}
 use Rattle.agreement.specs.Call.{Response, says}
 use Rattle.agreement.specs.Record.{answerNumbers}
@@ -19,17 +19,22 @@ use Rattle.bench.specs.declared.Event.the-variants.{Update, Send, Delive
 use Rattle.protocol.specs.Calls as calls
 use Rattle.protocol.specs.Calls.{refuse}
 use Rattle.protocol.specs.Paths as paths
-use Rattle.bench.specs.State.{State, state, network, networkOf}
+use Rattle.bench.specs.State.{State, state, network}
+use Rattle.bench.specs.Private.Views.{networkOf}
 use Rattle.bench.specs.Ranges.{benchInRange}
-use Rattle.bench.specs.Changes.{BenchOutcome, benchOutcome, ChangeOutcome, refusalOf, orRefused, stateInRange, benchWithCut, updateOf, cutOf, restoreOf}
-use Rattle.bench.specs.Queue.{QueueOutcome, queueOutcome, sendOf, loseOf}
-use Rattle.bench.specs.Deliveries.{DeliveryOutcome, deliveryOutcome, refusedBy, deliveryReady, deliverOf, repeatOf}
-use Rattle.bench.specs.Answers.{reported, reportedRow, hopIn, pathOf, pathNumbers}
-use Rattle.bench.specs.Batches.{callOf}
-use Rattle.bench.specs.Batches.{replyOf, reportNumbers, valueNumbers, answersOf, answerSize, Batch, batch, eventBatch, eventBatchIn}
-use Rattle.bench.specs.Whole.{stepBy}
-use Rattle.bench.specs.Effects.{queueChangeNumber, queueChangeBench, queueChangeEffect, receptionResponse, receptionBench, receptionEffect, ReceptionFits, updatingTo, updatingNumber, updatingEffect, UpdatingFits, stateOf, appliedTo, CanApply, eventResult}
-use Rattle.bench.specs.Steps.{ReportsTo, BatchLeft}
+use Rattle.bench.specs.Private.Changes.{BenchOutcome, benchOutcome, ChangeOutcome, benchWithCut, updateOf, cutOf, restoreOf}
+use Rattle.bench.specs.Contracts.{refusalOf, orRefused}
+use Rattle.bench.specs.Ranges.{networkInRange}
+use Rattle.bench.specs.Private.Queue.{QueueOutcome, queueOutcome, sendOf, loseOf}
+use Rattle.bench.specs.Private.Deliveries.{DeliveryOutcome, deliveryOutcome, deliverOf, repeatOf}
+use Rattle.bench.specs.Contracts.{refusedBy}
+use Rattle.bench.specs.Ranges.{stateInRange}
+use Rattle.bench.specs.Private.Answers.{reported, hopIn, pathOf}
+use Rattle.bench.specs.Contracts.{pathNumbers}
+use Rattle.bench.specs.Batches.{callOf, replyOf, answerSize, Batch, batch, eventBatchIn}
+use Rattle.bench.specs.Private.ListSteps.{stepBy, valueNumbers, answersBy, eventOnLists}
+use Rattle.bench.specs.Private.Effects.{queueChangeNumber, queueChangeBench, queueChangeEffect, receptionResponse, receptionBench, receptionEffect, ReceptionFits, updatingTo, updatingNumber, updatingEffect, UpdatingFits, stateOf, appliedTo, CanApply, eventResult}
+use Rattle.bench.specs.Private.Steps.{ReportsTo, BatchLeft}
 use Rattle.bench.specs.declared.Bench.{Bench}
 use Rattle.bench.specs.declared.effects.EventResult.{EventResult}
 use Rattle.bench.specs.declared.effects.Effect.the-variants.{Same}
@@ -43,18 +48,20 @@ use Rattle.bench.proofs.CallKept.{update-kept, cut-kept, restore-kept, 
 use Rattle.bench.proofs.BatchReplies.{update-reply, cut-reply, restore-reply, send-reply, lose-reply, deliver-reply, repeat-reply, report-reply, path-reply}
 use Rattle.bench.proofs.CallReads.{reported-reads, path-reads}
 use Rattle.bench.proofs.CallSteps.{update-step, cut-step, restore-step, send-step, lose-step, deliver-step, repeat-step, path-step, report-step}
-use Rattle.bench.proofs.CallLengths.{step-kept}
 use Rattle.bench.proofs.TieRefusals.{refusal-ready}
 use Rattle.bench.proofs.TieRanges.{told, few, bench-ready}
 use Rattle.bench.proofs.EntryOutcomes.{link-listed}
+use Rattle.bench.proofs.Represents.{Typed}
+use Rattle.bench.proofs.EventStands.{event-is}
+use Rattle.bench.proofs.ReportRows.{rows-length, reported-head}
 
 -- what an event leaves, by the event that it is and the result that it comes to
 pub leaves-by :
     (s z : State) {answers after : List ℕ} {e is : Event} {r by : EventResult} →
     e ≡ is →
     r ≡ by →
-    BatchLeft (eventBatch s is) answers (by .made) (by .disposition) (appliedTo (by .effect) z) (by .answered) after →
-    BatchLeft (eventBatch s e) answers (r .made) (r .disposition) (appliedTo (r .effect) z) (r .answered) after
+    BatchLeft (eventOnLists s is) answers (by .made) (by .disposition) (appliedTo (by .effect) z) (by .answered) after →
+    BatchLeft (eventOnLists s e) answers (r .made) (r .disposition) (appliedTo (r .effect) z) (r .answered) after
 leaves-by s z event result leaves = rw (event, result) leaves
 
 -- and that its effect can be carried out
@@ -94,32 +101,6 @@ quiet-told k n b known is = rw is (same-told (eqb k 0) b known)
 pub head-set : (vs l : List ℕ) → length vs ≤ length l → sets l 0 vs ≡ vs ++ drop (length vs) l
 head-set vs l h = rw (zero-add (length vs)) at (sets-eq vs l 0 (omega arith))
 
-two-more :
-    (l rows : List ℕ) (n a b : ℕ) →
-    length l ≡ n →
-    n + 2 ≤ length rows →
-    set (set (l ++ drop n rows) n a) (n + 1) b ≡ (l ++ (a ∷ b ∷ [])) ++ drop (n + 2) rows
-two-more l rows n a b long room =
-    let whole : List ℕ = l ++ drop n rows in
-    let next : n + 1 ≡ suc n = omega arith in
-    rw next
-    (sets-eq (a ∷ b ∷ []) whole n (rw (length-append l (drop n rows), length-drop n rows) (omega arith))
-    ∙ rw (take-at l (drop n rows) n long, sym (drop-drop 2 n whole), drop-at l (drop n rows) n long, drop-drop 2 n rows))
-
-module _ (s : State) (d : ℕ) where
-  pub rows-length : (k : ℕ) → length (reportNumbers s d k) ≡ 2 * k
-  unfolding reportNumbers
-  rows-length zero = refl
-  rows-length (suc y) = length-append (reportNumbers s d y) _ ∙ omega (arith, rows-length y)
-
-  -- the rows as they are written, one bridge after the other
-  reported-head : (rows : List ℕ) (k : ℕ) → 2 * k ≤ length rows → reported s d k rows ≡ reportNumbers s d k ++ drop (2 * k) rows
-  unfolding reported reportedRow reportNumbers
-  reported-head rows zero h = refl
-  reported-head rows (suc y) h =
-      let past : 2 * suc y ≡ 2 * y + 2 = omega arith in
-      rw (reported-head rows y (omega arith), past) (two-more (reportNumbers s d y) rows (2 * y) _ _ (rows-length y) (omega arith))
-
 -- ---- an event, by the number k that its call replies
 
 module _ (s : State) (e : Event) where
@@ -128,20 +109,20 @@ module _ (s : State) (e : Event) where
       replyOf s e ≡ k →
       stepBy s (callOf e) ≡ after →
       ((k ≡ 0 → ⊥) → stepBy s (callOf e) ≡ s) →
-      (k ≡ 0 → (n ≡ length (answersOf s e)) × (out ≡ answersOf s e ++ drop n answers)) →
+      (k ≡ 0 → (n ≡ length (answersBy s e)) × (out ≡ answersBy s e ++ drop n answers)) →
       ((k ≡ 0 → ⊥) → out ≡ answers) →
-      deliveryReady (stepBy s (callOf e)) ≡ true →
-      BatchLeft (eventBatch s e) answers (cond (eqb k 0) 1 0) (cond (eqb k 0) Complete (Refused k)) after (cond (eqb k 0) n 0) out
-  unfolding eventBatch
+      stateInRange (stepBy s (callOf e)) ≡ true →
+      BatchLeft (eventOnLists s e) answers (cond (eqb k 0) 1 0) (cond (eqb k 0) Complete (Refused k)) after (cond (eqb k 0) n 0) out
+  unfolding eventOnLists
   settled k after n answers out asks leaves kept done refused ok = rw asks (go (eqb k 0) refl)
     where
-      stays : deliveryReady after ≡ true
+      stays : stateInRange after ≡ true
       stays = rw leaves at ok
 
       go :
           (b : Bool) →
           eqb k 0 ≡ b →
-          BatchLeft (cond b (batch 1 Complete (stepBy s (callOf e)) (answersOf s e)) (batch 0 (Refused k) s [])) answers (cond b 1 0)
+          BatchLeft (cond b (batch 1 Complete (stepBy s (callOf e)) (answersBy s e)) (batch 0 (Refused k) s [])) answers (cond b 1 0)
           (cond b Complete (Refused k)) after (cond b n 0) out
       go true is =
           let h = done (eqb-true k 0 is) in
@@ -159,12 +140,12 @@ module _ (s : State) (e : Event) where
   -- one that answers nothing
   quiet :
       (k : ℕ) (after : State) (answers : List ℕ) →
-      answersOf s e ≡ [] →
+      answersBy s e ≡ [] →
       replyOf s e ≡ k →
       stepBy s (callOf e) ≡ after →
       ((k ≡ 0 → ⊥) → stepBy s (callOf e) ≡ s) →
-      deliveryReady (stepBy s (callOf e)) ≡ true →
-      BatchLeft (eventBatch s e) answers (cond (eqb k 0) 1 0) (cond (eqb k 0) Complete (Refused k)) after (cond (eqb k 0) 0 0) answers
+      stateInRange (stepBy s (callOf e)) ≡ true →
+      BatchLeft (eventOnLists s e) answers (cond (eqb k 0) 1 0) (cond (eqb k 0) Complete (Refused k)) after (cond (eqb k 0) 0 0) answers
   quiet k after answers none asks leaves kept ok =
       settled k after 0 answers answers asks leaves kept (λ z. (ap (λ (l : List ℕ). length l) (sym none), rw none)) (λ z. refl) ok
 
@@ -185,10 +166,10 @@ module _ (s : State) where
   -- a path's number and value: both or neither
   path-value : (y d : ℕ) → (pathOf s y d .number ≡ 0 → (w : paths.PathResult) × (pathOf s y d .value ≡ w ∷ [])) × ((pathOf s y d .number ≡ 0 → ⊥) → pathOf s y d .value ≡ [])
   unfolding pathOf
-  path-value y d = go (eqb (refusalOf (stateInRange s) (network s) (calls.path y d)) 0) refl
+  path-value y d = go (eqb (refusalOf (networkInRange s) (network s) (calls.path y d)) 0) refl
     where
       k : ℕ
-      k = refusalOf (stateInRange s) (network s) (calls.path y d)
+      k = refusalOf (networkInRange s) (network s) (calls.path y d)
 
       w : paths.PathResult
       w = paths.onward (hopIn s d) d (s .bench .bridges - 1) 0 y
@@ -201,30 +182,18 @@ module _ (s : State) where
       go true q = (λ z. (w, refl), λ some. absurd (some refl))
       go false q = (λ z. absurd (eqb-false k 0 q z), λ some. refl)
 
-  -- three numbers, where there is a value
-  pub delivered-length : (p : ℕ) → deliverOf s p .reply .number ≡ 0 → length (valueNumbers answerNumbers (deliverOf s p .reply .value)) ≡ 3
-  unfolding valueNumbers
-  delivered-length p none = let h = deliver-says s p none in rw (h .1) (answered-length (h .0))
-
-  pub repeated-length : (p : ℕ) → repeatOf s p .reply .number ≡ 0 → length (valueNumbers answerNumbers (repeatOf s p .reply .value)) ≡ 3
-  unfolding valueNumbers
-  repeated-length p none = let h = repeat-says s p none in rw (h .1) (answered-length (h .0))
-
-  pub path-length : (y d : ℕ) → pathOf s y d .number ≡ 0 → length (valueNumbers pathNumbers (pathOf s y d .value)) ≡ 3
-  path-length y d none = let h = path-value y d .0 none in rw (h .1) (path-numbers-length (h .0))
-
 -- an event whose call is a delivery or a repeat with outcome o
 pub record Receives (s : State) (e : Event) (o : DeliveryOutcome) : Type 0 where
-  pub answers : answersOf s e ≡ valueNumbers answerNumbers (o .reply .value)
+  pub answers : answersBy s e ≡ valueNumbers answerNumbers (o .reply .value)
   pub number : replyOf s e ≡ o .reply .number
   pub step : stepBy s (callOf e) ≡ state (o .bench) (s .costs) (o .sent) (o .held) (o .messages)
   pub kept : (o .reply .number ≡ 0 → ⊥) → stepBy s (callOf e) ≡ s
   pub says : o .reply .number ≡ 0 → (a : Answer) × (o .reply ≡ says a)
   pub silent : (o .reply .number ≡ 0 → ⊥) → o .reply .value ≡ []
 
-module _ (s : State) (ready : deliveryReady s ≡ true) (p : ℕ) where
+module _ (s : State) (ready : stateInRange s ≡ true) (p : ℕ) where
   pub deliver-receives : Receives s (Deliver p) (deliverOf s p)
-  unfolding answersOf
+  unfolding answersBy
   deliver-receives =
       record {
         answers = refl;
@@ -236,7 +205,7 @@ module _ (s : State) (ready : deliveryReady s ≡ true) (p : ℕ) where
       }
 
   pub repeat-receives : Receives s (Repeat p) (repeatOf s p)
-  unfolding answersOf
+  unfolding answersBy
   repeat-receives =
       record {
         answers = refl;
@@ -257,24 +226,24 @@ module _ (b : Bench) (costs sent held m answers : List ℕ) where
 
   updated :
       (y t : ℕ) (o : ChangeOutcome) →
-      deliveryReady Whole ≡ true →
+      stateInRange Whole ≡ true →
       o ≡ updateOf Whole y t →
-      deliveryReady (stepBy Whole (callOf (Update y t))) ≡ true →
+      stateInRange (stepBy Whole (callOf (Update y t))) ≡ true →
       let k = o .reply in
-      BatchLeft (eventBatch Whole (Update y t)) answers (cond (eqb k 0) 1 0) (cond (eqb k 0) Complete (Refused k)) (stateOf Whole o)
+      BatchLeft (eventOnLists Whole (Update y t)) answers (cond (eqb k 0) 1 0) (cond (eqb k 0) Complete (Refused k)) (stateOf Whole o)
       (cond (eqb k 0) 0 0) answers
-  unfolding answersOf
+  unfolding answersBy
   updated y t o ready is ok =
       rw is
       (quiet Whole (Update y t) (updateOf Whole y t .reply) _ answers refl (update-reply Whole ready y t) (update-step Whole y t) (update-kept Whole y t) ok)
 
   pub update-leaves :
       (y t : ℕ) (u : Updating) →
-      deliveryReady Whole ≡ true →
+      stateInRange Whole ≡ true →
       updatingTo u Whole y t ≡ updateOf Whole y t →
-      deliveryReady (stepBy Whole (callOf (Update y t))) ≡ true →
+      stateInRange (stepBy Whole (callOf (Update y t))) ≡ true →
       let k = updatingNumber u in
-      BatchLeft (eventBatch Whole (Update y t)) answers (cond (eqb k 0) 1 0) (cond (eqb k 0) Complete (Refused k))
+      BatchLeft (eventOnLists Whole (Update y t)) answers (cond (eqb k 0) 1 0) (cond (eqb k 0) Complete (Refused k))
       (appliedTo (cond (eqb k 0) (updatingEffect u y t) Same) Whole) (cond (eqb k 0) 0 0) answers
   update-leaves y t (Updating.Refused k) ready is ok = rw (same-either (eqb k 0) Whole) (updated y t _ ready is ok)
   update-leaves y t Updating.Stays ready is ok = updated y t _ ready is ok
@@ -300,7 +269,7 @@ module _ (b : Bench) (costs sent held m answers : List ℕ) where
       go true e = (sym (eqb-true k 0 e), refl)
       go false e = (refl, refl)
 
-  module _ (l : ℕ) (ready : deliveryReady Whole ≡ true) where
+  module _ (l : ℕ) (ready : stateInRange Whole ≡ true) where
     in-range : benchInRange b ≡ true
     in-range = bench-ready Whole (told Whole ready)
 
@@ -323,19 +292,19 @@ module _ (b : Bench) (costs sent held m answers : List ℕ) where
         (ap (λ (k : ℕ). orRefused k (λ j. benchOutcome j b) (benchOutcome 0 (benchWithCut b l false))) (refusal-ready (benchInRange b) (networkOf b []) (calls.change (calls.restore l)) in-range))
 
     pub cut-leaves :
-        deliveryReady (stepBy Whole (callOf (Cut l))) ≡ true →
-        BatchLeft (eventBatch Whole (Cut l)) answers (cond (eqb cutNumber 0) 1 0) (cond (eqb cutNumber 0) Complete (Refused cutNumber))
+        stateInRange (stepBy Whole (callOf (Cut l))) ≡ true →
+        BatchLeft (eventOnLists Whole (Cut l)) answers (cond (eqb cutNumber 0) 1 0) (cond (eqb cutNumber 0) Complete (Refused cutNumber))
         (appliedTo (cond (eqb cutNumber 0) (CutFlag l true) Same) Whole) (cond (eqb cutNumber 0) 0 0) answers
-    unfolding answersOf
+    unfolding answersBy
     cut-leaves ok =
         renumbered 0 (cut-flagged .0) (cut-flagged .1)
         (quiet Whole (Cut l) (cutOf b l .reply) _ answers refl (cut-reply Whole ready l) (cut-step Whole l) (cut-kept Whole l) ok)
 
     pub restore-leaves :
-        deliveryReady (stepBy Whole (callOf (Restore l))) ≡ true →
-        BatchLeft (eventBatch Whole (Restore l)) answers (cond (eqb restoreNumber 0) 1 0) (cond (eqb restoreNumber 0) Complete (Refused restoreNumber))
+        stateInRange (stepBy Whole (callOf (Restore l))) ≡ true →
+        BatchLeft (eventOnLists Whole (Restore l)) answers (cond (eqb restoreNumber 0) 1 0) (cond (eqb restoreNumber 0) Complete (Refused restoreNumber))
         (appliedTo (cond (eqb restoreNumber 0) (CutFlag l false) Same) Whole) (cond (eqb restoreNumber 0) 0 0) answers
-    unfolding answersOf
+    unfolding answersBy
     restore-leaves ok =
         renumbered 0 (restore-flagged .0) (restore-flagged .1)
         (quiet Whole (Restore l) (restoreOf b l .reply) _ answers refl (restore-reply Whole ready l) (restore-step Whole l) (restore-kept Whole l) ok)
@@ -358,9 +327,9 @@ module _ (b : Bench) (costs sent held m answers : List ℕ) where
   queued :
       (e : Event) (q : QueueChange) (m' : List ℕ) →
       let k = queueChangeNumber q in
-      BatchLeft (eventBatch Whole e) answers (cond (eqb k 0) 1 0) (cond (eqb k 0) Complete (Refused k)) (state (queueChangeBench q b) costs sent held m')
+      BatchLeft (eventOnLists Whole e) answers (cond (eqb k 0) 1 0) (cond (eqb k 0) Complete (Refused k)) (state (queueChangeBench q b) costs sent held m')
       (cond (eqb k 0) 0 0) answers →
-      BatchLeft (eventBatch Whole e) answers (cond (eqb k 0) 1 0) (cond (eqb k 0) Complete (Refused k))
+      BatchLeft (eventOnLists Whole e) answers (cond (eqb k 0) 1 0) (cond (eqb k 0) Complete (Refused k))
       (appliedTo (cond (eqb k 0) (queueChangeEffect q) Same) (state b costs sent held m')) (cond (eqb k 0) 0 0) answers
   queued e (QueueChange.Refused k) m' leaves = rw (same-either (eqb k 0) (state b costs sent held m')) leaves
   queued e (QueueChange.Length n) m' leaves = leaves
@@ -371,43 +340,43 @@ module _ (b : Bench) (costs sent held m answers : List ℕ) where
 
   sent-by :
       (y l : ℕ) (o : QueueOutcome) →
-      deliveryReady Whole ≡ true →
+      stateInRange Whole ≡ true →
       o ≡ sendOf b m y l →
-      deliveryReady (stepBy Whole (callOf (Send y l))) ≡ true →
+      stateInRange (stepBy Whole (callOf (Send y l))) ≡ true →
       let k = o .reply in
-      BatchLeft (eventBatch Whole (Send y l)) answers (cond (eqb k 0) 1 0) (cond (eqb k 0) Complete (Refused k))
+      BatchLeft (eventOnLists Whole (Send y l)) answers (cond (eqb k 0) 1 0) (cond (eqb k 0) Complete (Refused k))
       (state (o .bench) costs sent held (o .messages)) (cond (eqb k 0) 0 0) answers
-  unfolding answersOf
+  unfolding answersBy
   sent-by y l o ready is ok = rw is (quiet Whole (Send y l) (sendOf b m y l .reply) _ answers refl (send-reply Whole ready y l) (send-step Whole y l) (send-kept Whole y l) ok)
 
   pub send-leaves :
       (y l : ℕ) (q : QueueChange) {m' : List ℕ} →
-      deliveryReady Whole ≡ true →
+      stateInRange Whole ≡ true →
       queueOutcome (queueChangeNumber q) (queueChangeBench q b) m' ≡ sendOf b m y l →
-      deliveryReady (stepBy Whole (callOf (Send y l))) ≡ true →
+      stateInRange (stepBy Whole (callOf (Send y l))) ≡ true →
       let k = queueChangeNumber q in
-      BatchLeft (eventBatch Whole (Send y l)) answers (cond (eqb k 0) 1 0) (cond (eqb k 0) Complete (Refused k))
+      BatchLeft (eventOnLists Whole (Send y l)) answers (cond (eqb k 0) 1 0) (cond (eqb k 0) Complete (Refused k))
       (appliedTo (cond (eqb k 0) (queueChangeEffect q) Same) (state b costs sent held m')) (cond (eqb k 0) 0 0) answers
   send-leaves y l q {m'} ready is ok = queued (Send y l) q m' (sent-by y l _ ready is ok)
 
   lost-by :
       (p : ℕ) (o : QueueOutcome) →
-      deliveryReady Whole ≡ true →
+      stateInRange Whole ≡ true →
       o ≡ loseOf b m p →
-      deliveryReady (stepBy Whole (callOf (Lose p))) ≡ true →
+      stateInRange (stepBy Whole (callOf (Lose p))) ≡ true →
       let k = o .reply in
-      BatchLeft (eventBatch Whole (Lose p)) answers (cond (eqb k 0) 1 0) (cond (eqb k 0) Complete (Refused k))
+      BatchLeft (eventOnLists Whole (Lose p)) answers (cond (eqb k 0) 1 0) (cond (eqb k 0) Complete (Refused k))
       (state (o .bench) costs sent held (o .messages)) (cond (eqb k 0) 0 0) answers
-  unfolding answersOf
+  unfolding answersBy
   lost-by p o ready is ok = rw is (quiet Whole (Lose p) (loseOf b m p .reply) _ answers refl (lose-reply Whole ready p) (lose-step Whole p) (lose-kept Whole p) ok)
 
   pub lose-leaves :
       (p : ℕ) (q : QueueChange) {m' : List ℕ} →
-      deliveryReady Whole ≡ true →
+      stateInRange Whole ≡ true →
       queueOutcome (queueChangeNumber q) (queueChangeBench q b) m' ≡ loseOf b m p →
-      deliveryReady (stepBy Whole (callOf (Lose p))) ≡ true →
+      stateInRange (stepBy Whole (callOf (Lose p))) ≡ true →
       let k = queueChangeNumber q in
-      BatchLeft (eventBatch Whole (Lose p)) answers (cond (eqb k 0) 1 0) (cond (eqb k 0) Complete (Refused k))
+      BatchLeft (eventOnLists Whole (Lose p)) answers (cond (eqb k 0) 1 0) (cond (eqb k 0) Complete (Refused k))
       (appliedTo (cond (eqb k 0) (queueChangeEffect q) Same) (state b costs sent held m')) (cond (eqb k 0) 0 0) answers
   lose-leaves p q {m'} ready is ok = queued (Lose p) q m' (lost-by p _ ready is ok)
 
@@ -440,9 +409,9 @@ module _ (b : Bench) (costs sent held m answers : List ℕ) where
       x ≡ o →
       3 ≤ length answers →
       out ≡ sets answers 0 (valueNumbers answerNumbers (x .reply .value)) →
-      deliveryReady (stepBy Whole (callOf e)) ≡ true →
+      stateInRange (stepBy Whole (callOf e)) ≡ true →
       let k = x .reply .number in
-      BatchLeft (eventBatch Whole e) answers (cond (eqb k 0) 1 0) (cond (eqb k 0) Complete (Refused k))
+      BatchLeft (eventOnLists Whole e) answers (cond (eqb k 0) 1 0) (cond (eqb k 0) Complete (Refused k))
       (state (x .bench) costs (x .sent) (x .held) (x .messages)) (cond (eqb k 0) 3 0) out
   received-by e o is x out same room set ok =
       rw (set, same)
@@ -455,9 +424,9 @@ module _ (b : Bench) (costs sent held m answers : List ℕ) where
   received :
       (e : Event) (r : Reception) (count : ℕ) (sent' held' m' out : List ℕ) →
       let k = receptionResponse r .number in
-      BatchLeft (eventBatch Whole e) answers (cond (eqb k 0) 1 0) (cond (eqb k 0) Complete (Refused k))
+      BatchLeft (eventOnLists Whole e) answers (cond (eqb k 0) 1 0) (cond (eqb k 0) Complete (Refused k))
       (state (receptionBench r b count) costs sent' held' m') (cond (eqb k 0) 3 0) out →
-      BatchLeft (eventBatch Whole e) answers (cond (eqb k 0) 1 0) (cond (eqb k 0) Complete (Refused k))
+      BatchLeft (eventOnLists Whole e) answers (cond (eqb k 0) 1 0) (cond (eqb k 0) Complete (Refused k))
       (appliedTo (cond (eqb k 0) (receptionEffect r count) Same) (state b costs sent' held' m')) (cond (eqb k 0) 3 0) out
   received e (Reception.Refused k) count sent' held' m' out leaves = rw (same-either (eqb k 0) (state b costs sent' held' m')) leaves
   received e (Reception.Accepted a end after) count sent' held' m' out leaves = leaves
@@ -473,9 +442,9 @@ module _ (b : Bench) (costs sent held m answers : List ℕ) where
       deliveryOutcome (receptionResponse r) (receptionBench r b count) sent' held' m' ≡ o →
       3 ≤ length answers →
       out ≡ sets answers 0 (valueNumbers answerNumbers (receptionResponse r .value)) →
-      deliveryReady (stepBy Whole (callOf e)) ≡ true →
+      stateInRange (stepBy Whole (callOf e)) ≡ true →
       let k = receptionResponse r .number in
-      BatchLeft (eventBatch Whole e) answers (cond (eqb k 0) 1 0) (cond (eqb k 0) Complete (Refused k))
+      BatchLeft (eventOnLists Whole e) answers (cond (eqb k 0) 1 0) (cond (eqb k 0) Complete (Refused k))
       (appliedTo (cond (eqb k 0) (receptionEffect r count) Same) (state b costs sent' held' m')) (cond (eqb k 0) 3 0) out
   received-leaves e o r count {sent'} {held'} {m'} {out} is same room set ok =
       received e r count sent' held' m' out (received-by e o is _ out same room set ok)
@@ -485,11 +454,11 @@ module _ (b : Bench) (costs sent held m answers : List ℕ) where
       o ≡ pathOf Short y d →
       3 ≤ length answers →
       out ≡ sets answers 0 (valueNumbers pathNumbers (o .value)) →
-      deliveryReady Whole ≡ true →
+      stateInRange Whole ≡ true →
       let k = o .number in
-      BatchLeft (eventBatch Whole (Path y d)) answers (cond (eqb k 0) 1 0) (cond (eqb k 0) Complete (Refused k))
+      BatchLeft (eventOnLists Whole (Path y d)) answers (cond (eqb k 0) 1 0) (cond (eqb k 0) Complete (Refused k))
       (appliedTo (cond (eqb k 0) Same Same) Whole) (cond (eqb k 0) 3 0) out
-  unfolding answersOf
+  unfolding answersBy
   path-leaves y d {o} is room set ok =
       let told = path-value Whole y d in
       rw (same-either (eqb (o .number) 0) Whole, set, is, path-reads Whole [] y d)
@@ -501,28 +470,28 @@ module _ (b : Bench) (costs sent held m answers : List ℕ) where
       (rw (path-step Whole y d) ok))
 
   -- a report's check reads no messages
-  report-number : (d : ℕ) → refusalOf (stateInRange Short) (network Short) (calls.report d) ≡ refusalOf (stateInRange Whole) (network Whole) (calls.report d)
+  report-number : (d : ℕ) → refusalOf (networkInRange Short) (network Short) (calls.report d) ≡ refusalOf (networkInRange Whole) (network Whole) (calls.report d)
   unfolding refusalOf calls.checks calls.noSuchBridge
   report-number d = refl
 
   pub report-told :
       (d : ℕ) (known : List Bool) {r : EventResult} →
-      r ≡ eventResult (refusalOf (stateInRange Short) (network Short) (calls.report d)) (2 * b .bridges) Same →
+      r ≡ eventResult (refusalOf (networkInRange Short) (network Short) (calls.report d)) (2 * b .bridges) Same →
       CanApply (r .effect) b known
-  report-told d known is = quiet-told (refusalOf (stateInRange Short) (network Short) (calls.report d)) (2 * b .bridges) b known is
+  report-told d known is = quiet-told (refusalOf (networkInRange Short) (network Short) (calls.report d)) (2 * b .bridges) b known is
 
   pub report-leaves :
       (d : ℕ) {out : List ℕ} →
-      let k = refusalOf (stateInRange Short) (network Short) (calls.report d) in
+      let k = refusalOf (networkInRange Short) (network Short) (calls.report d) in
       2 * b .bridges ≤ length answers →
       out ≡ cond (eqb k 0) (reported Short d (b .bridges) answers) answers →
-      deliveryReady Whole ≡ true →
-      BatchLeft (eventBatch Whole (Report d)) answers (cond (eqb k 0) 1 0) (cond (eqb k 0) Complete (Refused k))
+      stateInRange Whole ≡ true →
+      BatchLeft (eventOnLists Whole (Report d)) answers (cond (eqb k 0) 1 0) (cond (eqb k 0) Complete (Refused k))
       (appliedTo (cond (eqb k 0) Same Same) Whole) (cond (eqb k 0) (2 * b .bridges) 0) out
-  unfolding answersOf
+  unfolding answersBy
   report-leaves d room rows ok =
-      rw (same-either (eqb (refusalOf (stateInRange Short) (network Short) (calls.report d)) 0) Whole, rows, report-number d, reported-reads Whole [] d (b .bridges) answers)
-      (settled Whole (Report d) (refusalOf (stateInRange Whole) (network Whole) (calls.report d)) Whole (2 * b .bridges) answers _ (report-reply Whole ok d) (report-step Whole d)
+      rw (same-either (eqb (refusalOf (networkInRange Short) (network Short) (calls.report d)) 0) Whole, rows, report-number d, reported-reads Whole [] d (b .bridges) answers)
+      (settled Whole (Report d) (refusalOf (networkInRange Whole) (network Whole) (calls.report d)) Whole (2 * b .bridges) answers _ (report-reply Whole ok d) (report-step Whole d)
       (λ some. report-step Whole d)
       (λ e. rw (eq-eqb _ 0 e) (sym (rows-length Whole d (b .bridges)), reported-head Whole d answers (b .bridges) room))
       (λ some. rw (ne-eqb _ 0 some))
@@ -531,8 +500,8 @@ module _ (b : Bench) (costs sent held m answers : List ℕ) where
 -- ---- for the code
 
 -- a report that is turned down, and one that is not
-module _ (s : State) (ok : stateInRange s ≡ true) (d : ℕ) (answers : List ℕ) {k : ℕ} (is : k ≡ refuse (networkOf (s .bench) []) (calls.report d)) where
-  same-number : refusalOf (stateInRange s) (network s) (calls.report d) ≡ k
+module _ (s : State) (ok : networkInRange s ≡ true) (d : ℕ) (answers : List ℕ) {k : ℕ} (is : k ≡ refuse (networkOf (s .bench) []) (calls.report d)) where
+  same-number : refusalOf (networkInRange s) (network s) (calls.report d) ≡ k
   unfolding refuse calls.checks calls.noSuchBridge
   same-number = refusal-ready _ _ _ ok ∙ sym is
 
@@ -544,16 +513,17 @@ module _ (s : State) (ok : stateInRange s ≡ true) (d : ℕ) (answers : List �
   report-done none by rows = rw (same-number, by, rows, none) (refl, refl)
 
 -- an answer that has no room, and one that has
-module _ (s : State) (e : Event) (answers : List ℕ) (ok : deliveryReady s ≡ true) where
+module _ (s : State) (e : Event) (answers : List ℕ) (ok : stateInRange s ≡ true) where
   pub full-leaves : length answers < answerSize (s .bench .bridges) e → BatchLeft (eventBatchIn (length answers) s e) answers 0 Full s 0 answers
   unfolding eventBatchIn
   full-leaves few =
       rw (lt-ltb _ _ few) (record { made = refl; disposition = refl; state = refl; counted = refl; rest = refl; ready = ok })
 
   pub room-leaves :
+      Typed (s .bench) →
       answerSize (s .bench .bridges) e ≤ length answers →
       {count answered : ℕ} {how : Disposition} {next : State} {after : List ℕ} →
-      BatchLeft (eventBatch s e) answers count how next answered after →
+      BatchLeft (eventOnLists s e) answers count how next answered after →
       BatchLeft (eventBatchIn (length answers) s e) answers count how next answered after
   unfolding eventBatchIn
-  room-leaves room leaves = rw (le-ltb _ _ room) leaves
+  room-leaves typed room leaves = rw (le-ltb _ _ room, ← event-is s ok typed e) leaves

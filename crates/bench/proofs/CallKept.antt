@@ -4,8 +4,8 @@ use native.Mathlib.Omega.{arith}
 use mathlib.Core.Path.{_≡_, refl, sym, ap, _∙_}
 use mathlib.Core.Bool.{Bool, true, false, cond, _&&_}
 use mathlib.Core.List.{List, [], _∷_}
-use lib.ListN.{length, getD}
-use lib.Dec.{eqb, leb}
+use lib.ListN.{getD}
+use lib.Dec.{eqb}
 use Rattle.agreement.specs.Offer.{opposite}
 use Rattle.agreement.specs.Call.{Response, says}
 use Rattle.agreement.specs.declared.Answer.{Answer}
@@ -13,13 +13,16 @@ use borrow.Author.Tests.{eq-eqb}
 use Rattle.protocol.specs.Net.{sender}
 use Rattle.protocol.specs.Calls.{Call, Check, change, update, cut, restore, send, deliver, repeat, lose, refuse, checks, noMessage}
 use Rattle.protocol.specs.Calls as calls
-use Rattle.bench.specs.State.{State, network, networkOf, messageFrom}
+use Rattle.bench.specs.State.{State, network, messageFrom}
+use Rattle.bench.specs.Private.Views.{networkOf}
 use Rattle.bench.specs.Ranges.{benchInRange, messagesInRange}
-use Rattle.bench.specs.Changes.{BenchOutcome, benchOutcome, ChangeOutcome, changeOutcome, refusalOf, orRefused, stateInRange, updateOf, cutOf, restoreOf}
-use Rattle.bench.specs.Queue.{QueueOutcome, queueOutcome, sendOf, loseOf}
-use Rattle.bench.specs.Deliveries.{DeliveryOutcome, received, deliveryReady, deliveryRefused, deliverOf, repeatOf}
-use Rattle.bench.specs.Answers.{ReportOutcome, reportOutcome, reportOf}
-use Rattle.bench.specs.Whole.{stepBy}
+use Rattle.bench.specs.Private.Changes.{BenchOutcome, benchOutcome, ChangeOutcome, changeOutcome, updateOf, cutOf, restoreOf}
+use Rattle.bench.specs.Contracts.{refusalOf, orRefused}
+use Rattle.bench.specs.Ranges.{networkInRange}
+use Rattle.bench.specs.Private.Queue.{QueueOutcome, queueOutcome, sendOf, loseOf}
+use Rattle.bench.specs.Private.Deliveries.{DeliveryOutcome, received, deliveryRefused, deliverOf, repeatOf}
+use Rattle.bench.specs.Ranges.{stateInRange}
+use Rattle.bench.specs.Private.ListSteps.{stepBy}
 use Rattle.protocol.proofs.Accepted.{place-listed}
 use Rattle.bench.proofs.CallSteps.{withChanged, withRewritten, withQueue, withDelivered}
 use Rattle.bench.proofs.EntryOutcomes.{reply-is, reply-some}
@@ -56,7 +59,7 @@ module _ (s : State) where
   unfolding restoreOf
   restore-number l = reply-is (λ o. o .reply) _ (λ k. benchOutcome k (s .bench)) _ (λ j. refl) (λ z. refl)
 
-  pub update-number : (y t : ℕ) → updateOf s y t .reply ≡ refusalOf (stateInRange s) (network s) (change (update y t))
+  pub update-number : (y t : ℕ) → updateOf s y t .reply ≡ refusalOf (networkInRange s) (network s) (change (update y t))
   unfolding updateOf
   update-number y t =
       reply-is (λ o. o .reply) _ (λ k. changeOutcome k (s .bench) (s .sent) (s .held)) _ (λ j. refl)
@@ -74,7 +77,7 @@ module _ (s : State) where
   unfolding stepBy updateOf
   update-kept y t some =
       ap (withRewritten s)
-      (reply-some (λ o. o .reply) (refusalOf (stateInRange s) (network s) (change (update y t))) (λ k. changeOutcome k (s .bench) (s .sent) (s .held)) _ (λ k. refl)
+      (reply-some (λ o. o .reply) (refusalOf (networkInRange s) (network s) (change (update y t))) (λ k. changeOutcome k (s .bench) (s .sent) (s .held)) _ (λ k. refl)
       (λ e. either-accepted (eqb (getD (s .bench .view) y 0) t) _ _ refl refl)
       some)
 
@@ -113,11 +116,11 @@ module _ (s : State) where
   placed-says :
       (p : ℕ) (c : Call) (cs : List Check) →
       checks (network s) c ≡ noMessage (network s) p ∷ cs →
-      refusalOf (deliveryReady s) (network s) c ≡ 0 →
+      refusalOf (stateInRange s) (network s) c ≡ 0 →
       (a : Answer) × (received s p .reply ≡ says a)
   unfolding refuse
   placed-says p c cs asks none =
-      let h = refusal-none (deliveryReady s) (network s) c none in
+      let h = refusal-none (stateInRange s) (network s) c none in
       let low : p < s .bench .messages = rw messages-length at (place-listed (network s) p cs (rw asks at (h .1))) in
       let inside = message-told _ _ (messageFrom (s .messages) p) (told s (h .0) .message p low) in
       received-says s (told s (h .0)) (opposite (sender (messageFrom (s .messages) p))) (omega (arith, inside .link, inside .direction)) _ inside
@@ -125,15 +128,15 @@ module _ (s : State) where
   placed-taken :
       (p : ℕ) (c : Call) (cs : List Check) →
       checks (network s) c ≡ noMessage (network s) p ∷ cs →
-      refusalOf (deliveryReady s) (network s) c ≡ 0 →
+      refusalOf (stateInRange s) (network s) c ≡ 0 →
       received s p .reply .number ≡ 0
   placed-taken p c cs asks none = ap (λ (o : Response Answer). o .number) (placed-says p c cs asks none .1)
 
-  pub deliver-number : (p : ℕ) → deliverOf s p .reply .number ≡ refusalOf (deliveryReady s) (network s) (deliver p)
+  pub deliver-number : (p : ℕ) → deliverOf s p .reply .number ≡ refusalOf (stateInRange s) (network s) (deliver p)
   unfolding deliverOf checks
   deliver-number p = reply-is (λ o. o .reply .number) _ (deliveryRefused s) _ (λ j. refl) (placed-taken p (deliver p) _ refl)
 
-  pub repeat-number : (p : ℕ) → repeatOf s p .reply .number ≡ refusalOf (deliveryReady s) (network s) (repeat p)
+  pub repeat-number : (p : ℕ) → repeatOf s p .reply .number ≡ refusalOf (stateInRange s) (network s) (repeat p)
   unfolding repeatOf checks
   repeat-number p = reply-is (λ o. o .reply .number) _ (deliveryRefused s) _ (λ j. refl) (placed-taken p (repeat p) _ refl)
 
@@ -144,21 +147,21 @@ module _ (s : State) where
   pub deliver-says : (p : ℕ) → deliverOf s p .reply .number ≡ 0 → (a : Answer) × (deliverOf s p .reply ≡ says a)
   unfolding deliverOf checks
   deliver-says p e =
-      let none : refusalOf (deliveryReady s) (network s) (deliver p) ≡ 0 = sym (deliver-number p) ∙ e in
+      let none : refusalOf (stateInRange s) (network s) (deliver p) ≡ 0 = sym (deliver-number p) ∙ e in
       let h = placed-says p (deliver p) _ refl none in
       (h .0, accepted-says _ _ (h .0) none (h .1))
 
   pub repeat-says : (p : ℕ) → repeatOf s p .reply .number ≡ 0 → (a : Answer) × (repeatOf s p .reply ≡ says a)
   unfolding repeatOf checks
   repeat-says p e =
-      let none : refusalOf (deliveryReady s) (network s) (repeat p) ≡ 0 = sym (repeat-number p) ∙ e in
+      let none : refusalOf (stateInRange s) (network s) (repeat p) ≡ 0 = sym (repeat-number p) ∙ e in
       let h = placed-says p (repeat p) _ refl none in
       (h .0, accepted-says _ _ (h .0) none (h .1))
 
   delivered-kept :
       (c : Call) (done : DeliveryOutcome) →
-      (refusalOf (deliveryReady s) (network s) c ≡ 0 → done .reply .number ≡ 0) →
-      let o : DeliveryOutcome = orRefused (refusalOf (deliveryReady s) (network s) c) (deliveryRefused s) done in
+      (refusalOf (stateInRange s) (network s) c ≡ 0 → done .reply .number ≡ 0) →
+      let o : DeliveryOutcome = orRefused (refusalOf (stateInRange s) (network s) c) (deliveryRefused s) done in
       (o .reply .number ≡ 0 → ⊥) →
       withDelivered s o ≡ s
   delivered-kept c done zero some = ap (withDelivered s) (reply-some (λ o. o .reply .number) _ (deliveryRefused s) done (λ j. refl) zero some)
@@ -166,8 +169,8 @@ module _ (s : State) where
   -- and one that is refused brings none
   refused-silent :
       (c : Call) (done : DeliveryOutcome) →
-      (refusalOf (deliveryReady s) (network s) c ≡ 0 → done .reply .number ≡ 0) →
-      let o : DeliveryOutcome = orRefused (refusalOf (deliveryReady s) (network s) c) (deliveryRefused s) done in
+      (refusalOf (stateInRange s) (network s) c ≡ 0 → done .reply .number ≡ 0) →
+      let o : DeliveryOutcome = orRefused (refusalOf (stateInRange s) (network s) c) (deliveryRefused s) done in
       (o .reply .number ≡ 0 → ⊥) →
       o .reply .value ≡ []
   refused-silent c done zero some =
@@ -188,4 +191,3 @@ module _ (s : State) where
   pub repeat-kept : (p : ℕ) → (repeatOf s p .reply .number ≡ 0 → ⊥) → stepBy s (repeat p) ≡ s
   unfolding stepBy repeatOf checks
   repeat-kept p = delivered-kept (repeat p) _ (placed-taken p (repeat p) _ refl)
-  -- ---- a report

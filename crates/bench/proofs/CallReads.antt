@@ -2,10 +2,10 @@
 use Prim.Native.Nat.{ℕ, zero, suc}
 use mathlib.Core.Path.{_≡_, refl}
 use mathlib.Core.List.{List}
-use Rattle.protocol.specs.Calls.{checks, changeChecks, noSuchBridge, noSuchView, noNumberLeft}
+use Rattle.protocol.specs.Calls.{checks, noSuchBridge}
 use Rattle.bench.specs.State.{State, state}
-use Rattle.bench.specs.Changes.{refusalOf, updateOf}
-use Rattle.bench.specs.Answers.{portIn, reportedRow, reported, reportOf, hopIn, pathOf}
+use Rattle.bench.specs.Contracts.{refusalOf}
+use Rattle.bench.specs.Private.Answers.{portIn, reportedRow, reported, hopIn, pathOf}
 
 module _ (s : State) (m : List ℕ) where
   -- with other messages

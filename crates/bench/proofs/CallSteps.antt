@@ -1,13 +1,12 @@
--- What `stepBy` and `runBy` are, call by call, for whoever makes the calls in another form. Assumes nothing.
+-- What `stepBy` is, call by call. Assumes nothing.
 use Prim.Native.Nat.{ℕ}
 use mathlib.Core.Path.{_≡_, refl}
-use mathlib.Core.List.{List, [], _∷_}
-use Rattle.protocol.specs.Calls.{Call, change, update, cut, restore, send, deliver, repeat, lose, port, report, path}
+use Rattle.protocol.specs.Calls.{change, update, cut, restore, send, deliver, repeat, lose, report, path}
 use Rattle.bench.specs.State.{State, state}
-use Rattle.bench.specs.Changes.{BenchOutcome, ChangeOutcome, cutOf, restoreOf, updateOf}
-use Rattle.bench.specs.Queue.{QueueOutcome, sendOf, loseOf}
-use Rattle.bench.specs.Deliveries.{DeliveryOutcome, deliverOf, repeatOf}
-use Rattle.bench.specs.Whole.{stepBy, runBy}
+use Rattle.bench.specs.Private.Changes.{BenchOutcome, ChangeOutcome, cutOf, restoreOf, updateOf}
+use Rattle.bench.specs.Private.Queue.{QueueOutcome, sendOf, loseOf}
+use Rattle.bench.specs.Private.Deliveries.{DeliveryOutcome, deliverOf, repeatOf}
+use Rattle.bench.specs.Private.ListSteps.{stepBy}
 
 -- the state with what a call on the bench alone has made of it
 abbrev pub withChanged : State → BenchOutcome → State
@@ -61,25 +60,3 @@ module _ (s : State) where
   pub path-step : (y d : ℕ) → stepBy s (path y d) ≡ s
   unfolding stepBy
   path-step y d = refl
-
-  -- no call changes the costs
-  pub step-lasting : (c : Call) → stepBy s c .costs ≡ s .costs
-  unfolding stepBy
-  step-lasting (change (update y t)) = refl
-  step-lasting (change (cut l)) = refl
-  step-lasting (change (restore l)) = refl
-  step-lasting (send y l) = refl
-  step-lasting (deliver p) = refl
-  step-lasting (repeat p) = refl
-  step-lasting (lose p) = refl
-  step-lasting (port y d) = refl
-  step-lasting (report d) = refl
-  step-lasting (path y d) = refl
-
-  pub run-none : runBy s [] ≡ s
-  unfolding runBy
-  run-none = refl
-
-  pub run-next : (c : Call) (cs : List Call) → runBy s (c ∷ cs) ≡ runBy (stepBy s c) cs
-  unfolding runBy
-  run-next c cs = refl

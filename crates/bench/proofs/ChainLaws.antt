@@ -11,7 +11,7 @@ use borrow.Author.Tests.{eqb-true, eqb-false}
 use lib.ListN.{length, getD, set, replicate, length-replicate, length-set, getD-replicate}
 use lib.Seq.{getD-set-same, getD-set-other}
 use lib.Dec.{eqb}
-use Rattle.bench.specs.Chains.{IsNext, Chained}
+use Rattle.bench.specs.Private.Chains.{IsNext, Chained}
 
 -- the chains of the ends from e on
 pub record ChainedFrom (links : ℕ) (places : List ℕ) (e : ℕ) (chain : List ℕ) : Type 0 where

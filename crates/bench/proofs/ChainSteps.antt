@@ -19,10 +19,10 @@ use Rattle.agreement.specs.declared.EndRecord.{EndRecord}
 use Rattle.agreement.proofs.BetweenLaws.{update-between}
 use Rattle.agreement.proofs.InRange.{end-passes}
 use Rattle.bench.specs.State.{State}
-use Rattle.bench.specs.Ranges.{networkInRange}
-use Rattle.bench.specs.Changes.{Ends, ends, ended, movedEnd, movedEnds}
-use Rattle.bench.specs.Chains.{IsNext}
-use Rattle.bench.specs.Steps.{IsFilled, choiceIn}
+use Rattle.bench.specs.Ranges.{partsInRange}
+use Rattle.bench.specs.Private.Changes.{Ends, ends, ended, movedEnd, movedEnds}
+use Rattle.bench.specs.Private.Chains.{IsNext}
+use Rattle.bench.specs.Private.Steps.{IsFilled, choiceIn}
 use Rattle.bench.specs.declared.Bench.{Bench}
 use Rattle.bench.proofs.TieRanges.{few, are-bridges, lent-in-range}
 use Rattle.bench.proofs.ChainLaws.{same-until}
@@ -94,7 +94,7 @@ module _ (v : ViewData) (views y t : ℕ) (start : Ends) where
 -- the ends of the links are bridges, for their chains
 pub ends-told :
     (b : Bench) (costs : List ℕ) (sent held : ℕ) →
-    networkInRange b costs sent held ≡ true →
+    partsInRange b costs sent held ≡ true →
     (b .links ≤ 32) × (2 * b .links ≤ length (b .ends)) × ((e : ℕ) → e < 2 * b .links → getD (b .ends) e 0 < 16)
 ends-told b costs sent held ok =
     let lasts = lasting b costs sent held ok in
@@ -104,7 +104,7 @@ ends-told b costs sent held ok =
 -- the parts of the costs and the tables that are lent are in range at each end
 pub parts-in-range :
     (b : Bench) (costs tables : List ℕ) (t sent held : ℕ) →
-    networkInRange b costs sent held ≡ true →
+    partsInRange b costs sent held ≡ true →
     t < b .views →
     IsFilled b costs tables t →
     (e : ℕ) →

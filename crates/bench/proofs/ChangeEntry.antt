@@ -8,8 +8,9 @@ use borrow.Author.Tests.{eq-eqb, ne-eqb}
 use Rattle.distances.proofs.Booleans.{both-true}
 use Rattle.protocol.specs.Net.{Network}
 use Rattle.protocol.specs.Calls.{change, update, noSuchBridge, noSuchView, noNumberLeft, changeChecks, checks, refuse, accepted}
-use Rattle.bench.specs.State.{State, network, networkOf}
-use Rattle.bench.specs.Ranges.{graphInRange, benchInRange, costsInRange, limitsLong, networkInRange}
+use Rattle.bench.specs.State.{State, network}
+use Rattle.bench.specs.Private.Views.{networkOf}
+use Rattle.bench.specs.Ranges.{graphInRange, costsInRange, limitsLong}
 use Rattle.bench.specs.declared.Bench.{Bench}
 use Rattle.protocol.proofs.Accepted.{UpdateExists, update-listed}
 use Rattle.bench.proofs.TieRanges.{LastingOf, lasting-told}

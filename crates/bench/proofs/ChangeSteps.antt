@@ -9,9 +9,9 @@ use Rattle.agreement.specs.Call.{ViewData, viewData, outcome, freshOutcome}
 use Rattle.agreement.specs.Record.{freshRecord}
 use Rattle.agreement.specs.declared.EndRecord.{EndRecord}
 use Rattle.agreement.proofs.Basics.{getD-default}
-use Rattle.bench.specs.State.{lentView}
-use Rattle.bench.specs.Changes.{Ends, ends, ended, movedEnd, movedEnds, movedBench, LimitTables, limitTables, startedEnds}
-use Rattle.bench.specs.Steps.{IsFilled}
+use Rattle.bench.specs.Private.Views.{lentView}
+use Rattle.bench.specs.Private.Changes.{Ends, ends, ended, movedEnd, movedEnds, movedBench, LimitTables, limitTables, startedEnds}
+use Rattle.bench.specs.Private.Steps.{IsFilled}
 use Rattle.bench.specs.declared.Bench.{Bench}
 
 -- a record is read with the array's own default

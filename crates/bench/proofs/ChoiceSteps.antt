@@ -28,11 +28,12 @@ use Rattle.agreement.proofs.Ends.{opposite-below}
 use Rattle.agreement.proofs.InRange.{records-pass, port-passes}
 use Rattle.agreement.proofs.Outcomes.{next-accepted, choice-accepted, port-accepted}
 use Rattle.agreement.proofs.ChoiceLaws.{choice-none, choice-here, choice-away, choice-distance, choice-link, choice-is-port}
-use Rattle.bench.specs.State.{State, network, lentView, part}
-use Rattle.bench.specs.Ranges.{graphInRange, benchInRange, costsInRange, limitsLong, networkInRange}
-use Rattle.bench.specs.Changes.{stateInRange}
-use Rattle.bench.specs.Answers.{found, portIn, reportedRow}
-use Rattle.bench.specs.Steps.{PortsReady, IsFilled, choiceIn, AreChoices}
+use Rattle.bench.specs.State.{State, network}
+use Rattle.bench.specs.Private.Views.{lentView}
+use Rattle.bench.specs.Ranges.{graphInRange, benchInRange, costsInRange, limitsLong, partsInRange}
+use Rattle.bench.specs.Ranges.{networkInRange}
+use Rattle.bench.specs.Private.Answers.{found, portIn, reportedRow}
+use Rattle.bench.specs.Private.Steps.{PortsReady, IsFilled, choiceIn, AreChoices}
 use Rattle.bench.specs.declared.Bench.{Bench}
 use Rattle.bench.proofs.TieRanges.{LastingOf, lasting-told, lent-in-range, plan-in-range, part-at, getD-stored}
 use Rattle.bench.proofs.QueueRanges.{bench-told, network-bench, network-costs, network-told}
@@ -42,7 +43,7 @@ use Rattle.encoding.specs.Numbers.{linkNumber}
 
 -- ---- what the entry check tells
 
-module _ (b : Bench) (costs : List ℕ) (sent held : ℕ) (ok : networkInRange b costs sent held ≡ true) where
+module _ (b : Bench) (costs : List ℕ) (sent held : ℕ) (ok : partsInRange b costs sent held ≡ true) where
   pub lasting : LastingOf b costs
   unfolding benchInRange
   lasting =
@@ -50,14 +51,14 @@ module _ (b : Bench) (costs : List ℕ) (sent held : ℕ) (ok : networkInRange b
       (network-costs b costs sent held ok)
 
   pub limits : (1024 ≤ sent) × (1024 ≤ held)
-  unfolding networkInRange limitsLong
+  unfolding partsInRange limitsLong
   limits =
       let h = both-true (leb 1024 sent) _ (both-true (costsInRange b costs) _ (both-true (benchInRange b) _ ok .1) .1) in
       (leb-true 1024 sent (h .0), leb-true 1024 held (h .1))
 
 pub ports-told :
     (b : Bench) (costs sent held : List ℕ) →
-    networkInRange b costs (length sent) (length held) ≡ true →
+    partsInRange b costs (length sent) (length held) ≡ true →
     PortsReady b costs sent held
 ports-told b costs sent held ok =
     let lasts = lasting b costs (length sent) (length held) ok in
@@ -107,7 +108,7 @@ port-said c (Forwarding.Found p) low e = said-same p (portBy c) (e ∙ choice-ac
 
 -- ---- the port by layer 2's definition
 
-module _ (s : State) (ok : stateInRange s ≡ true) (y d : ℕ) (hy : y < s .bench .bridges) (hd : d < s .bench .bridges) where
+module _ (s : State) (ok : networkInRange s ≡ true) (y d : ℕ) (hy : y < s .bench .bridges) (hd : d < s .bench .bridges) where
   abbrev pub lentTo : ViewData
   lentTo = lentView (s .bench) (s .costs) (getD (s .bench .view) y 0)
 
@@ -186,7 +187,7 @@ module _ (s : State) (d y : ℕ) where
 
 -- ---- all ends
 
-module _ (s : State) (ok : stateInRange s ≡ true) (d y : ℕ) (hy : y < s .bench .bridges) (hd : d < s .bench .bridges) where
+module _ (s : State) (ok : networkInRange s ≡ true) (d y : ℕ) (hy : y < s .bench .bridges) (hd : d < s .bench .bridges) where
   pub choice-port : portBy (choiceIn s d y (2 * s .bench .links)) ≡ portIn s y d
   unfolding choiceIn
   choice-port = choice-is-port _ _ _ _ y d ∙ sym (port-in s ok y d hy hd)

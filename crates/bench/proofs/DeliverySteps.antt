@@ -16,11 +16,13 @@ use Rattle.agreement.specs.declared.EndRecord.{EndRecord}
 use Rattle.agreement.proofs.Ends.{opposite-below}
 use Rattle.agreement.proofs.BetweenLaws.{deliver-between}
 use Rattle.agreement.proofs.Outcomes.{deliver-accepted}
-use Rattle.bench.specs.State.{State, state, lentView, messageFrom}
-use Rattle.bench.specs.Queue.{withCount}
-use Rattle.bench.specs.Deliveries.{arrivalEnd, deliveryOutcome, benchWithRecords, deliveryAt, deliveryReady, received}
-use Rattle.bench.specs.Effects.{receptionBench, Accepts, ReceptionFits, Takes, StandsIn}
-use Rattle.bench.specs.Steps.{IsFilled, TablesOf}
+use Rattle.bench.specs.State.{State, state, messageFrom}
+use Rattle.bench.specs.Private.Views.{lentView}
+use Rattle.bench.specs.Private.Queue.{withCount}
+use Rattle.bench.specs.Private.Deliveries.{arrivalEnd, deliveryOutcome, benchWithRecords, deliveryAt, received}
+use Rattle.bench.specs.Ranges.{stateInRange}
+use Rattle.bench.specs.Private.Effects.{receptionBench, Accepts, ReceptionFits, Takes, StandsIn}
+use Rattle.bench.specs.Private.Steps.{IsFilled, TablesOf}
 use Rattle.bench.specs.declared.Bench.{Bench}
 use Rattle.bench.specs.declared.effects.EndState.{EndState}
 use Rattle.bench.specs.declared.effects.Reception.{Reception}
@@ -103,7 +105,7 @@ module _
     (p : ℕ)
     (stands : StandsIn b bridges views places here)
     (same-links : b .links ≡ links)
-    (ready : deliveryReady (state b costs sent held messages) ≡ true)
+    (ready : stateInRange (state b costs sent held messages) ≡ true)
     (there : p < b .messages)
     (arrives : here .end ≡ arrivalEnd messages p) where
   abbrev given : State

@@ -1,5 +1,5 @@
 -- Laws of the tests that the entry checks and the refusals make, and what a bench that passes tells of its counts. Assumes nothing.
-use Prim.Native.Nat.{ℕ, _≤_}
+use Prim.Native.Nat.{_≤_}
 use mathlib.Core.Path.{_≡_, refl}
 use mathlib.Core.Bool.{Bool, true, false, _&&_, _||_, not}
 use borrow.Author.Tests.{leb-true}

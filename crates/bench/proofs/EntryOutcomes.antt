@@ -10,14 +10,11 @@ use lib.Dec.{eqb}
 use Rattle.distances.proofs.Booleans.{below}
 use Rattle.protocol.specs.Net.{Network}
 use Rattle.protocol.specs.Calls.{Call, Check, refusal, refuse, noSuchLink}
-use Rattle.bench.specs.Changes.{refusalOf, orRefused}
+use Rattle.bench.specs.Contracts.{refusalOf, orRefused}
 use Rattle.distances.proofs.Refusals.{passed}
-use Rattle.bench.proofs.TieRefusals.{refusal-out, refusal-ready}
+use Rattle.bench.proofs.TieRefusals.{refusal-ready}
 
 module _ {A : Type 0} (ok : Bool) (n : Network) (c : Call) (refused : ℕ → A) (done : A) where
-  pub out-of-range : ok ≡ false → refused 17 ≡ orRefused (refusalOf ok n c) refused done
-  out-of-range e = rw (← refusal-out ok n c e)
-
   -- in range, and the table's number k
   module _ (e : ok ≡ true) (k : ℕ) (same : k ≡ refuse n c) where
     pub turned-down : (k ≡ 0 → ⊥) → refused k ≡ orRefused (refusalOf ok n c) refused done

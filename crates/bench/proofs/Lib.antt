@@ -1,3 +1,4 @@
+pub mod Represents
 pub mod TieRanges
 pub mod TieRefusals
 pub mod TieQueue
@@ -9,7 +10,6 @@ pub mod TieRows
 pub mod TieReceived
 pub mod TieDeliveries
 pub mod TieAnswers
-pub mod TieReports
 pub mod TieCuts
 pub mod TieMovedEnds
 pub mod TieMoved
@@ -17,7 +17,6 @@ pub mod TieSteps
 pub mod TieStarted
 pub mod TableSteps
 pub mod TieFresh
-pub mod FreshCalls
 pub mod TieWhole
 pub mod CallSteps
 pub mod CallReads
@@ -45,6 +44,18 @@ pub mod ChoiceReads
 pub mod ViewReads
 pub mod ChangeEntry
 pub mod QueueCalls
-pub mod CallLengths
+pub mod RunSteps
 pub mod DeliverySteps
 pub mod UpdateSteps
+pub mod StandingLaws
+pub mod Beside
+pub mod BesideCalls
+pub mod BesideSteps
+pub mod Quiet
+pub mod Stepped
+pub mod OutcomeLaws
+pub mod EventStands
+pub mod FreshStands
+pub mod CallOutcomes
+pub mod ReportRows
+pub mod Types

@@ -24,9 +24,10 @@ use Rattle.protocol.specs.Net.{Network}
 use Rattle.protocol.specs.Calls.{Check, refusal, noSuchBridge}
 use Rattle.protocol.specs.Ports.{Hop, stays, crosses, across, hopBy}
 use Rattle.protocol.specs.Paths.{delivered, stops, follow, onward}
-use Rattle.bench.specs.State.{State, lentView, part}
-use Rattle.bench.specs.Answers.{found, portIn, hopIn, reportedRow, reported}
-use Rattle.bench.specs.Steps.{Ready}
+use Rattle.bench.specs.State.{State, part}
+use Rattle.bench.specs.Private.Views.{lentView}
+use Rattle.bench.specs.Private.Answers.{found, portIn, hopIn, reportedRow, reported}
+use Rattle.bench.specs.Private.Steps.{Ready}
 use Rattle.bench.specs.declared.Bench.{Bench}
 
 -- ---- the link of an open port is one of the links

@@ -14,12 +14,17 @@ use Rattle.agreement.specs.declared.Agreement.{Agreement}
 use Rattle.agreement.specs.declared.Answer.{Answer}
 use Rattle.protocol.specs.Net.{Network}
 use Rattle.protocol.specs.Calls.{Call, send, deliver, repeat, lose, refuse, accepted, checks, noSuchBridge, noSuchLink, notOnLink, linkCut, noRoom, noMessage, endOf, messageOf}
-use Rattle.bench.specs.State.{State, network, networkOf}
+use Rattle.bench.specs.State.{State, network}
+use Rattle.bench.specs.Private.Views.{networkOf}
 use Rattle.bench.specs.Ranges.{messageInRange}
-use Rattle.bench.specs.Changes.{BenchOutcome, benchOutcome, refusalOf, orRefused, stateInRange}
-use Rattle.bench.specs.Queue.{withCount, takenOut, queueOutcome, numbersOf}
-use Rattle.bench.specs.Deliveries.{DeliveryOutcome, deliveryOutcome, received, deliveryReady, deliveryRefused, deliverOf, repeatOf, refusedBy}
-use Rattle.bench.specs.Steps.{Ready}
+use Rattle.bench.specs.Contracts.{refusalOf, orRefused}
+use Rattle.bench.specs.Ranges.{networkInRange}
+use Rattle.bench.specs.Private.Queue.{withCount, takenOut}
+use Rattle.bench.specs.State.{numbersOf}
+use Rattle.bench.specs.Private.Deliveries.{DeliveryOutcome, deliveryOutcome, received, deliveryRefused, deliverOf, repeatOf}
+use Rattle.bench.specs.Ranges.{stateInRange}
+use Rattle.bench.specs.Contracts.{refusedBy}
+use Rattle.bench.specs.Private.Steps.{Ready}
 use Rattle.bench.specs.declared.Bench.{Bench}
 use Rattle.agreement.proofs.Outcomes.{carry-accepted}
 use Rattle.protocol.proofs.Links.{endOf-below}
@@ -44,10 +49,6 @@ module _ {A : Type 0} (refused : ℕ → A) (done : A) (k n : ℕ) (same : k ≡
 
   pub settled-done : k ≡ 0 → done ≡ orRefused n refused done
   settled-done none = rw (← same, none)
-
--- a refused reply, beside the messages
-pub flown-refused : (m : List ℕ) {k j : ℕ} {b d : Bench} → benchOutcome k b ≡ benchOutcome j d → queueOutcome k b m ≡ queueOutcome j d m
-flown-refused m e = ap (λ (x : BenchOutcome). queueOutcome (x .reply) (x .bench) m) e
 
 -- how many messages are in flight does not lie in their numbers
 module _ (b : Bench) (m : List ℕ) where
@@ -117,13 +118,13 @@ pub record DeliveryFacts (s : State) (p : ℕ) : Type 0 where
   pub long : 320 ≤ length (s .messages)
   pub message : messageInRange (s .bench) (s .messages) p ≡ true
 
-module _ (s : State) (p k : ℕ) (same : k ≡ refusalOf (deliveryReady s) (networkOf (s .bench) (s .messages)) (deliver p)) where
+module _ (s : State) (p k : ℕ) (same : k ≡ refusalOf (stateInRange s) (networkOf (s .bench) (s .messages)) (deliver p)) where
   -- both are turned down by the messages and the cuts alone
-  deliver-same : k ≡ refusalOf (deliveryReady s) (network s) (deliver p)
+  deliver-same : k ≡ refusalOf (stateInRange s) (network s) (deliver p)
   unfolding refusalOf checks noMessage linkCut
   deliver-same = same
 
-  repeat-same : k ≡ refusalOf (deliveryReady s) (network s) (repeat p)
+  repeat-same : k ≡ refusalOf (stateInRange s) (network s) (repeat p)
   unfolding refusalOf checks noMessage linkCut
   repeat-same = same
 
@@ -141,8 +142,8 @@ module _ (s : State) (p k : ℕ) (same : k ≡ refusalOf (deliveryReady s) (netw
     unfolding refuse checks
     delivery-told =
         let n = networkOf (s .bench) (s .messages) in
-        let h = refusal-none (deliveryReady s) n (deliver p) (sym same ∙ none) in
-        let ok = both-true (stateInRange s) _ (h .0) in
+        let h = refusal-none (stateInRange s) n (deliver p) (sym same ∙ none) in
+        let ok = both-true (networkInRange s) _ (h .0) in
         let messages = messages-told (s .bench) (s .messages) (ok .1) in
         let low : p < s .bench .messages = rw messages-length at (place-listed n p _ (h .1)) in
         record {

@@ -12,8 +12,8 @@ use Rattle.distances.proofs.Ranges.{allBelow-true}
 use Rattle.agreement.specs.Record.{freshRecord}
 use Rattle.agreement.specs.Ranges.{isView, recordInRange}
 use Rattle.agreement.proofs.InRange.{view-passes, records-told}
-use Rattle.bench.specs.Ranges.{graphInRange, benchInRange, costsInRange, messageInRange, messagesInRange, networkInRange}
-use Rattle.bench.specs.Steps.{Ready}
+use Rattle.bench.specs.Ranges.{graphInRange, benchInRange, costsInRange, messageInRange, messagesInRange, partsInRange}
+use Rattle.bench.specs.Private.Steps.{Ready}
 use Rattle.bench.specs.declared.Bench.{Bench}
 use Rattle.bench.proofs.EntryChecks.{Counted, bench-counted}
 use Rattle.bench.proofs.TieRanges.{LastingOf, lasting-told, are-bridges}
@@ -57,18 +57,18 @@ messages-told b m ok =
     record { long = leb-true _ _ (h .0); each = allBelow-true _ _ (h .1) }
 
 -- what most calls are handed, in range
-module _ (b : Bench) (costs : List ℕ) (sent held : ℕ) (ok : networkInRange b costs sent held ≡ true) where
+module _ (b : Bench) (costs : List ℕ) (sent held : ℕ) (ok : partsInRange b costs sent held ≡ true) where
   pub network-bench : benchInRange b ≡ true
-  unfolding networkInRange
+  unfolding partsInRange
   network-bench = both-true (benchInRange b) _ ok .0
 
   pub network-costs : costsInRange b costs ≡ true
-  unfolding networkInRange
+  unfolding partsInRange
   network-costs = both-true (costsInRange b costs) _ (both-true (benchInRange b) _ ok .1) .0
 
 -- it is ready for the private functions
 pub network-told :
-    (b : Bench) (costs : List ℕ) (sent held : ℕ) → networkInRange b costs sent held ≡ true → Ready b costs
+    (b : Bench) (costs : List ℕ) (sent held : ℕ) → partsInRange b costs sent held ≡ true → Ready b costs
 unfolding benchInRange
 network-told b costs sent held ok =
     let bench = network-bench b costs sent held ok in

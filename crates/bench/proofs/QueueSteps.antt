@@ -17,8 +17,8 @@ use Rattle.agreement.specs.Call.{Response}
 use Rattle.agreement.specs.declared.Agreement.{Agreement}
 use Rattle.agreement.specs.declared.Answer.{Answer}
 use Rattle.bench.specs.State.{state}
-use Rattle.bench.specs.Deliveries.{DeliveryOutcome, deliveryOutcome, deliveryAt}
-use Rattle.bench.specs.Steps.{Ready}
+use Rattle.bench.specs.Private.Deliveries.{DeliveryOutcome, deliveryOutcome, deliveryAt}
+use Rattle.bench.specs.Private.Steps.{Ready}
 use Rattle.bench.specs.declared.Bench.{Bench}
 
 -- ---- a message's five numbers

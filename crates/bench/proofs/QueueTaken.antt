@@ -9,7 +9,7 @@ use lib.Seq.{sets, length-sets, length-take-le, getD-take, getD-drop, getD-set-o
 use lib.Dec.{leb, ltb}
 use borrow.Author.Tests.{leb-true, leb-false, ltb-true, ltb-false}
 use Rattle.distances.proofs.Tables.{rewritten-is}
-use Rattle.bench.specs.Queue.{takenOut}
+use Rattle.bench.specs.Private.Queue.{takenOut}
 use Rattle.bench.proofs.TieQueue.{sets-before, sets-within}
 
 pub sets-after : (vs l : List ℕ) (i k : ℕ) → i + length vs ≤ k → getD (sets l i vs) k 0 ≡ getD l k 0

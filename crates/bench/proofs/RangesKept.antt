@@ -15,9 +15,11 @@ use Rattle.agreement.specs.declared.EndRecord.{EndRecord}
 use Rattle.agreement.proofs.RecordLaws.{holdingReceived, updated-by}
 use Rattle.agreement.proofs.InRange.{view-passes, record-same}
 use Rattle.protocol.specs.Net.{Message}
-use Rattle.bench.specs.State.{State, state, lentView, messageFrom}
-use Rattle.bench.specs.Changes.{Ends, ends, movedEnds, movedBench}
-use Rattle.bench.specs.Queue.{numbersOf, withCount, takenOut}
+use Rattle.bench.specs.State.{State, state, messageFrom}
+use Rattle.bench.specs.Private.Views.{lentView}
+use Rattle.bench.specs.Private.Changes.{Ends, ends, movedEnds, movedBench}
+use Rattle.bench.specs.State.{numbersOf}
+use Rattle.bench.specs.Private.Queue.{withCount, takenOut}
 use Rattle.protocol.proofs.Places.{skipped}
 use Rattle.bench.proofs.TieRanges.{StateReady, few, lent-in-range}
 use Rattle.bench.proofs.TieQueue.{taken-length, taken-message, taken-below, added-message, kept-message}

@@ -13,12 +13,17 @@ use Rattle.distances.proofs.Ranges.{true-allBelow}
 use Rattle.agreement.specs.Offer.{opposite}
 use Rattle.protocol.specs.Net.{sender}
 use Rattle.protocol.specs.Calls.{change, update, cut, restore, send, deliver, repeat, lose, refuse, accepted, checks, messageOf}
-use Rattle.bench.specs.State.{State, state, network, networkOf, messageFrom}
-use Rattle.bench.specs.Ranges.{graphInRange, benchInRange, costsInRange, messageInRange, messagesInRange, networkInRange}
-use Rattle.bench.specs.Changes.{benchOutcome, changeOutcome, movedBench, refusalOf, orRefused, stateInRange, benchWithCut, cutOf, restoreOf, updateOf}
-use Rattle.bench.specs.Queue.{QueueOutcome, queueOutcome, numbersOf, withCount, sendOf, loseOf}
-use Rattle.bench.specs.Deliveries.{deliveryReady, deliveryRefused, deliveryAt, received, deliverOf, repeatOf}
-use Rattle.bench.specs.Whole.{stepBy}
+use Rattle.bench.specs.State.{State, network, messageFrom}
+use Rattle.bench.specs.Private.Views.{networkOf}
+use Rattle.bench.specs.Ranges.{graphInRange, benchInRange, costsInRange, messageInRange, messagesInRange, partsInRange}
+use Rattle.bench.specs.Private.Changes.{benchOutcome, changeOutcome, movedBench, benchWithCut, cutOf, restoreOf, updateOf}
+use Rattle.bench.specs.Contracts.{refusalOf, orRefused}
+use Rattle.bench.specs.Ranges.{networkInRange}
+use Rattle.bench.specs.Private.Queue.{QueueOutcome, queueOutcome, withCount, sendOf, loseOf}
+use Rattle.bench.specs.State.{numbersOf}
+use Rattle.bench.specs.Ranges.{stateInRange}
+use Rattle.bench.specs.Private.Deliveries.{deliveryRefused, deliveryAt, received, deliverOf, repeatOf}
+use Rattle.bench.specs.Private.ListSteps.{stepBy}
 use Rattle.bench.specs.declared.Bench.{Bench}
 use Rattle.protocol.proofs.Accepted.{SendFacts, send-listed, place-listed}
 use Rattle.bench.proofs.CallSteps.{withChanged, withRewritten, withQueue, withDelivered}
@@ -75,7 +80,7 @@ module _ (s : State) (r : StateReady s) where
   pub update-stays : length (s .bench .records) ≡ 64 → (y t : ℕ) → StateReady (stepBy s (change (update y t)))
   unfolding stepBy updateOf
   update-stays room y t =
-      settled-kept (withRewritten s) (refusalOf (stateInRange s) (network s) (change (update y t))) (λ k. changeOutcome k (s .bench) (s .sent) (s .held)) _ (λ j. r)
+      settled-kept (withRewritten s) (refusalOf (networkInRange s) (network s) (change (update y t))) (λ k. changeOutcome k (s .bench) (s .sent) (s .held)) _ (λ j. r)
       (λ none. go (eqb (getD (s .bench .view) y 0) t) (update-told (network s) y t refl (refusal-none _ (network s) (change (update y t)) none .1) .view))
     where
       go : (same : Bool) → t < s .bench .views → StateReady (withRewritten s (cond same (changeOutcome 0 (s .bench) (s .sent) (s .held)) (movedBench (s .bench) y t (endsAfter s r y t))))
@@ -98,13 +103,13 @@ module _ (s : State) (r : StateReady s) where
   pub repeat-stays : (p : ℕ) → StateReady (stepBy s (repeat p))
   unfolding stepBy repeatOf refuse checks
   repeat-stays p =
-      settled-kept (withDelivered s) (refusalOf (deliveryReady s) (network s) (repeat p)) (deliveryRefused s) (received s p) (λ j. r)
+      settled-kept (withDelivered s) (refusalOf (stateInRange s) (network s) (repeat p)) (deliveryRefused s) (received s p) (λ j. r)
       (λ none. placed-kept p (rw messages-length at (place-listed (network s) p _ (refusal-none _ (network s) (repeat p) none .1))))
 
   pub deliver-stays : (p : ℕ) → StateReady (stepBy s (deliver p))
   unfolding stepBy deliverOf refuse checks deliveryAt
   deliver-stays p =
-      settled-kept (withDelivered s) (refusalOf (deliveryReady s) (network s) (deliver p)) (deliveryRefused s) _ (λ j. r)
+      settled-kept (withDelivered s) (refusalOf (stateInRange s) (network s) (deliver p)) (deliveryRefused s) _ (λ j. r)
       (λ none.
       let low : p < s .bench .messages = rw messages-length at (place-listed (network s) p _ (refusal-none _ (network s) (deliver p) none .1)) in
       taken-kept (withDelivered s (received s p)) (placed-kept p low) p low)
@@ -147,10 +152,10 @@ module _ (b : Bench) (m : List ℕ) (y l : ℕ) where
 
 pub send-stays :
     (s : State) (y l : ℕ) →
-    deliveryReady s ≡ true →
+    stateInRange s ≡ true →
     (let o : QueueOutcome = sendOf (s .bench) (s .messages) y l in flightInRange (o .bench) (o .messages)) ≡ true →
-    deliveryReady (stepBy s (send y l)) ≡ true
-unfolding stepBy sendOf networkInRange costsInRange
+    stateInRange (stepBy s (send y l)) ≡ true
+unfolding stepBy sendOf partsInRange costsInRange
 send-stays s y l ok = go (eqb (refusalOf (flightInRange (s .bench) (s .messages)) (networkOf (s .bench) (s .messages)) (send y l)) 0)
   where
     k : ℕ
@@ -161,12 +166,12 @@ send-stays s y l ok = go (eqb (refusalOf (flightInRange (s .bench) (s .messages)
         cond b (queueOutcome 0 (withCount (s .bench) (s .bench .messages + 1)) (sets (s .messages) (5 * s .bench .messages) (numbersOf (messageOf (networkOf (s .bench) (s .messages)) y l))))
         (queueOutcome k (s .bench) (s .messages))
 
-    go : (b : Bool) → flightInRange (outcome b .bench) (outcome b .messages) ≡ true → deliveryReady (withQueue s (outcome b)) ≡ true
+    go : (b : Bool) → flightInRange (outcome b .bench) (outcome b .messages) ≡ true → stateInRange (withQueue s (outcome b)) ≡ true
     go true flight =
         let h = both-true (benchInRange (outcome true .bench)) _ flight in
-        true-both (true-both (h .0) (both-true (benchInRange (s .bench)) _ (both-true (stateInRange s) _ ok .0) .1)) (h .1)
+        true-both (true-both (h .0) (both-true (benchInRange (s .bench)) _ (both-true (networkInRange s) _ ok .0) .1)) (h .1)
     go false flight = ok
 
 -- what a send or a lose asks
-pub flight-of : (s : State) → deliveryReady s ≡ true → flightInRange (s .bench) (s .messages) ≡ true
-flight-of s ok = let h = both-true (stateInRange s) _ ok in true-both (network-bench _ _ _ _ (h .0)) (h .1)
+pub flight-of : (s : State) → stateInRange s ≡ true → flightInRange (s .bench) (s .messages) ≡ true
+flight-of s ok = let h = both-true (networkInRange s) _ ok in true-both (network-bench _ _ _ _ (h .0)) (h .1)

@@ -10,8 +10,9 @@ use lib.ListN.{length, getD, set, take, drop, replicate, length-append, length-t
 use lib.Seq.{length-take-le, getD-take, getD-drop, take-at, drop-at, ext-getD, getD-append-add, getD-set-same}
 use lib.Dec.{eqb, ltb}
 use Rattle.distances.proofs.Outcomes.{distances-length}
-use Rattle.bench.specs.State.{part, distanceTable}
-use Rattle.bench.specs.Steps.{filledView, IsFilled, AllFilled, Tables, TablesOf}
+use Rattle.bench.specs.State.{part}
+use Rattle.bench.specs.Private.Views.{distanceTable}
+use Rattle.bench.specs.Private.Steps.{filledView, IsFilled, AllFilled, Tables, TablesOf}
 use Rattle.bench.specs.declared.Bench.{Bench}
 use Rattle.bench.proofs.TieRanges.{part-at, part-length, getD-stored}
 

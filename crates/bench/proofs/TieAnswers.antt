@@ -1,34 +1,25 @@
--- What port and path reply in a state is what there is to say of the network that stands in it. Assumes nothing.
+-- Ports, distances and paths in a state are those of the network that stands in it. Assumes nothing.
 use Prim.Native.Nat.{ℕ, zero, suc, _*_, _-_, _≤_, _<_}
 use native.Mathlib.Omega.{arith}
 use mathlib.Core.Path.{_≡_, refl, sym, _∙_, ap}
 use mathlib.Core.Bool.{cond}
-use mathlib.Core.List.{List, _∷_}
 use lib.ListN.{length, getD}
 use lib.Dec.{eqb}
 use Rattle.distances.specs.View.{InRange}
-use Rattle.distances.proofs.Booleans.{below}
-use Rattle.agreement.specs.Call.{Response, says}
-use Rattle.agreement.specs.declared.Port.{Port}
+use Rattle.distances.specs.Table.{cell}
 use Rattle.agreement.proofs.PortCong.{port-cong}
 use Rattle.protocol.specs.Net.{Network, Plan}
-use Rattle.protocol.specs.Calls as calls
-use Rattle.protocol.specs.Calls.{Call, Check, refusal, refuse, checks, noSuchBridge}
-use Rattle.protocol.specs.Ports.{Hop, stays, crosses, hop}
+use Rattle.protocol.specs.Ports.{Hop, stays, crosses, hop, ownDistance}
 use Rattle.protocol.specs.Ports as ports
-use Rattle.protocol.specs.Paths.{PathResult, delivered, follow, onward, path}
+use Rattle.protocol.specs.Paths.{delivered, follow, onward, path}
 use Rattle.bench.specs.State.{State, network}
-use Rattle.bench.specs.Changes.{refusalOf, orRefused, stateInRange}
-use Rattle.bench.specs.Deliveries.{refusedBy}
-use Rattle.bench.specs.Answers.{portIn, portOf, hopIn, pathOf}
-use Rattle.bench.specs.Whole.{Represents}
-use Rattle.distances.proofs.Refusals.{passed}
+use Rattle.bench.specs.Private.Views.{lentView}
+use Rattle.bench.specs.Private.Answers.{portIn, hopIn}
+use Rattle.bench.proofs.Represents.{Represents}
 use Rattle.protocol.proofs.Links.{across-below}
 use Rattle.protocol.proofs.Hops.{port-forwards, hop-crosses}
 use Rattle.bench.proofs.TieRanges.{StateReady, told, network-ready, few, plan-in-range, part-at, lent-distances}
-use Rattle.bench.proofs.TieRefusals.{settled-same}
 use Rattle.bench.proofs.ChoiceSteps.{port-in}
-use Rattle.bench.proofs.TieChecks.{refusal-same}
 
 -- ---- hops that agree at the bridges that there are, and lead from one of them to another, make the same way
 
@@ -84,25 +75,19 @@ module _ (s : State) (n : Network) (r : Represents s n) where
           held = λ e he. sym (r .held e d he hd);
         }))
 
-  -- ---- the calls
+  -- ---- distance
 
-  -- a bridge that a check lets pass
-  pub listed : (y : ℕ) (cs : List Check) → refusal (noSuchBridge n y ∷ cs) ≡ 0 → (y < s .bench .bridges) × (refusal cs ≡ 0)
-  unfolding noSuchBridge
-  listed y cs e =
-      let one = passed (noSuchBridge n y) cs (omega arith) e in
-      (rw (r .plan) at (below y (n .plan .graph .bridges) (one .0)), one .1)
+  pub own-distance :
+      (y d : ℕ) →
+      y < s .bench .bridges →
+      d < s .bench .bridges →
+      cell (lentView (s .bench) (s .costs) (getD (s .bench .view) y 0) .table) y d ≡ ownDistance n y d
+  unfolding ownDistance
+  own-distance y d hy hd =
+      let inside = told s (r .inRange) in
+      rw (r .view y hy, r .plan) (lent-distances (s .bench) (s .costs) (inside .lasting) (getD (s .bench .view) y 0) (inside .view y hy) y d hy hd)
 
-  asked : (c : Call) → refusalOf (stateInRange s) (network s) c ≡ refuse n c
-  asked c = refusal-same s n r (stateInRange s) c (network-ready s inside)
-
-  pub port-answered : (y d : ℕ) → portOf s y d ≡ orRefused (refuse n (calls.port y d)) refusedBy (says (ports.forwardingPort n y d))
-  unfolding portOf refuse checks
-  port-answered y d =
-      rw (asked (calls.port y d))
-      (settled-same (λ (x : Response Port). x) (refuse n (calls.port y d)) refusedBy refusedBy _ _ refl (λ e.
-      let one = listed y _ e in
-      ap says (port-same y d (one .0) (listed d _ (one .1) .0))))
+  -- ---- path
 
   hop-same : (d : ℕ) → d < s .bench .bridges → (y : ℕ) → y < s .bench .bridges → hopIn s d y ≡ hop n d y
   unfolding hopIn hop
@@ -115,16 +100,8 @@ module _ (s : State) (n : Network) (r : Represents s n) where
       let low : l < n .plan .graph .links = omega (arith, by .1 .chosen .listed, by .1 .link) in
       rw (crossed .1, r .plan) at (across-below (n .plan .graph) (rw (r .plan) graph-inside) l y low)
 
-  path-same : (y d : ℕ) → y < s .bench .bridges → d < s .bench .bridges → onward (hopIn s d) d (s .bench .bridges - 1) 0 y ≡ path n y d
+  pub path-same : (y d : ℕ) → y < s .bench .bridges → d < s .bench .bridges → onward (hopIn s d) d (s .bench .bridges - 1) 0 y ≡ path n y d
   unfolding path
   path-same y d hy hd =
       onward-same (hopIn s d) (hop n d) d (s .bench .bridges) (hop-same d hd) (hop-below d) (s .bench .bridges - 1) 0 y hy
       ∙ ap (λ (p : Plan). onward (hop n d) d (p .graph .bridges - 1) 0 y) (sym (r .plan))
-
-  pub path-answered : (y d : ℕ) → pathOf s y d ≡ orRefused (refuse n (calls.path y d)) refusedBy (says (path n y d))
-  unfolding pathOf refuse checks
-  path-answered y d =
-      rw (asked (calls.path y d))
-      (settled-same (λ (x : Response PathResult). x) (refuse n (calls.path y d)) refusedBy refusedBy _ _ refl (λ e.
-      let one = listed y _ e in
-      ap says (path-same y d (one .0) (listed d _ (one .1) .0))))

@@ -13,8 +13,8 @@ use Rattle.protocol.specs.Net.{Network, Message}
 use Rattle.protocol.specs.Calls.{Call, Change, change, update, cut, restore, send, deliver, repeat, lose, port, report, path, Check, refusal, noSuchBridge, noSuchView, noSuchLink, noNumberLeft, notOnLink, linkCut, noRoom, noMessage, already, messageAt, changeChecks, checks, refuse}
 use Rattle.bench.specs.State.{State, network, messageFrom}
 use Rattle.bench.specs.Ranges.{messagePasses}
-use Rattle.bench.specs.Changes.{refusalOf}
-use Rattle.bench.specs.Whole.{Represents}
+use Rattle.bench.specs.Contracts.{refusalOf}
+use Rattle.bench.proofs.Represents.{Represents}
 use Rattle.bench.proofs.TieRanges.{told}
 use Rattle.bench.proofs.TieRefusals.{refusal-ready}
 use Rattle.bench.proofs.TieQueue.{messages-length, message-at}

@@ -1,27 +1,29 @@
 -- Cut and restore, on the lists and in the network, with their replies. Assumes nothing.
 use Prim.Native.Nat.{ℕ, _<_}
 use native.Mathlib.Omega.{arith}
-use mathlib.Core.Path.{_≡_, refl, sym, _∙_}
+use mathlib.Core.Path.{_≡_, sym}
 use mathlib.Core.Bool.{Bool, true, false}
 use mathlib.Core.List.{List, [], _∷_}
 use lib.ListN.{length-set}
 use Rattle.distances.proofs.Booleans.{below}
 use Rattle.protocol.specs.Net.{Network}
 use Rattle.protocol.specs.Calls.{Check, change, cut, restore, refusal, noSuchLink, already, changeChecks, checks, refuse, withCut, afterChange, act, step}
-use Rattle.bench.specs.State.{State, state, networkOf}
-use Rattle.bench.specs.Ranges.{graphInRange, benchInRange, costsInRange, messagesInRange, networkInRange}
-use Rattle.bench.specs.Changes.{BenchOutcome, benchOutcome, refusalOf, benchWithCut, cutOf, restoreOf}
-use Rattle.bench.specs.Whole.{Represents, stepBy}
+use Rattle.bench.specs.State.{State, state}
+use Rattle.bench.specs.Private.Views.{networkOf}
+use Rattle.bench.specs.Ranges.{graphInRange, benchInRange, costsInRange, messagesInRange, partsInRange}
+use Rattle.bench.specs.Private.Changes.{BenchOutcome, benchOutcome, benchWithCut, cutOf, restoreOf}
+use Rattle.bench.specs.Contracts.{refusalOf}
+use Rattle.bench.proofs.Represents.{Represents}
+use Rattle.bench.specs.Private.ListSteps.{stepBy}
 use Rattle.distances.proofs.Refusals.{passed}
 use Rattle.protocol.proofs.Accepted.{accepted-checks}
 use Rattle.bench.proofs.TieRanges.{getD-stored, told, bench-ready, few}
 use Rattle.bench.proofs.TieRefusals.{settled-step}
-use Rattle.bench.proofs.EntryOutcomes.{reply-is}
 use Rattle.bench.proofs.TieChecks.{refusal-same}
 
 module _ (s : State) (n : Network) (r : Represents s n) where
   kept-cut : (l : ℕ) (so : Bool) → l < s .bench .links → Represents (state (benchWithCut (s .bench) l so) (s .costs) (s .sent) (s .held) (s .messages)) (withCut n l so)
-  unfolding withCut networkInRange benchInRange graphInRange costsInRange messagesInRange
+  unfolding withCut partsInRange benchInRange graphInRange costsInRange messagesInRange
   kept-cut l so low =
       record {
         inRange = r .inRange;
@@ -77,11 +79,3 @@ module _ (s : State) (n : Network) (r : Represents s n) where
       (restore-refused l)
       (λ m. r)
       (λ a. kept-cut l false (is-listed l _ (accepted-checks n (change (restore l)) a)))
-
-  pub cut-replied : (l : ℕ) → cutOf (s .bench) l .reply ≡ refuse n (change (cut l))
-  unfolding cutOf
-  cut-replied l = reply-is (λ (o : BenchOutcome). o .reply) _ (λ k. benchOutcome k (s .bench)) _ (λ k. refl) (λ e. refl) ∙ cut-refused l
-
-  pub restore-replied : (l : ℕ) → restoreOf (s .bench) l .reply ≡ refuse n (change (restore l))
-  unfolding restoreOf
-  restore-replied l = reply-is (λ (o : BenchOutcome). o .reply) _ (λ k. benchOutcome k (s .bench)) _ (λ k. refl) (λ e. refl) ∙ restore-refused l

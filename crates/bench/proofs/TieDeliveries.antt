@@ -9,9 +9,12 @@ use Rattle.protocol.specs.Net.{Network, sender}
 use Rattle.protocol.specs.Calls.{Check, deliver, repeat, refusal, noMessage, refuse, act, step, messageAt, answerAt, checks}
 use Rattle.protocol.specs.Calls as calls
 use Rattle.bench.specs.State.{State, messageFrom}
-use Rattle.bench.specs.Changes.{orRefused}
-use Rattle.bench.specs.Deliveries.{DeliveryOutcome, refusedBy, deliveryReady, deliveryRefused, deliveryAt, received, repeatOf, deliverOf}
-use Rattle.bench.specs.Whole.{Represents, stepBy}
+use Rattle.bench.specs.Contracts.{orRefused}
+use Rattle.bench.specs.Private.Deliveries.{DeliveryOutcome, deliveryRefused, deliveryAt, received, repeatOf, deliverOf}
+use Rattle.bench.specs.Contracts.{refusedBy}
+use Rattle.bench.specs.Ranges.{stateInRange}
+use Rattle.bench.proofs.Represents.{Represents}
+use Rattle.bench.specs.Private.ListSteps.{stepBy}
 use Rattle.bench.proofs.CallSteps.{withDelivered}
 use Rattle.bench.proofs.TieRanges.{told}
 use Rattle.protocol.proofs.Accepted.{place-listed, accepted-checks}
@@ -49,7 +52,7 @@ module _ (s : State) (n : Network) (r : Represents s n) (p : ℕ) where
       taken-represents (withDelivered s (received s p)) (calls.afterDelivery n (messageAt n p)) (placed-represents h) p h)
 
   -- and answered
-  placed-answer : p < s .bench .messages → received s p .reply ≡ says (answerAt n p)
+  pub placed-answer : p < s .bench .messages → received s p .reply ≡ says (answerAt n p)
   placed-answer h =
       let inside = message-in-range s n r p h in
       rw (same-message-at s n r p h)
@@ -58,11 +61,11 @@ module _ (s : State) (n : Network) (r : Represents s n) (p : ℕ) where
   pub repeat-replied : repeatOf s p .reply ≡ orRefused (refuse n (repeat p)) refusedBy (says (answerAt n p))
   unfolding repeatOf refuse checks
   repeat-replied =
-      rw (refusal-same s n r (deliveryReady s) (repeat p) (r .inRange))
+      rw (refusal-same s n r (stateInRange s) (repeat p) (r .inRange))
       (settled-same (λ (o : DeliveryOutcome). o .reply) (refuse n (repeat p)) (deliveryRefused s) refusedBy _ _ refl (λ e. placed-answer (placed _ e)))
 
   pub deliver-replied : deliverOf s p .reply ≡ orRefused (refuse n (deliver p)) refusedBy (says (answerAt n p))
   unfolding deliverOf refuse checks
   deliver-replied =
-      rw (refusal-same s n r (deliveryReady s) (deliver p) (r .inRange))
+      rw (refusal-same s n r (stateInRange s) (deliver p) (r .inRange))
       (settled-same (λ (o : DeliveryOutcome). o .reply) (refuse n (deliver p)) (deliveryRefused s) refusedBy _ _ refl (λ e. placed-answer (placed _ e)))

@@ -2,27 +2,30 @@
 use Prim.Native.Nat.{ℕ, _*_, _≤_, _<_}
 use native.Mathlib.Omega.{arith}
 use mathlib.Core.Path.{_≡_, refl, sym, _∙_, ap}
-use mathlib.Core.Bool.{Bool, true, false, cond, _&&_}
+use mathlib.Core.Bool.{Bool, true, false, _&&_}
 use mathlib.Core.List.{List}
-use borrow.Author.Tests.{leb-true, le-leb}
+use borrow.Author.Tests.{leb-true}
 use lib.ListN.{length, getD, replicate, getD-replicate}
 use lib.Dec.{leb}
 use Rattle.distances.specs.Call.{distancesOf}
 use Rattle.distances.specs.Table.{cell}
 use Rattle.distances.specs.View.{NONE}
-use Rattle.distances.proofs.Booleans.{both-true, true-both}
+use Rattle.distances.proofs.Booleans.{both-true}
 use Rattle.agreement.specs.Record.{freshRecord}
 use Rattle.agreement.specs.Ranges.{recordInRange}
 use Rattle.agreement.specs.declared.EndRecord.{EndRecord}
 use Rattle.agreement.specs.Call.{ViewData, viewData, lentOffer}
 use Rattle.agreement.proofs.InRange.{fresh-record-passes}
-use Rattle.protocol.specs.Net.{fresh, distanceIn, offerIn}
-use Rattle.bench.specs.State.{State, state, part, lentView, distanceTable, messagesFrom}
+use Rattle.protocol.specs.Net.{fresh}
+use Rattle.bench.specs.State.{State, state, part, messagesFrom}
+use Rattle.bench.specs.Private.Views.{lentView, distanceTable}
 use Rattle.bench.specs.Ranges.{graphInRange, costsInRange, limitsLong}
-use Rattle.bench.specs.Changes.{LimitTables, limitTables, startedEnds, freshBench, changeOutcome, freshOf}
-use Rattle.bench.specs.Whole.{Represents, Typed, freshBy, planIn}
+use Rattle.bench.specs.Private.Changes.{LimitTables, limitTables, startedEnds}
+use Rattle.bench.specs.Contracts.{blank}
+use Rattle.bench.proofs.Represents.{Represents, Typed}
+use Rattle.bench.specs.Private.Views.{planIn}
 use Rattle.bench.specs.declared.Bench.{Bench}
-use Rattle.bench.proofs.TieRanges.{LastingOf, StateReady, lasting-told, graph-kept, costs-kept, few, cost-at, view-in-range, lent-in-range, lent-offer-in, ready}
+use Rattle.bench.proofs.TieRanges.{LastingOf, StateReady, lasting-told, few, lent-in-range, lent-offer-in, ready}
 use Rattle.bench.proofs.TieStarted.{Begun, begun-all}
 
 -- the limits of a fresh network stand in the two tables
@@ -43,7 +46,7 @@ module _
   small = few b costs lasting
 
   abbrev freshState : State
-  freshState = state (freshBench b) costs sent held messages
+  freshState = state (blank b) costs sent held messages
 
   bridge-fresh : (x y : ℕ) → y < b .bridges → getD (replicate 16 x) y 0 ≡ x
   bridge-fresh x y h = getD-replicate 16 y x 0 (omega (arith, small .0))
@@ -64,7 +67,7 @@ module _
         message = λ p h. absurd (omega arith);
       }
 
-  typed-after : Typed (freshBench b)
+  typed-after : Typed (blank b)
   typed-after =
       record {
         views = refl;
@@ -100,21 +103,13 @@ module _ (b : Bench) (costs sent held : List ℕ) where
   abbrev begun : LimitTables
   begun = startedEnds (lentView b costs 0) (2 * b .links) (limitTables sent held)
 
-  fresh-passes : freshOf b costs sent held .reply ≡ 0 → freshReady ≡ true
-  unfolding freshOf
-  fresh-passes = go freshReady refl
-    where
-      go : (c : Bool) → freshReady ≡ c → cond c (changeOutcome 0 (freshBench b) (begun .sent) (begun .held)) (changeOutcome 17 b sent held) .reply ≡ 0 → freshReady ≡ true
-      go true q e = q
-      go false q e = absurd (omega arith)
-
   -- what the entry check tells
-  record FreshFacts : Type 0 where
-    lasting : LastingOf b costs
-    sentLong : 1024 ≤ length sent
-    heldLong : 1024 ≤ length held
+  pub record FreshFacts : Type 0 where
+    pub lasting : LastingOf b costs
+    pub sentLong : 1024 ≤ length sent
+    pub heldLong : 1024 ≤ length held
 
-  fresh-told : freshReady ≡ true → FreshFacts
+  pub fresh-told : freshReady ≡ true → FreshFacts
   unfolding limitsLong
   fresh-told ok =
       let graph = both-true (graphInRange b) _ ok in
@@ -125,17 +120,6 @@ module _ (b : Bench) (costs sent held : List ℕ) where
         sentLong = leb-true _ _ (limit .0);
         heldLong = leb-true _ _ (limit .1);
       }
-
-  -- where that is so, it is accepted
-  fresh-accepts : LastingOf b costs → 1024 ≤ length sent → 1024 ≤ length held → freshOf b costs sent held .reply ≡ 0
-  unfolding freshOf limitsLong
-  fresh-accepts lasting first second =
-      rw (true-both (graph-kept b costs lasting)
-      (true-both (costs-kept b costs lasting)
-      (true-both (le-leb _ _ first) (le-leb _ _ second))))
-
-  pub fresh-lasting : freshOf b costs sent held .reply ≡ 0 → LastingOf b costs
-  fresh-lasting e = fresh-told (fresh-passes e) .lasting
 
   module _ (told : FreshFacts) where
     counts : (b .bridges ≤ 16) × (b .links ≤ 32) × (2 * b .links ≤ length (b .ends))
@@ -150,7 +134,7 @@ module _ (b : Bench) (costs sent held : List ℕ) where
         (2 * b .links)
         (omega arith)
 
-    fresh-limits : FreshLimits b costs (begun .sent) (begun .held)
+    pub fresh-limits : FreshLimits b costs (begun .sent) (begun .held)
     fresh-limits =
         record {
           sentLong = rw (limits-after .sentLong) (told .sentLong);
@@ -158,28 +142,6 @@ module _ (b : Bench) (costs sent held : List ℕ) where
           sent = limits-after .sent;
           held = limits-after .held;
         }
-
-  -- what an accepted one leaves
-  pub fresh-opens :
-      LastingOf b costs →
-      1024 ≤ length sent →
-      1024 ≤ length held →
-      let o = freshOf b costs sent held in
-      (o .bench ≡ freshBench b) × FreshLimits b costs (o .sent) (o .held)
-  unfolding freshOf
-  fresh-opens lasting first second =
-      rw (fresh-passes (fresh-accepts lasting first second))
-      (refl, fresh-limits (record { lasting = lasting; sentLong = first; heldLong = second }))
-
-  pub fresh-represents :
-      (messages : List ℕ) →
-      freshOf b costs sent held .reply ≡ 0 →
-      320 ≤ length messages →
-      Represents (freshBy b costs sent held messages) (fresh (planIn b costs))
-  unfolding freshBy freshOf
-  fresh-represents messages e room =
-      let told = fresh-told (fresh-passes e) in
-      rw (fresh-passes e) (fresh-stands b costs (begun .sent) (begun .held) messages (told .lasting) (fresh-limits told) room)
 
 -- the view by the costs of its row
 row-same :

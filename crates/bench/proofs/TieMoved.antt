@@ -14,21 +14,22 @@ use Rattle.agreement.specs.Call.{ViewData, lentOffer}
 use Rattle.agreement.specs.declared.EndRecord.{EndRecord}
 use Rattle.agreement.proofs.RecordLaws.{holdingReceived, sent-updated-same, held-updated-same}
 use Rattle.protocol.specs.Net.{Network, offerIn}
-use Rattle.protocol.specs.Calls.{change, update, refuse, moved, updatedTo, afterChange, act, step}
-use Rattle.bench.specs.State.{State, state, lentView}
-use Rattle.bench.specs.Changes.{Ends, ends, movedEnds, movedBench, ChangeOutcome, changeOutcome, updateOf}
-use Rattle.bench.specs.Whole.{Represents, Typed, stepBy}
+use Rattle.protocol.specs.Calls.{change, update, moved, updatedTo, afterChange, act, step}
+use Rattle.bench.specs.State.{State, state}
+use Rattle.bench.specs.Private.Views.{lentView}
+use Rattle.bench.specs.Private.Changes.{Ends, ends, movedEnds, movedBench, ChangeOutcome, changeOutcome, updateOf}
+use Rattle.bench.proofs.Represents.{Represents, Typed}
+use Rattle.bench.specs.Private.ListSteps.{stepBy}
 use Rattle.protocol.proofs.Accepted.{UpdateExists, update-listed}
 use Rattle.bench.proofs.TieRanges.{StateReady, getD-stored, told, ready, network-ready, few, offer-stands}
 use Rattle.bench.proofs.TieRefusals.{settled-step}
-use Rattle.bench.proofs.EntryOutcomes.{reply-is}
 use Rattle.bench.proofs.TieChecks.{refusal-same}
 use Rattle.bench.proofs.TieMovedEnds.{EndsUpdated}
 use Rattle.bench.proofs.RangesKept.{lentOf, endsOf, endsAfter, movedState, turned, end-after, end-keeps, moved-kept}
 
 -- bridge y moves to view t, another one
 module _ (s : State) (n : Network) (r : Represents s n) (y t : ℕ) (low : y < s .bench .bridges) (view : t < s .bench .views) where
-  isReady : StateReady s
+  pub isReady : StateReady s
   isReady = told s (r .inRange)
 
   counts : (s .bench .bridges ≤ 16) × (s .bench .links ≤ 32) × (2 * s .bench .links ≤ length (s .bench .ends))
@@ -113,7 +114,7 @@ module _ (s : State) (n : Network) (r : Represents s n) (y t : ℕ) (low : y < s
           discarded = λ e h. keeps e h (λ (x : EndRecord). x .discarded < 65536) (r .typed .discarded e h) (r .typed .received e h);
         }
 
-    kept-moved : Represents stateAfter (moved n y t)
+    pub kept-moved : Represents stateAfter (moved n y t)
     unfolding moved
     kept-moved =
         record {
@@ -165,16 +166,3 @@ module _ (s : State) (n : Network) (r : Represents s n) (y t : ℕ) where
       (refusal-same s n r _ (change (update y t)) (network-ready s (told s (r .inRange))))
       (λ m. r)
       (λ a. kept-update (update-listed n y t a))
-
-  pub update-replied : updateOf s y t .reply ≡ refuse n (change (update y t))
-  unfolding updateOf
-  update-replied =
-      reply-is (λ (o : ChangeOutcome). o .reply) _ (λ k. changeOutcome k (s .bench) (s .sent) (s .held))
-      (updateDone (eqb (getD (s .bench .view) y 0) t))
-      (λ k. refl)
-      (λ e. go (eqb (getD (s .bench .view) y 0) t))
-      ∙ refusal-same s n r _ (change (update y t)) (network-ready s (told s (r .inRange)))
-    where
-      go : (same : Bool) → updateDone same .reply ≡ 0
-      go true = refl
-      go false = refl

@@ -20,7 +20,7 @@ use Rattle.agreement.proofs.Limits.{withLimits-length, cell-same, cell-other}
 use Rattle.agreement.proofs.RecordLaws.{sent-updated-same, held-updated-same}
 use Rattle.agreement.proofs.InRange.{end-passes}
 use Rattle.agreement.proofs.Outcomes.{update-accepted}
-use Rattle.bench.specs.Changes.{Ends, ends, ended, endInto, movedEnd, movedEnds}
+use Rattle.bench.specs.Private.Changes.{Ends, ends, ended, endInto, movedEnd, movedEnds}
 
 -- is e an end of bridge y among those below k
 abbrev turned : List ℕ → ℕ → ℕ → ℕ → Bool
@@ -165,3 +165,10 @@ module _ (v : ViewData) (views y t : ℕ) (x : Ends) where
   unfolding movedEnds
   turned-all ok zero h = turned-none
   turned-all ok (suc k) h = turn ok k h (movedEnds v views y t k x) (turned-all ok k (omega arith))
+
+pub records-long : (v : ViewData) (views y t k : ℕ) (x : Ends) → length (movedEnds v views y t k x .records) ≡ length (x .records)
+unfolding movedEnds
+records-long v views y t zero x = refl
+records-long v views y t (suc e) x =
+    let z : Ends = movedEnds v views y t e x in
+    length-set (z .records) e (movedEnd v views t y e (getD (z .records) e freshRecord) (z .sent) (z .held) .end) ∙ records-long v views y t e x

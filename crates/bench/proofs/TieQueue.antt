@@ -14,7 +14,8 @@ use Rattle.distances.proofs.Tables.{rewritten-length, rewritten-at}
 use Rattle.protocol.specs.Net.{Message}
 use Rattle.protocol.specs.Calls.{without, noMessageThere}
 use Rattle.bench.specs.State.{messageFrom, messagesFrom}
-use Rattle.bench.specs.Queue.{numbersOf, takenOut}
+use Rattle.bench.specs.State.{numbersOf}
+use Rattle.bench.specs.Private.Queue.{takenOut}
 use Rattle.protocol.proofs.Places.{skipped, without-at, length-without, without-below, stands-before, stands-new}
 
 -- ---- by places
@@ -80,7 +81,7 @@ module _ (count p : ℕ) (m : List ℕ) where
     pub taken-message : (i : ℕ) → i < count - 1 → messageFrom (takenOut count p m) i ≡ messageFrom m (skipped p i)
     taken-message i low = same-message (takenOut count p m) m i (skipped p i) (λ j. taken-number i j low)
 
-    taken-count : length (without p (messagesFrom 0 count m)) ≡ count - 1
+    pub taken-count : length (without p (messagesFrom 0 count m)) ≡ count - 1
     taken-count = length-without (messagesFrom 0 count m) p 0 ∙ rw (messages-length 0 count m) (omega arith)
 
     pub taken-below : (i : ℕ) → i < count - 1 → skipped p i < count

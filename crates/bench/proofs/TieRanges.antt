@@ -25,11 +25,13 @@ use Rattle.agreement.proofs.Ends.{offer-same}
 use Rattle.agreement.proofs.Offers.{offer-is}
 use Rattle.agreement.proofs.InRange.{records-pass, records-told}
 use Rattle.protocol.specs.Net.{Network, PlanInRange, distanceIn, offerIn}
-use Rattle.bench.specs.State.{State, part, lentView, distanceTable}
-use Rattle.bench.specs.Ranges.{graphInRange, benchInRange, costsInRange, limitsLong, messageInRange, messagesInRange, networkInRange}
-use Rattle.bench.specs.Changes.{stateInRange}
-use Rattle.bench.specs.Deliveries.{deliveryReady}
-use Rattle.bench.specs.Whole.{Represents, planIn}
+use Rattle.bench.specs.State.{State, part}
+use Rattle.bench.specs.Private.Views.{lentView, distanceTable}
+use Rattle.bench.specs.Ranges.{graphInRange, benchInRange, costsInRange, limitsLong, messageInRange, messagesInRange, partsInRange}
+use Rattle.bench.specs.Ranges.{networkInRange}
+use Rattle.bench.specs.Ranges.{stateInRange}
+use Rattle.bench.proofs.Represents.{Represents}
+use Rattle.bench.specs.Private.Views.{planIn}
 use Rattle.bench.specs.declared.Bench.{Bench}
 
 -- ---- lists: one place stored, and parts
@@ -159,8 +161,8 @@ module _ (s : State) where
       (true-both (true-allBelow _ _ (λ y h. lt-ltb _ _ (r .view y h)))
       (records-pass _ _ _ (few (s .bench) (s .costs) (r .lasting) .1) (r .records))))
 
-  pub network-ready : StateReady s → stateInRange s ≡ true
-  unfolding networkInRange limitsLong
+  pub network-ready : StateReady s → networkInRange s ≡ true
+  unfolding partsInRange limitsLong
   network-ready r =
       true-both (bench-ready r)
       (true-both (costs-kept _ _ (r .lasting))
@@ -170,14 +172,14 @@ module _ (s : State) where
   unfolding messagesInRange
   messages-ready r = true-both (le-leb _ _ (r .messagesLong)) (true-allBelow _ _ (r .message))
 
-  pub ready : StateReady s → deliveryReady s ≡ true
+  pub ready : StateReady s → stateInRange s ≡ true
   ready r = true-both (network-ready r) (messages-ready r)
 
-  pub told : deliveryReady s ≡ true → StateReady s
-  unfolding networkInRange benchInRange limitsLong messagesInRange
+  pub told : stateInRange s ≡ true → StateReady s
+  unfolding partsInRange benchInRange limitsLong messagesInRange
   told ok =
       let b = s .bench in
-      let all = both-true (stateInRange s) _ ok in
+      let all = both-true (networkInRange s) _ ok in
       let bench = both-true (benchInRange b) _ (all .0) in
       let graph = both-true (graphInRange b) _ (bench .0) in
       let count = both-true (leb (b .messages) 64) _ (graph .1) in

@@ -22,9 +22,10 @@ use Rattle.agreement.proofs.InRange.{view-passes, recorded-passes, end-passes, 
 use Rattle.agreement.proofs.Outcomes.{deliver-accepted}
 use Rattle.protocol.specs.Net.{Network, Message, offerIn}
 use Rattle.protocol.specs.Calls as calls
-use Rattle.bench.specs.State.{State, state, lentView}
-use Rattle.bench.specs.Deliveries.{benchWithRecords, deliveryAt}
-use Rattle.bench.specs.Whole.{Represents, Typed}
+use Rattle.bench.specs.State.{State, state}
+use Rattle.bench.specs.Private.Views.{lentView}
+use Rattle.bench.specs.Private.Deliveries.{benchWithRecords, deliveryAt}
+use Rattle.bench.proofs.Represents.{Represents, Typed}
 use Rattle.bench.proofs.CallSteps.{withDelivered}
 use Rattle.bench.proofs.TieRanges.{StateReady, ready, few, are-bridges, lent-in-range, lent-offer-in, getD-stored}
 use Rattle.bench.proofs.TieChecks.{MessageFacts}

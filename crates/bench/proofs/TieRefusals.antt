@@ -8,8 +8,8 @@ use Rattle.distances.proofs.Refusals.{First.here, first, later}
 use Rattle.protocol.specs.Net.{Network}
 use Rattle.protocol.specs.Calls.{Call, checks, refuse, accepted, act, step}
 use Rattle.bench.specs.State.{State}
-use Rattle.bench.specs.Changes.{refusalOf, orRefused}
-use Rattle.bench.specs.Whole.{Represents}
+use Rattle.bench.specs.Contracts.{refusalOf, orRefused}
+use Rattle.bench.proofs.Represents.{Represents}
 
 -- out of range: 17
 pub refusal-out : (ok : Bool) (n : Network) (c : Call) → ok ≡ false → 17 ≡ refusalOf ok n c

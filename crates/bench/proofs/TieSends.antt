@@ -2,7 +2,7 @@
 use Prim.Native.Nat.{ℕ, _+_, _*_, _-_, _≤_, _<_}
 use native.Mathlib.Numerals.{add-one}
 use native.Mathlib.Omega.{arith}
-use mathlib.Core.Path.{_≡_, refl, sym, _∙_}
+use mathlib.Core.Path.{_≡_, sym}
 use mathlib.Core.Bool.{true, _&&_}
 use mathlib.Core.List.{List, [], _∷_, _++_}
 use lib.ListN.{length}
@@ -10,16 +10,18 @@ use lib.Seq.{sets}
 use Rattle.distances.proofs.Booleans.{true-both}
 use Rattle.protocol.specs.Net.{Network, Message}
 use Rattle.protocol.specs.Calls.{send, lose, accepted, act, step, endOf, messageOf, sentOver, without, withMessages, checks, refuse, noSuchBridge, noSuchLink, notOnLink, linkCut, noRoom, noMessage}
-use Rattle.bench.specs.State.{State, state, network, networkOf, messagesFrom}
+use Rattle.bench.specs.State.{State, state, network, messagesFrom}
+use Rattle.bench.specs.Private.Views.{networkOf}
 use Rattle.bench.specs.Ranges.{benchInRange, messagesInRange}
-use Rattle.bench.specs.Changes.{refusalOf}
-use Rattle.bench.specs.Queue.{numbersOf, takenOut, QueueOutcome, queueOutcome, sendOf, loseOf}
-use Rattle.bench.specs.Whole.{Represents, Typed, stepBy}
+use Rattle.bench.specs.Contracts.{refusalOf}
+use Rattle.bench.specs.State.{numbersOf}
+use Rattle.bench.specs.Private.Queue.{takenOut, QueueOutcome, queueOutcome, sendOf, loseOf}
+use Rattle.bench.proofs.Represents.{Represents, Typed}
+use Rattle.bench.specs.Private.ListSteps.{stepBy}
 use Rattle.protocol.proofs.Links.{endOf-below}
 use Rattle.protocol.proofs.Accepted.{SendFacts, send-listed, place-listed, accepted-checks}
 use Rattle.bench.proofs.TieRanges.{StateReady, told, ready, bench-ready, messages-ready}
 use Rattle.bench.proofs.TieRefusals.{settled-step}
-use Rattle.bench.proofs.EntryOutcomes.{reply-is}
 use Rattle.bench.proofs.TieQueue.{messages-length, taken-messages, added-messages}
 use Rattle.bench.proofs.TieChecks.{MessageFacts, refusal-same}
 use Rattle.bench.proofs.RangesKept.{withFlight, taken-kept, added-kept}
@@ -143,11 +145,3 @@ module _ (s : State) (n : Network) (r : Represents s n) where
   lose-represents p =
       settled-step queueState n (lose p) _ flightRefused _ (lose-refused p) (λ k. r)
       (λ a. taken-represents p (rw (r .messages, messages-length) at (place-listed n p _ (accepted-checks n (lose p) a))))
-
-  pub send-replied : (y l : ℕ) → sendOf (s .bench) (s .messages) y l .reply ≡ refuse n (send y l)
-  unfolding sendOf flightRefused
-  send-replied y l = reply-is (λ (o : QueueOutcome). o .reply) _ flightRefused _ (λ k. refl) (λ e. refl) ∙ send-refused y l
-
-  pub lose-replied : (p : ℕ) → loseOf (s .bench) (s .messages) p .reply ≡ refuse n (lose p)
-  unfolding loseOf flightRefused
-  lose-replied p = reply-is (λ (o : QueueOutcome). o .reply) _ flightRefused _ (λ k. refl) (λ e. refl) ∙ lose-refused p

@@ -15,7 +15,7 @@ use Rattle.agreement.specs.Call.{ViewData, lentInRange, lentOffer, freshOutcome
 use Rattle.agreement.proofs.Limits.{withLimits-length, cell-same, cell-other}
 use Rattle.agreement.proofs.InRange.{end-passes}
 use Rattle.agreement.proofs.Outcomes.{fresh-accepted}
-use Rattle.bench.specs.Changes.{LimitTables, limitTables, startedEnds}
+use Rattle.bench.specs.Private.Changes.{LimitTables, limitTables, startedEnds}
 
 module _ (v : ViewData) (x : LimitTables) where
   pub record Begun (k : ℕ) (z : LimitTables) : Type 0 where

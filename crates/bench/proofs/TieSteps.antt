@@ -1,12 +1,15 @@
--- The calls that leave the messages in flight alone: a change, or a question, which leaves everything. Assumes nothing.
+-- The network that a call makes stands in what it leaves. Assumes nothing.
 use Prim.Native.Nat.{ℕ}
 use mathlib.Core.Bool.{Bool, true, false, cond}
 use Rattle.protocol.specs.Net.{Network}
-use Rattle.protocol.specs.Calls.{Change, change, update, cut, restore, port, report, path, accepted, act, step}
+use Rattle.protocol.specs.Calls.{Call, Change, change, update, cut, restore, send, deliver, repeat, lose, port, report, path, accepted, act, step}
 use Rattle.bench.specs.State.{State}
-use Rattle.bench.specs.Whole.{Represents, stepBy}
+use Rattle.bench.proofs.Represents.{Represents}
+use Rattle.bench.specs.Private.ListSteps.{stepBy}
 use Rattle.bench.proofs.TieCuts.{cut-represents, restore-represents}
 use Rattle.bench.proofs.TieMoved.{update-represents}
+use Rattle.bench.proofs.TieSends.{send-represents, lose-represents}
+use Rattle.bench.proofs.TieDeliveries.{deliver-represents, repeat-represents}
 
 module _ (s : State) (n : Network) (r : Represents s n) where
   pub change-represents : (x : Change) → Represents (stepBy s (change x)) (step n (change x))
@@ -30,3 +33,13 @@ module _ (s : State) (n : Network) (r : Represents s n) where
   pub path-represents : (y d : ℕ) → Represents (stepBy s (path y d)) (step n (path y d))
   unfolding stepBy step act
   path-represents y d = either (accepted n (path y d))
+
+pub step-represents : (s : State) (n : Network) (c : Call) → Represents s n → Represents (stepBy s c) (step n c)
+step-represents s n (change x) r = change-represents s n r x
+step-represents s n (send y l) r = send-represents s n r y l
+step-represents s n (deliver p) r = deliver-represents s n r p
+step-represents s n (repeat p) r = repeat-represents s n r p
+step-represents s n (lose p) r = lose-represents s n r p
+step-represents s n (port y d) r = port-represents s n r y d
+step-represents s n (report d) r = report-represents s n r d
+step-represents s n (path y d) r = path-represents s n r y d

@@ -1,51 +1,86 @@
 -- Demand 3 for whoever makes the calls one after the other: the network stands in the state after `fresh`, and after each call.
 -- Assumes nothing.
+use Prim.Native.Nat.{ℕ, _<_}
+use native.Mathlib.Omega.{arith}
+use mathlib.Core.Path.{_≡_, refl, sym, _∙_, ap, subst}
+use mathlib.Core.Bool.{Bool, true, false, cond}
 use mathlib.Core.List.{List, [], _∷_}
+use borrow.Author.Tests.{le-leb}
+use lib.ListN.{length}
+use Rattle.distances.proofs.Booleans.{true-both}
+use Rattle.agreement.specs.Call.{Response, says}
 use Rattle.protocol.specs.Net.{Network, Plan, PlanInRange, fresh}
-use Rattle.protocol.specs.Calls.{Call, change, send, deliver, repeat, lose, port, report, path, step, run}
-use Rattle.protocol.specs.Demand3.{Holds}
-use Rattle.bench.specs.State.{State}
-use Rattle.bench.specs.Whole.{Represents, Answers, WholeLists, planIn, freshBy, stepBy, runBy}
+use Rattle.protocol.specs.Calls.{Call, report, step, run}
+use Rattle.bench.specs.State.{State, network}
+use Rattle.bench.specs.Contracts.{Outcome, planReady, freshOf, leftBy}
+use Rattle.bench.specs.Whole.{runIn, Stands, Replies, Meets, WholeLists}
 use Rattle.protocol.proofs.Theorem.{demand3}
+use Rattle.bench.proofs.Represents.{Represents, own-represents}
 use Rattle.bench.proofs.TieRanges.{plan-in-range}
-use Rattle.bench.proofs.TieSteps.{change-represents, port-represents, report-represents, path-represents}
-use Rattle.bench.proofs.TieSends.{send-represents, lose-represents}
-use Rattle.bench.proofs.TieDeliveries.{deliver-represents, repeat-represents}
-use Rattle.bench.proofs.TieReports.{answers}
-use Rattle.bench.proofs.TieFresh.{fresh-lasting, fresh-represents}
+use Rattle.bench.proofs.TieChecks.{refusal-same}
+use Rattle.bench.proofs.TieQueue.{messages-length}
+use Rattle.bench.proofs.TieAnswers.{port-same, own-distance, path-same}
+use Rattle.bench.proofs.TieDeliveries.{placed-answer}
+use Rattle.bench.proofs.TieSteps.{step-represents}
+use Rattle.bench.proofs.TieFresh.{fresh-told}
+use Rattle.bench.proofs.Beside.{beside-same, represents-agrees, stood}
+use Rattle.bench.proofs.BesideSteps.{step-is}
+use Rattle.bench.proofs.FreshStands.{freshState, fresh-left, fresh-represents}
+use Rattle.bench.proofs.QueueCalls.{said-same}
+use Rattle.bench.proofs.RunSteps.{ready-for, left-ready}
 
-pub step-represents : (s : State) (n : Network) (c : Call) → Represents s n → Represents (stepBy s c) (step n c)
-step-represents s n (change x) r = change-represents s n r x
-step-represents s n (send y l) r = send-represents s n r y l
-step-represents s n (deliver p) r = deliver-represents s n r p
-step-represents s n (repeat p) r = repeat-represents s n r p
-step-represents s n (lose p) r = lose-represents s n r p
-step-represents s n (port y d) r = port-represents s n r y d
-step-represents s n (report d) r = report-represents s n r d
-step-represents s n (path y d) r = path-represents s n r y d
+module _ (s : State) (n : Network) (r : Represents s n) where
+  pub stands-in : Stands s n
+  stands-in = record { plan = sym (r .plan); state = stood s s n (beside-same s) (represents-agrees s n r) }
 
-pub run-represents : (cs : List Call) (s : State) (n : Network) → Represents s n → Represents (runBy s cs) (run n cs)
-unfolding runBy run
+  -- the network of the state itself
+  own : Represents s (network s)
+  own = own-represents s (r .inRange) (r .typed)
+
+  pub replies : Replies s n
+  replies =
+      record {
+        refusals = λ c. refusal-same s n r _ c (ready-for s c (r .inRange));
+        reports = λ d rows long. refusal-same s n r _ (report d) (true-both (ready-for s (report d) (r .inRange)) (le-leb 32 (length rows) long));
+        deliveries = λ p h. let low : p < s .bench .messages = rw (r .messages, messages-length) at h in
+            said-same _ _ (sym (placed-answer s (network s) own p low) ∙ placed-answer s n r p low);
+        distances = λ y d hy hd. let low = rw (r .plan) at hy in let end = rw (r .plan) at hd in
+            sym (own-distance s (network s) own y d low end) ∙ own-distance s n r y d low end;
+        ports = λ y d hy hd. let low = rw (r .plan) at hy in let end = rw (r .plan) at hd in
+            sym (port-same s (network s) own y d low end) ∙ port-same s n r y d low end;
+        paths = λ y d hy hd. let low = rw (r .plan) at hy in let end = rw (r .plan) at hd in
+            sym (path-same s (network s) own y d low end) ∙ path-same s n r y d low end;
+      }
+
+  pub left-represents : (c : Call) → Represents (leftBy s c) (step n c)
+  left-represents c = rw (left-ready s c (r .inRange), ← step-is s (r .inRange) (r .typed) c) (step-represents s n c r)
+
+pub run-represents : (cs : List Call) (s : State) (n : Network) → Represents s n → Represents (runIn s cs) (run n cs)
+unfolding runIn run
 run-represents [] s n r = r
-run-represents (c ∷ cs) s n r = run-represents cs (stepBy s c) (step n c) (step-represents s n c r)
+run-represents (c ∷ cs) s n r = run-represents cs (leftBy s c) (step n c) (left-represents s n r c)
+
+-- from any state in which a fresh network stands
+pub whole-from : (s : State) (p : Plan) → PlanInRange p → Represents s (fresh p) → (cs : List Call) → Meets s p cs
+whole-from s p ok fresh-there cs =
+    let r = run-represents cs s (fresh p) fresh-there in
+    record { holds = demand3 p ok cs; stands = stands-in _ _ r; replies = replies _ _ r }
+
+seventeen : _≡_ {A = ℕ} 17 0 → ⊥
+seventeen e = omega arith
+
+-- an accepted `fresh`
+accepted-plan : (s : State) → freshOf s .reply ≡ says tt → planReady s ≡ true
+unfolding freshOf
+accepted-plan s e = go (planReady s) _ _ refl e
+  where
+    go : (b : Bool) (x y : Outcome (Unit {0})) → y .reply .number ≡ 17 → cond b x y .reply ≡ says tt → b ≡ true
+    go true x y is e = refl
+    go false x y is e = absurd (seventeen (sym is ∙ ap (λ (o : Response (Unit {0})). o .number) e))
 
 pub whole-lists : WholeLists
-whole-lists b costs sent held messages done room cs =
-    record {
-      holds = demand3 (planIn b costs) (plan-in-range b costs (fresh-lasting b costs sent held done)) cs;
-      stands = stood;
-      answers = answers _ _ stood;
-    }
-  where
-    stood : Represents (runBy (freshBy b costs sent held messages) cs) (run (fresh (planIn b costs)) cs)
-    stood =
-        run-represents cs (freshBy b costs sent held messages) (fresh (planIn b costs))
-        (fresh-represents b costs sent held messages done room)
-
--- whoever goes on from any state in which the fresh network stands has it too
-pub whole-from :
-    (s : State) (p : Plan) →
-    PlanInRange p →
-    Represents s (fresh p) →
-    (cs : List Call) → Holds p cs × Represents (runBy s cs) (run (fresh p) cs) × Answers (runBy s cs) (run (fresh p) cs)
-whole-from s p ok stands cs = let stood = run-represents cs s (fresh p) stands in (demand3 p ok cs, stood, answers _ _ stood)
+whole-lists s done room cs =
+    let ok = accepted-plan s done in
+    let lasting = fresh-told (s .bench) (s .costs) (s .sent) (s .held) ok .lasting in
+    subst (λ (x : State). Meets x (network s .plan) cs) (ap (λ (o : Outcome (Unit {0})). o .state) (fresh-left s ok))
+    (whole-from (freshState s) (network s .plan) (plan-in-range (s .bench) (s .costs) lasting) (fresh-represents s ok room) cs)

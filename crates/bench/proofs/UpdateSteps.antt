@@ -6,13 +6,15 @@ use mathlib.Core.List.{[]}
 use borrow.Author.Tests.{eq-eqb, ne-eqb}
 use lib.ListN.{getD}
 use Rattle.protocol.specs.Calls.{change, update, refuse}
-use Rattle.bench.specs.State.{State, networkOf}
-use Rattle.bench.specs.Changes.{ChangeOutcome, changeOutcome, stateInRange, updateOf}
-use Rattle.bench.specs.Effects.{movedTo}
+use Rattle.bench.specs.State.{State}
+use Rattle.bench.specs.Private.Views.{networkOf}
+use Rattle.bench.specs.Private.Changes.{ChangeOutcome, changeOutcome, updateOf}
+use Rattle.bench.specs.Ranges.{networkInRange}
+use Rattle.bench.specs.Private.Effects.{movedTo}
 use Rattle.bench.proofs.EntryOutcomes.{turned-down, goes-on}
 use Rattle.bench.proofs.ChangeEntry.{update-same}
 
-module _ (s : State) (y t k : ℕ) (ok : stateInRange s ≡ true) (is : k ≡ refuse (networkOf (s .bench) []) (change (update y t))) where
+module _ (s : State) (y t k : ℕ) (ok : networkInRange s ≡ true) (is : k ≡ refuse (networkOf (s .bench) []) (change (update y t))) where
   abbrev unmoved : ℕ → ChangeOutcome
   unmoved j = changeOutcome j (s .bench) (s .sent) (s .held)
 

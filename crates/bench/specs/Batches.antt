@@ -1,25 +1,23 @@
 -- A list of events as calls, made one after the other up to the first that is refused or whose answer has no room. Assumes nothing.
-use Prim.Native.Nat.{ℕ, zero, suc, _+_, _*_, _-_}
+use Prim.Native.Nat.{ℕ, suc, _+_, _*_, _-_}
 use mathlib.Core.Path.{_≡_}
 use mathlib.Core.Bool.{cond, _&&_}
 use mathlib.Core.List.{List, [], _∷_, _++_}
-use lib.ListN.{length, take, drop, getD}
+use lib.ListN.{length, take, drop}
 use lib.Dec.{eqb, leb, ltb}
-use Rattle.distances.specs.Table.{cell}
 use Rattle.agreement.specs.Record.{answerNumbers}
-use Rattle.agreement.specs.declared.Answer.{Answer}
+use Rattle.protocol.specs.Net.{Network}
+use Rattle.protocol.specs.Calls.{Call, change, update, cut, restore, send, deliver, repeat, lose, report, path, answerAt}
+use Rattle.protocol.specs.Paths as paths
+use Rattle.bench.specs.State.{State, network}
+use Rattle.bench.specs.Ranges.{stateInRange}
+use Rattle.bench.specs.Standing.{stepIn}
+use Rattle.bench.specs.Contracts.{refusalOf, orRefused, reportNumbers, pathNumbers}
+use Rattle.bench.specs.Whole.{runIn}
 use Rattle.bench.specs.declared.Event.{Event}
 use Rattle.bench.specs.declared.Event.the-variants.{Update, Send, Deliver, Repeat, Lose, Cut, Restore, Report, Path}
-use Rattle.protocol.specs.Calls.{Call, change, update, cut, restore, send, deliver, repeat, lose, report, path}
-use Rattle.protocol.specs.Paths as paths
-use Rattle.bench.specs.State.{State, network, lentView}
-use Rattle.bench.specs.Changes.{refusalOf, orRefused}
-use Rattle.bench.specs.Deliveries.{deliveryReady, deliverOf, repeatOf}
-use Rattle.bench.specs.Answers.{portIn, pathOf, pathNumbers}
-use Rattle.bench.specs.Whole.{stepBy, runBy}
 use Rattle.bench.specs.declared.Disposition.{Disposition}
 use Rattle.bench.specs.declared.Disposition.the-variants.{Complete, Refused, Full}
-use Rattle.encoding.specs.Numbers.{linkNumber}
 
 -- the call that an event is
 abbrev pub callOf : Event → Call
@@ -35,31 +33,19 @@ callOf (Path s d) = path s d
 
 -- its number in document 01, 0 where it is accepted: 17 where the state is out of range, then the table's checks of the call
 unfoldable pub replyOf : State → Event → ℕ
-replyOf s e = refusalOf (deliveryReady s) (network s) (callOf e)
-
--- a report's rows: for each bridge below k its distance to d in its own view and its link, NONE for no port
-unfoldable pub reportNumbers : State → ℕ → ℕ → List ℕ
-reportNumbers s d zero = []
-reportNumbers s d (suc y) =
-    reportNumbers s d y
-    ++ (cell (lentView (s .bench) (s .costs) (getD (s .bench .view) y 0) .table) y d ∷ linkNumber (portIn s y d) ∷ [])
-
--- the numbers of a value, where there is one
-unfoldable pub valueNumbers : {A : Type 0} → (A → List ℕ) → List A → List ℕ
-valueNumbers numbers [] = []
-valueNumbers numbers (x ∷ xs) = numbers x
+replyOf s e = refusalOf (stateInRange s) (network s) (callOf e)
 
 -- the numbers that an accepted event answers with
-unfoldable pub answersOf : State → Event → List ℕ
-answersOf s (Update b t) = []
-answersOf s (Send b l) = []
-answersOf s (Deliver p) = valueNumbers answerNumbers (deliverOf s p .reply .value)
-answersOf s (Repeat p) = valueNumbers answerNumbers (repeatOf s p .reply .value)
-answersOf s (Lose p) = []
-answersOf s (Cut l) = []
-answersOf s (Restore l) = []
-answersOf s (Report d) = reportNumbers s d (s .bench .bridges)
-answersOf s (Path y d) = valueNumbers pathNumbers (pathOf s y d .value)
+unfoldable pub answersOf : Network → Event → List ℕ
+answersOf n (Update b t) = []
+answersOf n (Send b l) = []
+answersOf n (Deliver p) = answerNumbers (answerAt n p)
+answersOf n (Repeat p) = answerNumbers (answerAt n p)
+answersOf n (Lose p) = []
+answersOf n (Cut l) = []
+answersOf n (Restore l) = []
+answersOf n (Report d) = reportNumbers n d (n .plan .graph .bridges)
+answersOf n (Path y d) = pathNumbers (paths.path n y d)
 
 -- how many they are, with so many bridges
 unfoldable pub answerSize : ℕ → Event → ℕ
@@ -97,9 +83,9 @@ refusalIn Full = 0
 -- one event: refused, it changes nothing
 unfoldable pub eventBatch : State → Event → Batch
 eventBatch s e =
-    orRefused (replyOf s e) (λ k. batch 0 (Refused k) s []) (batch 1 Complete (stepBy s (callOf e)) (answersOf s e))
+    orRefused (replyOf s e) (λ k. batch 0 (Refused k) s []) (batch 1 Complete (stepIn s (callOf e)) (answersOf (network s) e))
 
--- where its answer has room
+-- where its answer has room: without, the list ends before the event's own refusal is looked at
 unfoldable pub eventBatchIn : ℕ → State → Event → Batch
 eventBatchIn room s e = cond (ltb room (answerSize (s .bench .bridges) e)) (batch 0 Full s []) (eventBatch s e)
 
@@ -131,7 +117,7 @@ batchOutcomeOf b answers =
 -- the first `count` of a list of events: 17 where the state is out of range or there are fewer, and then nothing is changed
 unfoldable pub batchOf : State → List Event → ℕ → List ℕ → BatchOutcome
 batchOf s events count answers =
-    cond (deliveryReady s && leb count (length events)) (batchOutcomeOf (batchFrom (length answers) s (take count events)) answers)
+    cond (stateInRange s && leb count (length events)) (batchOutcomeOf (batchFrom (length answers) s (take count events)) answers)
     (batchOutcome 0 0 (Refused 17) s answers)
 
 -- the calls of so many events, in order
@@ -144,4 +130,4 @@ abbrev pub BatchesAreRuns : Type 0
 BatchesAreRuns =
     (room : ℕ) (s : State) (es : List Event) →
     let b : Batch = batchFrom room s es in
-    (b .state ≡ runBy s (callsOf (take (b .made) es))) × (length (b .answers) ≡ answerSizes (s .bench .bridges) (take (b .made) es))
+    (b .state ≡ runIn s (callsOf (take (b .made) es))) × (length (b .answers) ≡ answerSizes (s .bench .bridges) (take (b .made) es))

@@ -1,12 +1,8 @@
 pub mod Sizes
 pub mod State
 pub mod Ranges
-pub mod Changes
-pub mod Queue
-pub mod Deliveries
-pub mod Answers
-pub mod Effects
-pub mod Chains
-pub mod Steps
+pub mod Standing
+pub mod Contracts
 pub mod Whole
 pub mod Batches
+pub mod Private

@@ -6,7 +6,7 @@ use lib.ListN.{length, getD}
 use lib.Dec.{leb, ltb}
 use Rattle.distances.specs.Call.{graphPasses, costsPass, allBelow}
 use Rattle.agreement.specs.Ranges.{recordsInRange}
-use Rattle.bench.specs.State.{part}
+use Rattle.bench.specs.State.{State, part}
 use Rattle.bench.specs.declared.Bench.{Bench}
 use Rattle.bench.specs.Sizes.{costNumbers, mostMessages, flightNumbers}
 use Rattle.agreement.specs.Sizes.{limitNumbers}
@@ -45,5 +45,12 @@ unfoldable pub messagesInRange : Bench → List ℕ → Bool
 messagesInRange b m = leb flightNumbers (length m) && allBelow (b .messages) (messageInRange b m)
 
 -- what most calls are handed: the bench, the views' costs, the limit tables
-unfoldable pub networkInRange : Bench → List ℕ → ℕ → ℕ → Bool
-networkInRange b costs sent held = benchInRange b && (costsInRange b costs && limitsLong sent held)
+unfoldable pub partsInRange : Bench → List ℕ → ℕ → ℕ → Bool
+partsInRange b costs sent held = benchInRange b && (costsInRange b costs && limitsLong sent held)
+
+abbrev pub networkInRange : State → Bool
+networkInRange s = partsInRange (s .bench) (s .costs) (length (s .sent)) (length (s .held))
+
+-- and the messages
+abbrev pub stateInRange : State → Bool
+stateInRange s = networkInRange s && messagesInRange (s .bench) (s .messages)

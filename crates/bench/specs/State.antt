@@ -1,10 +1,9 @@
 -- What a caller lends and hands over, and the network that stands in it. Assumes nothing.
 use Prim.Native.Nat.{ℕ, zero, suc, _+_, _*_}
 use mathlib.Core.List.{List, [], _∷_}
-use lib.ListN.{getD, take, drop, replicate}
-use Rattle.distances.specs.View.{graphOf, tableNumbers}
-use Rattle.distances.specs.Call.{distancesOf}
-use Rattle.agreement.specs.Call.{ViewData, viewData, lentRecords}
+use lib.ListN.{getD, take, drop}
+use Rattle.distances.specs.View.{graphOf}
+use Rattle.agreement.specs.Call.{lentRecords}
 use Rattle.protocol.specs.Net.{Network, Message}
 use Rattle.bench.specs.declared.Bench.{Bench}
 
@@ -25,15 +24,6 @@ state bench costs sent held messages =
 abbrev pub part : ℕ → ℕ → List ℕ → List ℕ
 part width k l = take width (drop (width * k) l)
 
--- the distances of view t, as layer 1 leaves them in a table that held nothing
-unfoldable pub distanceTable : ℕ → ℕ → List ℕ → List ℕ → ℕ → List ℕ
-distanceTable bridges links ends costs t = distancesOf bridges links ends (part 32 t costs) (replicate tableNumbers 0) .table
-
--- view t as layer 2 is lent it
-abbrev pub lentView : Bench → List ℕ → ℕ → ViewData
-lentView b costs t =
-    viewData (b .bridges) (b .links) (b .ends) (part 32 t costs) (distanceTable (b .bridges) (b .links) (b .ends) costs t)
-
 -- the message at place p, in five numbers: link, direction, view, number, discarded number
 abbrev pub messageFrom : List ℕ → ℕ → Message
 messageFrom m p =
@@ -42,6 +32,10 @@ messageFrom m p =
       direction = getD m (5 * p + 1) 0;
       agreement = record { view = getD m (5 * p + 2) 0; number = getD m (5 * p + 3) 0; discarded = getD m (5 * p + 4) 0 };
     }
+
+abbrev pub numbersOf : Message → List ℕ
+numbersOf m =
+    m .link ∷ m .direction ∷ m .agreement .view ∷ m .agreement .number ∷ m .agreement .discarded ∷ []
 
 -- the messages from place p on, so many of them
 unfoldable pub messagesFrom : ℕ → ℕ → List ℕ → List Message
@@ -63,7 +57,3 @@ network s =
       records = lentRecords (s .bench .cut) (s .bench .records) (s .sent) (s .held);
       messages = messagesFrom 0 (s .bench .messages) (s .messages);
     }
-
--- the network that stands in a bench and the messages, where a call is lent nothing else
-abbrev pub networkOf : Bench → List ℕ → Network
-networkOf b messages = network (state b [] [] [] messages)

@@ -12,14 +12,18 @@ use crate::tables::end_chains;
 use distances::sizes::MOST_VIEWS;
 ghost use mathlib.Core.Path.{_≡_};
 ghost use mathlib.Core.Bool.{true};
-ghost use mathlib.Core.List.{[]};
+ghost use mathlib.Core.List.{List, []};
+ghost use Prim.Native.Nat.{ℕ};
 ghost use lib.ListN.{length};
-ghost use Rattle.bench.specs.Ranges.{networkInRange};
+ghost use Rattle.bench.specs.Ranges.{partsInRange};
 ghost use Rattle.bench.specs.State.{state};
-ghost use Rattle.bench.specs.Changes.{number, NoZero};
-ghost use Rattle.bench.specs.Answers.{forwardingResponse, pathResponse, portOf, reportOutcome, reportOf, pathOf};
-ghost use Rattle.bench.specs.Steps.{Tables};
-ghost use Rattle.bench.specs.Chains.{Chained};
+ghost use Rattle.protocol.specs.Calls as calls;
+ghost use Rattle.protocol.specs.Ports.{forwardingPort};
+ghost use Rattle.protocol.specs.Paths as paths;
+ghost use Rattle.bench.specs.Contracts.{doneResponse, forwardingResponse, pathResponse, outcomeOf, reportOutcome, reportOf};
+ghost use Rattle.bench.specs.Private.Answers.{pathOf};
+ghost use Rattle.bench.specs.Private.Steps.{Tables};
+ghost use Rattle.bench.specs.Private.Chains.{Chained};
 
 // The forwarding port of a bridge for a destination.
 pub fn port(
@@ -30,7 +34,7 @@ pub fn port(
     bridge: usize,
     dest: usize,
 ) -> Forwarding
-    ensures { λ r. ⌜ forwardingResponse r ≡ portOf (state bench (now (costs .entry)) (now (sent .entry)) (now (held .entry)) []) bridge dest ⌝ }
+    ensures { λ r. ⌜ ((messages : List ℕ) → forwardingResponse r ≡ outcomeOf (state bench (now (costs .entry)) (now (sent .entry)) (now (held .entry)) messages) (calls.port bridge dest) (λ n. forwardingPort n bridge dest) .reply) ⌝ }
 {
     if !ready::network_in_range(bench, costs, sent.len(), held.len()) {
         return Forwarding::Refused(17);
@@ -65,7 +69,7 @@ pub fn report(
     dest: usize,
     rows: &mut [u32],
 ) -> Reply
-    ensures { λ r. ⌜ (reportOutcome (number r) (now (rows .exit)) ≡ reportOf (state bench (now (costs .entry)) (now (sent .entry)) (now (held .entry)) []) dest (now (rows .entry))) × NoZero r ⌝ }
+    ensures { λ r. ⌜ ((messages : List ℕ) → reportOutcome (doneResponse r) (now (rows .exit)) ≡ reportOf (state bench (now (costs .entry)) (now (sent .entry)) (now (held .entry)) messages) dest (now (rows .entry))) ⌝ }
 {
     let size = rows.len();
     if !ready::network_in_range(bench, costs, sent.len(), held.len()) {
@@ -102,7 +106,7 @@ pub fn path(
     start: usize,
     dest: usize,
 ) -> PathReply
-    ensures { λ r. ⌜ pathResponse r ≡ pathOf (state bench (now (costs .entry)) (now (sent .entry)) (now (held .entry)) []) start dest ⌝ }
+    ensures { λ r. ⌜ ((messages : List ℕ) → pathResponse r ≡ outcomeOf (state bench (now (costs .entry)) (now (sent .entry)) (now (held .entry)) messages) (calls.path start dest) (λ n. paths.path n start dest) .reply) ⌝ }
 {
     if !ready::network_in_range(bench, costs, sent.len(), held.len()) {
         return PathReply::Refused(17);
@@ -136,7 +140,7 @@ pub(crate) fn path_ready(
     start: usize,
     dest: usize,
 ) -> PathReply
-    requires { ⌜ networkInRange bench (now costs) (length (now sent)) (length (now held)) ≡ true ⌝ }
+    requires { ⌜ partsInRange bench (now costs) (length (now sent)) (length (now held)) ≡ true ⌝ }
     requires { ⌜ Tables bench (now costs) (now tables) (now known) × Chained (bench .links) (bench .ends) (now chain) ⌝ }
     ensures { λ r. ⌜ pathResponse r ≡ pathOf (state bench (now (costs .entry)) (now (sent .entry)) (now (held .entry)) []) start dest ⌝ }
     ensures { λ r. ⌜ Tables bench (now (costs .entry)) (now (tables .exit)) (now (known .exit)) ⌝ }

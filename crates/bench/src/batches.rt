@@ -34,18 +34,21 @@ ghost use mathlib.Core.List.{[]};
 ghost use Prim.Native.Nat.{ℕ, _*_, _≤_, _<_};
 ghost use lib.ListN.{length, take, getD};
 ghost use lib.Seq.{sets};
-ghost use Rattle.bench.specs.Ranges.{networkInRange};
+ghost use Rattle.bench.specs.Ranges.{partsInRange};
 ghost use Rattle.protocol.specs.Calls.{change, cut, restore, refuse};
-ghost use Rattle.bench.specs.Deliveries.{deliveryReady};
-ghost use Rattle.bench.specs.Answers.{PathFits, pathResponse, pathNumbers};
-ghost use Rattle.bench.specs.State.{state, networkOf};
-ghost use Rattle.bench.specs.Batches.{refusalIn, valueNumbers, answerSize, eventBatchIn, batchFrom, batchOutcome, batchOutcomeOf, batchOf};
-ghost use Rattle.bench.specs.Chains.{Chained};
-ghost use Rattle.bench.specs.Effects.{queueChangeNumber, queueChangeEffect, receptionResponse, receptionEffect, updatingNumber, updatingEffect, eventResult, appliedTo, CanApply, LinkFits, HasRecord};
+ghost use Rattle.bench.specs.Ranges.{stateInRange};
+ghost use Rattle.bench.specs.Private.Answers.{PathFits};
+ghost use Rattle.bench.specs.Contracts.{pathResponse, pathNumbers};
+ghost use Rattle.bench.specs.State.{state};
+ghost use Rattle.bench.specs.Private.Views.{networkOf};
+ghost use Rattle.bench.specs.Batches.{refusalIn, answerSize, eventBatchIn, batchFrom, batchOutcome, batchOutcomeOf, batchOf};
+ghost use Rattle.bench.specs.Private.ListSteps.{valueNumbers};
+ghost use Rattle.bench.specs.Private.Chains.{Chained};
+ghost use Rattle.bench.specs.Private.Effects.{queueChangeNumber, queueChangeEffect, receptionResponse, receptionEffect, updatingNumber, updatingEffect, eventResult, appliedTo, CanApply, LinkFits, HasRecord};
 ghost use Rattle.agreement.specs.Record.{freshRecord, answerNumbers};
 ghost use Rattle.agreement.specs.declared.EndRecord.{EndRecord};
 ghost use Rattle.bench.specs.declared.Bench.{Bench};
-ghost use Rattle.bench.specs.Steps.{Tables, ReportsTo, BatchLeft};
+ghost use Rattle.bench.specs.Private.Steps.{Tables, ReportsTo, BatchLeft};
 ghost use Rattle.bench.specs.declared.effects.Effect.the-variants.{Same};
 ghost use Rattle.bench.specs.declared.effects.Effect.the-variants.{Cut as CutFlag};
 
@@ -140,7 +143,7 @@ fn answer_report(
     dest: usize,
     answers: &mut [u32],
 ) -> EventResult
-    requires { ⌜ networkInRange bench (now costs) (length (now sent)) (length (now held)) ≡ true ⌝ }
+    requires { ⌜ partsInRange bench (now costs) (length (now sent)) (length (now held)) ≡ true ⌝ }
     requires { ⌜ (2 * bench .bridges ≤ length (now answers)) × Tables bench (now costs) (now tables) (now known) ⌝ }
     ensures { λ r. ⌜ ReportsTo (state bench (now (costs .entry)) (now (sent .entry)) (now (held .entry)) []) dest (now (answers .entry)) r (now (answers .exit)) ⌝ }
     ensures { λ r. ⌜ Tables bench (now (costs .entry)) (now (tables .exit)) (now (known .exit)) ⌝ }
@@ -228,7 +231,7 @@ fn carry_out(
     event: Event,
     answers: &mut [u32],
 ) -> EventResult
-    requires { ⌜ deliveryReady (state bench (now costs) (now sent) (now held) (now flight)) ≡ true ⌝ }
+    requires { ⌜ stateInRange (state bench (now costs) (now sent) (now held) (now flight)) ≡ true ⌝ }
     requires { ⌜ (bench .bridges ≤ 16) × Tables bench (now costs) (now tables) (now known) × Chained (bench .links) (bench .ends) (now chain) × HasRecord event bench (now flight) old ⌝ }
     ensures { λ r. ⌜ BatchLeft (eventBatchIn (length (now (answers .entry))) (state bench (now (costs .entry)) (now (sent .entry)) (now (held .entry)) (now (flight .entry))) event) (now (answers .entry)) (r .made) (r .disposition) (appliedTo (r .effect) (state bench (now (costs .entry)) (now (sent .exit)) (now (held .exit)) (now (flight .exit)))) (r .answered) (now (answers .exit)) ⌝ }
     ensures { λ r. ⌜ CanApply (r .effect) bench (now (known .exit)) × Tables bench (now (costs .entry)) (now (tables .exit)) (now (known .exit)) ⌝ }
@@ -294,7 +297,7 @@ fn run_in_range(
     count: usize,
     answers: &mut [u32],
 ) -> BatchResult
-    requires { ⌜ (deliveryReady (state bench (now costs) (now sent) (now held) (now flight)) ≡ true) × (count ≤ 2048) ⌝ }
+    requires { ⌜ (stateInRange (state bench (now costs) (now sent) (now held) (now flight)) ≡ true) × (count ≤ 2048) ⌝ }
     ensures { λ r. ⌜ batchOutcome (r .made) (r .answered) (r .disposition) (state (r .bench) (now (costs .entry)) (now (sent .exit)) (now (held .exit)) (now (flight .exit))) (now (answers .exit)) ≡ batchOutcomeOf (batchFrom (length (now (answers .entry))) (state bench (now (costs .entry)) (now (sent .entry)) (now (held .entry)) (now (flight .entry))) (take count events)) (now (answers .entry)) ⌝ }
 {
     let mut tables = [0u32; TABLES];

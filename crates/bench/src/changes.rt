@@ -16,12 +16,16 @@ use distances::sizes::MOST_VIEWS;
 use distances::sizes::TABLE;
 ghost use mathlib.Core.Path.{_≡_};
 ghost use mathlib.Core.Bool.{true};
-ghost use mathlib.Core.List.{[]};
 ghost use Prim.Native.Nat.{_<_};
-ghost use Rattle.bench.specs.Changes.{number, NoZero, benchOutcome, benchWithCut, cutOf, restoreOf, changeOutcome, stateInRange, updateOf, freshOf};
-ghost use Rattle.bench.specs.Effects.{updatingTo, UpdatingFits};
+ghost use Prim.Native.Nat.{ℕ};
+ghost use mathlib.Core.List.{List};
+ghost use Rattle.protocol.specs.Calls as calls;
+ghost use Rattle.bench.specs.Private.Changes.{benchWithCut, updateOf};
+ghost use Rattle.bench.specs.Contracts.{doneResponse, outcome, outcomeOf, freshOf};
+ghost use Rattle.bench.specs.Ranges.{networkInRange};
+ghost use Rattle.bench.specs.Private.Effects.{updatingTo, UpdatingFits};
 ghost use Rattle.bench.specs.State.{State, state};
-ghost use Rattle.bench.specs.Steps.{Ready, Tables};
+ghost use Rattle.bench.specs.Private.Steps.{Ready, Tables};
 
 fn with_cut(bench: Bench, link: usize, so: bool) -> Bench
     requires { ⌜ link < 32 ⌝ }
@@ -34,7 +38,7 @@ fn with_cut(bench: Bench, link: usize, so: bool) -> Bench
 
 // Cuts a link: it carries neither messages nor frames. Records and messages in flight are retained.
 pub fn cut(bench: Bench, link: usize) -> Changed
-    ensures { λ r. ⌜ (benchOutcome (number (r .reply)) (r .bench) ≡ cutOf bench link) × NoZero (r .reply) ⌝ }
+    ensures { λ r. ⌜ ((costs sent held messages : List ℕ) → outcome (doneResponse (r .reply)) (state (r .bench) costs sent held messages) ≡ outcomeOf (state bench costs sent held messages) (calls.change (calls.cut link)) (λ n. tt)) ⌝ }
 {
     if !ready::bench_in_range(bench) {
         return refused(17, bench);
@@ -52,7 +56,7 @@ pub fn cut(bench: Bench, link: usize) -> Changed
 
 // Restores a cut link.
 pub fn restore(bench: Bench, link: usize) -> Changed
-    ensures { λ r. ⌜ (benchOutcome (number (r .reply)) (r .bench) ≡ restoreOf bench link) × NoZero (r .reply) ⌝ }
+    ensures { λ r. ⌜ ((costs sent held messages : List ℕ) → outcome (doneResponse (r .reply)) (state (r .bench) costs sent held messages) ≡ outcomeOf (state bench costs sent held messages) (calls.change (calls.restore link)) (λ n. tt)) ⌝ }
 {
     if !ready::bench_in_range(bench) {
         return refused(17, bench);
@@ -77,7 +81,7 @@ pub fn update(
     bridge: usize,
     view: usize,
 ) -> Changed
-    ensures { λ r. ⌜ (changeOutcome (number (r .reply)) (r .bench) (now (sent .exit)) (now (held .exit)) ≡ updateOf (state bench (now (costs .entry)) (now (sent .entry)) (now (held .entry)) []) bridge view) × NoZero (r .reply) ⌝ }
+    ensures { λ r. ⌜ ((messages : List ℕ) → outcome (doneResponse (r .reply)) (state (r .bench) (now (costs .entry)) (now (sent .exit)) (now (held .exit)) messages) ≡ outcomeOf (state bench (now (costs .entry)) (now (sent .entry)) (now (held .entry)) messages) (calls.change (calls.update bridge view)) (λ n. tt)) ⌝ }
 {
     let sent_size = sent.len();
     let held_size = held.len();
@@ -112,7 +116,7 @@ pub(crate) fn update_ready(
     view: usize,
 ) -> Updating
     requires { ⌜ Ready bench (now costs) × Tables bench (now costs) (now tables) (now known) ⌝ }
-    ensures { λ r. ⌜ ((s : State) → s .bench ≡ bench → stateInRange s ≡ true → updatingTo r s bridge view ≡ updateOf s bridge view) ⌝ }
+    ensures { λ r. ⌜ ((s : State) → s .bench ≡ bench → networkInRange s ≡ true → updatingTo r s bridge view ≡ updateOf s bridge view) ⌝ }
     ensures { λ r. ⌜ UpdatingFits r bench (now (known .exit)) bridge view × Tables bench (now (costs .entry)) (now (tables .exit)) (now (known .exit)) ⌝ }
 {
     let at = bench.view;
@@ -140,7 +144,7 @@ pub(crate) fn update_ready(
 
 // A fresh network over the counts and ends of the bench handed in: every bridge on view 0.
 pub fn fresh(bench: Bench, costs: &[u32], sent: &mut [u32], held: &mut [u32]) -> Changed
-    ensures { λ r. ⌜ (changeOutcome (number (r .reply)) (r .bench) (now (sent .exit)) (now (held .exit)) ≡ freshOf bench (now (costs .entry)) (now (sent .entry)) (now (held .entry))) × NoZero (r .reply) ⌝ }
+    ensures { λ r. ⌜ ((messages : List ℕ) → outcome (doneResponse (r .reply)) (state (r .bench) (now (costs .entry)) (now (sent .exit)) (now (held .exit)) messages) ≡ freshOf (state bench (now (costs .entry)) (now (sent .entry)) (now (held .entry)) messages)) ⌝ }
 {
     let sent_size = sent.len();
     let held_size = held.len();

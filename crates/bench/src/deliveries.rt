@@ -17,9 +17,10 @@ ghost use mathlib.Core.List.{[]};
 ghost use Prim.Native.Nat.{_*_, _≤_, _<_};
 ghost use lib.ListN.{length, getD};
 ghost use Rattle.bench.specs.State.{state};
-ghost use Rattle.bench.specs.Deliveries.{arrivalEnd, deliveryOutcome, deliveryReady, deliveryAt, received};
-ghost use Rattle.bench.specs.Effects.{receptionResponse, receptionBench, Accepts, Takes, LinkFits, MessageFits, endStateIn, StandsIn};
-ghost use Rattle.bench.specs.Steps.{IsFilled, TablesOf};
+ghost use Rattle.bench.specs.Private.Deliveries.{arrivalEnd, deliveryOutcome, deliveryAt, received};
+ghost use Rattle.bench.specs.Ranges.{stateInRange};
+ghost use Rattle.bench.specs.Private.Effects.{receptionResponse, receptionBench, Accepts, Takes, LinkFits, MessageFits, endStateIn, StandsIn};
+ghost use Rattle.bench.specs.Private.Steps.{IsFilled, TablesOf};
 ghost use Rattle.bench.specs.declared.Bench.{Bench};
 
 // The end where the message at a place arrives, as it stands with this record.
@@ -109,7 +110,7 @@ pub(crate) fn receive_at(
 ) -> Reception
     requires { ⌜ (here .end < 64) × (here .view < 32) × (64 ≤ length (now ends)) × (1024 ≤ length (now costs)) × TablesOf bridges links (now ends) (now costs) (now tables) (now known) ⌝ }
     requires { ⌜ (place < 64) × (320 ≤ length (now messages)) × MessageFits (now messages) place × (here .end ≡ arrivalEnd (now messages) place) ⌝ }
-    ensures { λ r. ⌜ ((b : Bench) → StandsIn b bridges views (now (ends .entry)) here → b .links ≡ links → deliveryReady (state b (now (costs .entry)) (now (sent .entry)) (now (held .entry)) (now (messages .entry))) ≡ true → place < b .messages → (deliveryOutcome (receptionResponse r) (receptionBench r b (b .messages)) (now (sent .exit)) (now (held .exit)) (now (messages .entry)) ≡ received (state b (now (costs .entry)) (now (sent .entry)) (now (held .entry)) (now (messages .entry))) place) × Accepts r) ⌝ }
+    ensures { λ r. ⌜ ((b : Bench) → StandsIn b bridges views (now (ends .entry)) here → b .links ≡ links → stateInRange (state b (now (costs .entry)) (now (sent .entry)) (now (held .entry)) (now (messages .entry))) ≡ true → place < b .messages → (deliveryOutcome (receptionResponse r) (receptionBench r b (b .messages)) (now (sent .exit)) (now (held .exit)) (now (messages .entry)) ≡ received (state b (now (costs .entry)) (now (sent .entry)) (now (held .entry)) (now (messages .entry))) place) × Accepts r) ⌝ }
     ensures { λ r. ⌜ TablesOf bridges links (now (ends .entry)) (now (costs .entry)) (now (tables .exit)) (now (known .exit)) ⌝ }
 {
     need_view(

@@ -6,7 +6,8 @@ use distances::sizes::MOST_LINKS;
 ghost use mathlib.Core.Path.{_≡_};
 ghost use Prim.Native.Nat.{_*_, _≤_};
 ghost use Rattle.agreement.specs.Call.{viewData};
-ghost use Rattle.bench.specs.Changes.{limitTables, startedEnds, freshBench};
+ghost use Rattle.bench.specs.Private.Changes.{limitTables, startedEnds};
+ghost use Rattle.bench.specs.Contracts.{blank};
 
 pub(crate) fn start_ends(
     bench: Bench,
@@ -36,7 +37,7 @@ pub(crate) fn start_ends(
 }
 
 pub(crate) fn fresh_bench(bench: Bench) -> Bench
-    ensures { λ r. ⌜ r ≡ freshBench bench ⌝ }
+    ensures { λ r. ⌜ r ≡ blank bench ⌝ }
 {
     let ends = bench.ends;
     let view = [0u8; MOST_BRIDGES];

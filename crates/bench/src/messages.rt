@@ -20,14 +20,18 @@ use distances::sizes::MOST_VIEWS;
 ghost use Prim.Native.Nat.{_-_};
 ghost use mathlib.Core.Path.{_≡_};
 ghost use mathlib.Core.Bool.{true, _&&_};
-ghost use Rattle.bench.specs.Changes.{number, NoZero, benchOutcome};
+ghost use Prim.Native.Nat.{ℕ};
+ghost use mathlib.Core.List.{List};
+ghost use Rattle.protocol.specs.Calls as calls;
 ghost use Rattle.bench.specs.State.{state};
 ghost use Rattle.bench.specs.Ranges.{benchInRange, messagesInRange};
-ghost use Rattle.bench.specs.Queue.{queueOutcome, sendOf, loseOf};
-ghost use Rattle.bench.specs.Deliveries.{reactionResponse, deliveryOutcome, deliveryReady, deliverOf, repeatOf};
-ghost use Rattle.bench.specs.Effects.{queueChangeNumber, queueChangeBench, QueueChangeFits, receptionResponse, receptionBench, ReceptionFits, HasRecord};
+ghost use Rattle.bench.specs.Private.Queue.{queueOutcome, sendOf, loseOf};
+ghost use Rattle.bench.specs.Contracts.{doneResponse, reactionResponse, outcome, outcomeOf};
+ghost use Rattle.bench.specs.Private.Deliveries.{deliveryOutcome, deliverOf, repeatOf};
+ghost use Rattle.bench.specs.Ranges.{stateInRange};
+ghost use Rattle.bench.specs.Private.Effects.{queueChangeResponse, queueChangeNumber, queueChangeBench, QueueChangeFits, receptionResponse, receptionBench, ReceptionFits, HasRecord};
 ghost use Rattle.bench.specs.declared.Event.the-variants.{Send, Deliver, Repeat};
-ghost use Rattle.bench.specs.Steps.{Tables};
+ghost use Rattle.bench.specs.Private.Steps.{Tables};
 
 fn flight_in_range(bench: Bench, messages: &[u32]) -> bool
     ensures { λ r. ⌜ r ≡ (benchInRange bench && messagesInRange bench (now (messages .entry))) ⌝ }
@@ -41,7 +45,7 @@ fn flight_in_range(bench: Bench, messages: &[u32]) -> bool
 
 // Appends the message of a bridge over a link: its view, its number, and the end's discarded number.
 pub fn send(bench: Bench, messages: &mut [u32], bridge: usize, link: usize) -> Changed
-    ensures { λ r. ⌜ (queueOutcome (number (r .reply)) (r .bench) (now (messages .exit)) ≡ sendOf bench (now (messages .entry)) bridge link) × NoZero (r .reply) ⌝ }
+    ensures { λ r. ⌜ ((costs sent held : List ℕ) → outcome (doneResponse (r .reply)) (state (r .bench) costs sent held (now (messages .exit))) ≡ outcomeOf (state bench costs sent held (now (messages .entry))) (calls.send bridge link) (λ n. tt)) ⌝ }
 {
     if !flight_in_range(bench, messages) {
         return refused(17, bench);
@@ -54,8 +58,7 @@ pub fn send(bench: Bench, messages: &mut [u32], bridge: usize, link: usize) -> C
 
 // The bench with so many messages in flight, or as it was.
 fn queued(bench: Bench, queue: QueueChange) -> Changed
-    requires { ⌜ QueueChangeFits queue ⌝ }
-    ensures { λ r. ⌜ (benchOutcome (number (r .reply)) (r .bench) ≡ benchOutcome (queueChangeNumber queue) (queueChangeBench queue bench)) × NoZero (r .reply) ⌝ }
+    ensures { λ r. ⌜ (doneResponse (r .reply) ≡ queueChangeResponse queue) × (r .bench ≡ queueChangeBench queue bench) ⌝ }
 {
     match queue {
         QueueChange::Refused(number) => refused(number, bench),
@@ -118,7 +121,7 @@ pub(crate) fn send_ready(
 
 // Takes a message out; later ones move up by one.
 pub fn lose(bench: Bench, messages: &mut [u32], place: usize) -> Changed
-    ensures { λ r. ⌜ (queueOutcome (number (r .reply)) (r .bench) (now (messages .exit)) ≡ loseOf bench (now (messages .entry)) place) × NoZero (r .reply) ⌝ }
+    ensures { λ r. ⌜ ((costs sent held : List ℕ) → outcome (doneResponse (r .reply)) (state (r .bench) costs sent held (now (messages .exit))) ≡ outcomeOf (state bench costs sent held (now (messages .entry))) (calls.lose place) (λ n. tt)) ⌝ }
 {
     if !flight_in_range(bench, messages) {
         return refused(17, bench);
@@ -175,7 +178,7 @@ pub fn deliver(
     messages: &mut [u32],
     place: usize,
 ) -> DeliveryResult
-    ensures { λ r. ⌜ deliveryOutcome (reactionResponse (r .reply)) (r .bench) (now (sent .exit)) (now (held .exit)) (now (messages .exit)) ≡ deliverOf (state bench (now (costs .entry)) (now (sent .entry)) (now (held .entry)) (now (messages .entry))) place ⌝ }
+    ensures { λ r. ⌜ outcome (reactionResponse (r .reply)) (state (r .bench) (now (costs .entry)) (now (sent .exit)) (now (held .exit)) (now (messages .exit))) ≡ outcomeOf (state bench (now (costs .entry)) (now (sent .entry)) (now (held .entry)) (now (messages .entry))) (calls.deliver place) (λ n. calls.answerAt n place) ⌝ }
 {
     let in_range = ready::delivery_in_range(bench, costs, sent.len(), held.len(), messages);
     if !in_range {
@@ -211,7 +214,7 @@ pub(crate) fn deliver_ready(
     messages: &mut [u32],
     place: usize,
 ) -> Reception
-    requires { ⌜ deliveryReady (state bench (now costs) (now sent) (now held) (now messages)) ≡ true ⌝ }
+    requires { ⌜ stateInRange (state bench (now costs) (now sent) (now held) (now messages)) ≡ true ⌝ }
     requires { ⌜ Tables bench (now costs) (now tables) (now known) × HasRecord (Deliver place) bench (now messages) old ⌝ }
     ensures { λ r. ⌜ (deliveryOutcome (receptionResponse r) (receptionBench r bench (bench .messages - 1)) (now (sent .exit)) (now (held .exit)) (now (messages .exit)) ≡ deliverOf (state bench (now (costs .entry)) (now (sent .entry)) (now (held .entry)) (now (messages .entry))) place) × ReceptionFits r ⌝ }
     ensures { λ r. ⌜ Tables bench (now (costs .entry)) (now (tables .exit)) (now (known .exit)) ⌝ }
@@ -253,7 +256,7 @@ pub fn repeat(
     messages: &[u32],
     place: usize,
 ) -> DeliveryResult
-    ensures { λ r. ⌜ deliveryOutcome (reactionResponse (r .reply)) (r .bench) (now (sent .exit)) (now (held .exit)) (now (messages .entry)) ≡ repeatOf (state bench (now (costs .entry)) (now (sent .entry)) (now (held .entry)) (now (messages .entry))) place ⌝ }
+    ensures { λ r. ⌜ outcome (reactionResponse (r .reply)) (state (r .bench) (now (costs .entry)) (now (sent .exit)) (now (held .exit)) (now (messages .entry))) ≡ outcomeOf (state bench (now (costs .entry)) (now (sent .entry)) (now (held .entry)) (now (messages .entry))) (calls.repeat place) (λ n. calls.answerAt n place) ⌝ }
 {
     let in_range = ready::delivery_in_range(bench, costs, sent.len(), held.len(), messages);
     if !in_range {
@@ -289,7 +292,7 @@ pub(crate) fn repeat_ready(
     messages: &[u32],
     place: usize,
 ) -> Reception
-    requires { ⌜ deliveryReady (state bench (now costs) (now sent) (now held) (now messages)) ≡ true ⌝ }
+    requires { ⌜ stateInRange (state bench (now costs) (now sent) (now held) (now messages)) ≡ true ⌝ }
     requires { ⌜ Tables bench (now costs) (now tables) (now known) × HasRecord (Repeat place) bench (now messages) old ⌝ }
     ensures { λ r. ⌜ (deliveryOutcome (receptionResponse r) (receptionBench r bench (bench .messages)) (now (sent .exit)) (now (held .exit)) (now (messages .entry)) ≡ repeatOf (state bench (now (costs .entry)) (now (sent .entry)) (now (held .entry)) (now (messages .entry))) place) × ReceptionFits r ⌝ }
     ensures { λ r. ⌜ Tables bench (now (costs .entry)) (now (tables .exit)) (now (known .exit)) ⌝ }

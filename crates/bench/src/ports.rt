@@ -28,9 +28,10 @@ ghost use Rattle.distances.specs.View.{graphOf, maxCost};
 ghost use Rattle.bench.specs.State.{state};
 ghost use Rattle.protocol.specs.Ports.{across};
 ghost use Rattle.protocol.specs.Paths.{onward, delivered, stops};
-ghost use Rattle.bench.specs.Answers.{portIn, reported, hopIn, pathResponse};
-ghost use Rattle.bench.specs.Chains.{Chained};
-ghost use Rattle.bench.specs.Steps.{PortsReady, IsFilled, AllFilled, Tables, AreChoices, protocolHop};
+ghost use Rattle.bench.specs.Private.Answers.{portIn, reported, hopIn};
+ghost use Rattle.bench.specs.Contracts.{pathResponse};
+ghost use Rattle.bench.specs.Private.Chains.{Chained};
+ghost use Rattle.bench.specs.Private.Steps.{PortsReady, IsFilled, AllFilled, Tables, AreChoices, protocolHop};
 ghost use Rattle.encoding.specs.Numbers.{linkNumber};
 
 // The choice with one end more.

@@ -9,9 +9,9 @@ ghost use lib.ListN.{length};
 ghost use lib.Seq.{sets};
 ghost use Rattle.distances.specs.View.{graphOf};
 ghost use Rattle.protocol.specs.Calls.{endOf};
-ghost use Rattle.bench.specs.Deliveries.{arrivalEnd};
-ghost use Rattle.bench.specs.Queue.{withCount, takenOut};
-ghost use Rattle.bench.specs.Effects.{LinkFits};
+ghost use Rattle.bench.specs.Private.Deliveries.{arrivalEnd};
+ghost use Rattle.bench.specs.Private.Queue.{withCount, takenOut};
+ghost use Rattle.bench.specs.Private.Effects.{LinkFits};
 
 // A message's five numbers, at place `place`.
 pub(crate) fn put(

@@ -16,7 +16,7 @@ ghost use lib.ListN.{length, getD};
 ghost use lib.Dec.{ltb};
 ghost use Rattle.distances.specs.Call.{costsPass, allBelow};
 ghost use Rattle.bench.specs.State.{part};
-ghost use Rattle.bench.specs.Ranges.{graphInRange, benchInRange, costsInRange, limitsLong, messagePasses, messagesInRange, networkInRange};
+ghost use Rattle.bench.specs.Ranges.{graphInRange, benchInRange, costsInRange, limitsLong, messagePasses, messagesInRange, partsInRange};
 
 pub(crate) fn graph_in_range(bench: Bench) -> bool
     ensures { λ r. ⌜ r ≡ graphInRange bench ⌝ }
@@ -97,7 +97,7 @@ pub(crate) fn plan_in_range(bench: Bench, costs: &[u32], sent: usize, held: usiz
 }
 
 pub(crate) fn network_in_range(bench: Bench, costs: &[u32], sent: usize, held: usize) -> bool
-    ensures { λ r. ⌜ r ≡ networkInRange bench (now (costs .entry)) sent held ⌝ }
+    ensures { λ r. ⌜ r ≡ partsInRange bench (now (costs .entry)) sent held ⌝ }
 {
     if bench_in_range(bench) {
         both(costs_in_range(bench, costs), limits_long(sent, held))
@@ -164,7 +164,7 @@ pub(crate) fn delivery_in_range(
     held: usize,
     messages: &[u32],
 ) -> bool
-    ensures { λ r. ⌜ r ≡ (networkInRange bench (now (costs .entry)) sent held && messagesInRange bench (now (messages .entry))) ⌝ }
+    ensures { λ r. ⌜ r ≡ (partsInRange bench (now (costs .entry)) sent held && messagesInRange bench (now (messages .entry))) ⌝ }
 {
     if network_in_range(bench, costs, sent, held) {
         messages_in_range(bench, messages)

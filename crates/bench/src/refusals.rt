@@ -2,14 +2,14 @@
 // it looks at, of a bench that has them.
 use crate::sizes::MESSAGE;
 use crate::sizes::MOST_MESSAGES;
-use agreement::sizes::LAST_NUMBER;
+use agreement::ready::numbers_used_up;
 use distances::ready::both;
 ghost use mathlib.Core.Path.{_≡_};
 ghost use mathlib.Core.List.{[]};
 ghost use Prim.Native.Nat.{_*_, _≤_, _<_};
 ghost use lib.ListN.{length, getD};
 ghost use Rattle.protocol.specs.Calls.{change, update, cut, restore, send, deliver, lose, port, report, refuse};
-ghost use Rattle.bench.specs.State.{networkOf};
+ghost use Rattle.bench.specs.Private.Views.{networkOf};
 ghost use Rattle.bench.specs.declared.Bench.{Bench};
 
 pub(crate) fn update_refusal(
@@ -31,7 +31,7 @@ pub(crate) fn update_refusal(
     }
     let last = number[bridge];
     let present = view[bridge] as usize;
-    if both(last == LAST_NUMBER, present != to) {
+    if numbers_used_up(last, present, to) {
         return 16;
     }
     0

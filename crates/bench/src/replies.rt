@@ -5,13 +5,11 @@ use crate::DeliveryResult;
 use crate::Reaction;
 use crate::Reply;
 ghost use mathlib.Core.Path.{_≡_};
-ghost use Prim.Native.Nat.{_<_};
-ghost use Rattle.bench.specs.Changes.{number, NoZero, benchOutcome};
-ghost use Rattle.bench.specs.Deliveries.{reactionResponse, refusedBy};
+ghost use Rattle.bench.specs.Contracts.{doneResponse};
+ghost use Rattle.bench.specs.Contracts.{reactionResponse, refusedBy};
 
 pub(crate) fn refused(by: u8, bench: Bench) -> Changed
-    requires { ⌜ 0 < by ⌝ }
-    ensures { λ r. ⌜ (benchOutcome (number (r .reply)) (r .bench) ≡ benchOutcome by bench) × NoZero (r .reply) ⌝ }
+    ensures { λ r. ⌜ (doneResponse (r .reply) ≡ refusedBy by) × (r .bench ≡ bench) ⌝ }
 {
     Changed {
         reply: Reply::Refused(by),

@@ -9,8 +9,8 @@ ghost use mathlib.Core.Path.{_≡_};
 ghost use mathlib.Core.Bool.{true, false};
 ghost use Prim.Native.Nat.{ℕ, _*_, _≤_, _<_};
 ghost use lib.ListN.{length, getD};
-ghost use Rattle.bench.specs.Steps.{filledView, Tables, TablesOf, Ready};
-ghost use Rattle.bench.specs.Chains.{Chained};
+ghost use Rattle.bench.specs.Private.Steps.{filledView, Tables, TablesOf, Ready};
+ghost use Rattle.bench.specs.Private.Chains.{Chained};
 
 fn fill_view(
     bridges: usize,

@@ -12,11 +12,11 @@ ghost use Prim.Native.Nat.{ℕ, _*_, _≤_, _<_};
 ghost use lib.ListN.{length, getD};
 ghost use Rattle.agreement.specs.Call.{viewData};
 ghost use Rattle.agreement.specs.Ranges.{endInRange};
-ghost use Rattle.bench.specs.Changes.{ends, movedEnds, changeOutcome, movedBench};
-ghost use Rattle.bench.specs.Chains.{Chained};
-ghost use Rattle.bench.specs.Ranges.{networkInRange};
-ghost use Rattle.bench.specs.State.{lentView};
-ghost use Rattle.bench.specs.Steps.{IsFilled};
+ghost use Rattle.bench.specs.Private.Changes.{ends, movedEnds, changeOutcome, movedBench};
+ghost use Rattle.bench.specs.Private.Chains.{Chained};
+ghost use Rattle.bench.specs.Ranges.{partsInRange};
+ghost use Rattle.bench.specs.Private.Views.{lentView};
+ghost use Rattle.bench.specs.Private.Steps.{IsFilled};
 
 // The bridge's ends, one behind the other, as layer 2 updates them.
 fn move_ends(
@@ -69,7 +69,7 @@ pub(crate) fn moved(
     sent: &mut [u32],
     held: &mut [u32],
 ) -> Bench
-    requires { ⌜ (networkInRange bench (now costs) (length (now sent)) (length (now held)) ≡ true) × (bridge < bench .bridges) × (view < bench .views) × (8192 ≤ length (now tables)) × (getD (bench .number) bridge 0 < 65535) ⌝ }
+    requires { ⌜ (partsInRange bench (now costs) (length (now sent)) (length (now held)) ≡ true) × (bridge < bench .bridges) × (view < bench .views) × (8192 ≤ length (now tables)) × (getD (bench .number) bridge 0 < 65535) ⌝ }
     requires { ⌜ IsFilled bench (now costs) (now tables) view × Chained (bench .links) (bench .ends) (now chain) ⌝ }
     ensures { λ r. ⌜ changeOutcome 0 r (now (sent .exit)) (now (held .exit)) ≡ movedBench bench bridge view (movedEnds (lentView bench (now (costs .entry)) view) (bench .views) bridge view (2 * bench .links) (ends (bench .records) (now (sent .entry)) (now (held .entry)))) ⌝ }
 {

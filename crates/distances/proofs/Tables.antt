@@ -26,30 +26,40 @@ isInRow-is n i p = refl
 
 -- ---- a list rewritten
 
-rewrittenFrom-length : (k : ℕ) (c : ℕ → Bool) (f : ℕ → ℕ) (t : List ℕ) → length (rewrittenFrom k c f t) ≡ length t
-unfolding rewrittenFrom
-rewrittenFrom-length k c f [] = refl
-rewrittenFrom-length k c f (x ∷ xs) = ap suc (rewrittenFrom-length (suc k) c f xs)
+module _ {A : Type 0} (c : ℕ → Bool) (f : ℕ → A) where
+  rewrittenFrom-length : (k : ℕ) (t : List A) → length (rewrittenFrom k c f t) ≡ length t
+  unfolding rewrittenFrom
+  rewrittenFrom-length k [] = refl
+  rewrittenFrom-length k (x ∷ xs) = ap suc (rewrittenFrom-length (suc k) xs)
 
-rewrittenFrom-at : (k : ℕ) (c : ℕ → Bool) (f : ℕ → ℕ) (t : List ℕ) (p : ℕ) → p < length t → getD (rewrittenFrom k c f t) p 0 ≡ cond (c (p + k)) (f (p + k)) (getD t p 0)
-unfolding rewrittenFrom
-rewrittenFrom-at k c f [] p h = absurd (not-suc-le-zero h)
-rewrittenFrom-at k c f (x ∷ xs) zero h = rw zero-add
-rewrittenFrom-at k c f (x ∷ xs) (suc p) h = rw (suc-add, ← add-suc) (rewrittenFrom-at (suc k) c f xs p (le-of-suc-le-suc h))
+  rewrittenFrom-at : (d : A) (k : ℕ) (t : List A) (p : ℕ) → p < length t → getD (rewrittenFrom k c f t) p d ≡ cond (c (p + k)) (f (p + k)) (getD t p d)
+  unfolding rewrittenFrom
+  rewrittenFrom-at d k [] p h = absurd (not-suc-le-zero h)
+  rewrittenFrom-at d k (x ∷ xs) zero h = rw zero-add
+  rewrittenFrom-at d k (x ∷ xs) (suc p) h = rw (suc-add, ← add-suc) (rewrittenFrom-at d (suc k) xs p (le-of-suc-le-suc h))
+
+  module _ (t : List A) where
+    pub rewritten-length : length (rewritten c f t) ≡ length t
+    unfolding rewritten
+    rewritten-length = rewrittenFrom-length 0 t
+
+    module _ (d : A) where
+      -- what stands at a place, whatever stands past the end
+      pub element-at : (p : ℕ) → p < length t → getD (rewritten c f t) p d ≡ cond (c p) (f p) (getD t p d)
+      unfolding rewritten
+      element-at p h = rw add-zero at (rewrittenFrom-at d 0 t p h)
+
+      pub elements-are : (l : List A) → length l ≡ length t → ((p : ℕ) → p < length t → getD l p d ≡ cond (c p) (f p) (getD t p d)) → l ≡ rewritten c f t
+      elements-are l e h =
+          ext-getD d l (rewritten c f t) (e ∙ sym rewritten-length) (λ p b. h p (rw e at b) ∙ sym (element-at p (rw e at b)))
 
 module _ (c : ℕ → Bool) (f : ℕ → ℕ) (t : List ℕ) where
-  pub rewritten-length : length (rewritten c f t) ≡ length t
-  unfolding rewritten
-  rewritten-length = rewrittenFrom-length 0 c f t
-
   pub rewritten-at : (p : ℕ) → p < length t → getD (rewritten c f t) p 0 ≡ cond (c p) (f p) (getD t p 0)
-  unfolding rewritten
-  rewritten-at p h = rw add-zero at (rewrittenFrom-at 0 c f t p h)
+  rewritten-at = element-at c f t 0
 
   -- a list of the same length with the same numbers
   pub rewritten-is : (l : List ℕ) → length l ≡ length t → ((p : ℕ) → p < length t → getD l p 0 ≡ cond (c p) (f p) (getD t p 0)) → l ≡ rewritten c f t
-  rewritten-is l e h =
-      ext-getD 0 l (rewritten c f t) (e ∙ sym rewritten-length) (λ p b. h p (rw e at b) ∙ sym (rewritten-at p (rw e at b)))
+  rewritten-is = elements-are c f t 0
 
   pub rewritten-none : ((p : ℕ) → c p ≡ false) → t ≡ rewritten c f t
   rewritten-none h = rewritten-is t refl (λ p b. rw (h p))

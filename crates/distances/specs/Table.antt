@@ -9,12 +9,12 @@ use lib.Dec.{ltb, eqb}
 unfoldable pub cell : List ℕ → ℕ → ℕ → ℕ
 cell t i j = getD t (16 * i + j) 0
 
--- the list in which each place p that is chosen, counted from k, holds f p, and every other number is as before
-unfoldable pub rewrittenFrom : ℕ → (ℕ → Bool) → (ℕ → ℕ) → List ℕ → List ℕ
+-- the list in which each place p that is chosen, counted from k, holds f p, and every other is as before
+unfoldable pub rewrittenFrom : {A : Type 0} → ℕ → (ℕ → Bool) → (ℕ → A) → List A → List A
 rewrittenFrom k chosen f [] = []
 rewrittenFrom k chosen f (x ∷ xs) = cond (chosen k) (f k) x ∷ rewrittenFrom (suc k) chosen f xs
 
-unfoldable pub rewritten : (ℕ → Bool) → (ℕ → ℕ) → List ℕ → List ℕ
+unfoldable pub rewritten : {A : Type 0} → (ℕ → Bool) → (ℕ → A) → List A → List A
 rewritten chosen f t = rewrittenFrom 0 chosen f t
 
 -- is place p in row i, in the first n columns

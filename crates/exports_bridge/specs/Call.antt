@@ -7,6 +7,7 @@ use mathlib.Core.List.{List, [], _∷_}
 use lib.ListN.{length}
 use lib.Dec.{leb}
 use Rattle.agreement.specs.Record.{answerNumbers}
+use Rattle.agreement.specs.Update.{bridgeUpdateOutcome}
 use Rattle.agreement.specs.Call.{Response, Outcome, ViewData, offerOutcome, freshOutcome, updateOutcome, carryOutcome, deliverOutcome, portOutcome}
 use Rattle.agreement.specs.declared.Answer.{Answer}
 use Rattle.encoding.specs.Numbers.{
@@ -42,6 +43,10 @@ offerReply v e d out = ifLong (leb 1 (length out)) (out ∷ []) (valueReply (λ 
 unfoldable pub freshReply : ViewData → ℕ → List ℕ → List ℕ → List ℕ → CallOutcome
 freshReply v e fields sent held =
     ifLong (leb 4 (length fields)) (fields ∷ sent ∷ held ∷ []) (endReply fields (freshOutcome v e sent held))
+
+unfoldable pub bridgeUpdateReply : ℕ → ℕ → ℕ → ℕ → List ℕ → CallOutcome
+bridgeUpdateReply views present number t out =
+    ifLong (leb 2 (length out)) (out ∷ []) (valueReply (λ x. x) out (bridgeUpdateOutcome views present number t))
 
 unfoldable pub updateReply : ViewData → ℕ → ℕ → ℕ → List ℕ → List ℕ → List ℕ → CallOutcome
 updateReply v views t e fields sent held =

@@ -1,6 +1,7 @@
 // The public calls of layer 2 over numbers: a record is four numbers (received, view, discarded, holding), a message three (view,
 // number, discarded); any number but 0 stands for true. Each answers 17 where it refuses, also where a number does not fit its field,
-// and 0 where it does not; a refused call changes nothing.
+// an update of a bridge also 10 and 16, and 0 where it does not; a refused call changes nothing.
+use agreement::BridgeUpdate;
 use agreement::Carrying;
 use agreement::Forwarding;
 use agreement::Offered;
@@ -14,7 +15,7 @@ ghost use mathlib.Core.Path.{_≡_};
 ghost use mathlib.Core.List.{[], _∷_};
 ghost use Rattle.agreement.specs.Call.{viewData};
 ghost use Rattle.encoding.specs.Replies.{callOutcome};
-ghost use Rattle.exports_bridge.specs.Call.{offerReply, freshReply, updateReply, carryReply, deliverReply, portReply};
+ghost use Rattle.exports_bridge.specs.Call.{offerReply, freshReply, bridgeUpdateReply, updateReply, carryReply, deliverReply, portReply};
 
 // `agreement::calls::offer_over`: the offer goes to out[0].
 #[no_mangle]
@@ -67,6 +68,37 @@ pub extern "C" fn bench_start_end(
         Reply::Refused => 17,
         Reply::Done => {
             encoding::put_record(changed.end, fields);
+            0
+        }
+    }
+}
+
+// `agreement::calls::update_bridge`: 0 goes to out[0] where the bridge stays on its view, 1 where it moves; its new number to out[1], 0 where
+// it stays.
+#[no_mangle]
+pub extern "C" fn bench_update_bridge(
+    views: usize,
+    present: u8,
+    number: u16,
+    view: u8,
+    out: &mut [u32],
+) -> u8
+    ensures { λ r. ⌜ callOutcome r (now (out .exit) ∷ []) ≡ bridgeUpdateReply views present number view (now (out .entry)) ⌝ }
+{
+    if out.len() < 2 {
+        return 17;
+    }
+    let update = calls::update_bridge(views, present, number, view);
+    match update {
+        BridgeUpdate::Refused(refusal) => refusal,
+        BridgeUpdate::Stays => {
+            out[0] = 0;
+            out[1] = 0;
+            0
+        }
+        BridgeUpdate::Moves(next) => {
+            out[0] = 1;
+            out[1] = next as u32;
             0
         }
     }

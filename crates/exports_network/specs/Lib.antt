@@ -1,3 +1,4 @@
 pub mod Network
 pub mod Lists
 pub mod SliceCalls
+pub mod Reading

@@ -9,13 +9,12 @@ use lib.Dec.{eqb, leb, ltb}
 use Rattle.distances.specs.Table.{rewritten}
 use Rattle.distances.specs.Call.{allBelow}
 use Rattle.agreement.specs.Record.{freshRecord, answerNumbers}
-use Rattle.agreement.specs.declared.Answer.{Answer}
+use Rattle.protocol.specs.Calls.{Call, change, update, cut, restore, send, deliver, repeat, lose, port, path, answerAt}
+use Rattle.protocol.specs.Ports.{forwardingPort}
+use Rattle.protocol.specs.Paths as paths
 use Rattle.bench.specs.declared.Bench.{Bench}
 use Rattle.bench.specs.State.{State, state}
-use Rattle.bench.specs.Changes.{BenchOutcome, ChangeOutcome, freshOf, updateOf, cutOf, restoreOf}
-use Rattle.bench.specs.Queue.{QueueOutcome, sendOf, loseOf}
-use Rattle.bench.specs.Deliveries.{DeliveryOutcome, deliverOf, repeatOf}
-use Rattle.bench.specs.Answers.{ReportOutcome, portOf, reportOf, pathNumbers, pathOf}
+use Rattle.bench.specs.Contracts.{refusedBy, Outcome, outcome, outcomeOf, pathNumbers, ReportOutcome, reportOf, freshOf}
 use Rattle.encoding.specs.Numbers.{isSet, tabulated, recordsIn, holdsRecords, recordNumbers, portNumbers}
 use Rattle.encoding.specs.Replies.{CallOutcome, callOutcome, ifLong, withValue, valueReply}
 
@@ -72,83 +71,69 @@ numberAt b k =
 unfoldable pub stored : Bench → List ℕ → List ℕ
 stored b xs = rewritten (λ k. ltb k benchNumbers) (numberAt b) xs
 
--- ---- the calls
+-- ---- the calls: a list that a call is not lent is [] in the state
 
 -- the new bench where the call was not refused
 abbrev pub withBench : ℕ → Bench → List ℕ → List ℕ
 withBench reply b xs = cond (eqb reply 0) (stored b xs) xs
 
-abbrev pub benchReply : List ℕ → BenchOutcome → CallOutcome
-benchReply xs o = callOutcome (o .reply) (withBench (o .reply) (o .bench) xs ∷ [])
+-- a call that may change the network in s, by its outcome: the reply, the bench's numbers xs, and the other lists that it may write.
+-- Where the test fails it is refused with 17 first
+abbrev pub changeReply : {A : Type 0} → Bool → List ℕ → State → (State → Outcome A) → (Outcome A → List (List ℕ)) → CallOutcome
+changeReply {A} test xs s call others =
+    let o : Outcome A = cond test (call s) (outcome (refusedBy 17) s) in
+    callOutcome (o .reply .number) (withBench (o .reply .number) (o .state .bench) xs ∷ others o)
 
-abbrev pub changeReply : List ℕ → ChangeOutcome → CallOutcome
-changeReply xs o = callOutcome (o .reply) (withBench (o .reply) (o .bench) xs ∷ o .sent ∷ o .held ∷ [])
+-- a call with nothing to tell
+abbrev pub done : Call → State → Outcome (Unit {0})
+done c s = outcomeOf s c (λ n. tt)
 
-abbrev pub queueReply : List ℕ → QueueOutcome → CallOutcome
-queueReply xs o = callOutcome (o .reply) (withBench (o .reply) (o .bench) xs ∷ o .messages ∷ [])
+unfoldable pub netCutReply : List ℕ → ℕ → CallOutcome
+netCutReply xs l = changeReply (holdsBench xs) xs (state (benchIn xs) [] [] [] []) (done (change (cut l))) (λ o. [])
 
--- the new bench where there is an answer
-unfoldable pub withAnswered : List Answer → Bench → List ℕ → List ℕ
-withAnswered [] b xs = xs
-withAnswered (a ∷ rest) b xs = stored b xs
-
--- the answer's numbers go to `out`
-abbrev pub deliveredReply : List ℕ → List ℕ → DeliveryOutcome → CallOutcome
-deliveredReply xs out o =
-    callOutcome (o .reply .number)
-    (withAnswered (o .reply .value) (o .bench) xs
-    ∷ withValue answerNumbers out (o .reply .value)
-    ∷ o .sent
-    ∷ o .held
-    ∷ o .messages
-    ∷ [])
-
-abbrev pub reportReply : ReportOutcome → CallOutcome
-reportReply o = callOutcome (o .reply) (o .rows ∷ [])
+unfoldable pub netRestoreReply : List ℕ → ℕ → CallOutcome
+netRestoreReply xs l = changeReply (holdsBench xs) xs (state (benchIn xs) [] [] [] []) (done (change (restore l))) (λ o. [])
 
 unfoldable pub netFreshReply : List ℕ → List ℕ → List ℕ → List ℕ → CallOutcome
 netFreshReply xs costs sent held =
-    ifLong (holdsBench xs) (xs ∷ sent ∷ held ∷ []) (changeReply xs (freshOf (benchIn xs) costs sent held))
+    changeReply (holdsBench xs) xs (state (benchIn xs) costs sent held []) freshOf (λ o. o .state .sent ∷ o .state .held ∷ [])
 
 unfoldable pub netUpdateReply : List ℕ → List ℕ → List ℕ → List ℕ → ℕ → ℕ → CallOutcome
 netUpdateReply xs costs sent held y t =
-    ifLong (holdsBench xs) (xs ∷ sent ∷ held ∷ []) (changeReply xs (updateOf (state (benchIn xs) costs sent held []) y t))
-
-unfoldable pub netCutReply : List ℕ → ℕ → CallOutcome
-netCutReply xs l = ifLong (holdsBench xs) (xs ∷ []) (benchReply xs (cutOf (benchIn xs) l))
-
-unfoldable pub netRestoreReply : List ℕ → ℕ → CallOutcome
-netRestoreReply xs l = ifLong (holdsBench xs) (xs ∷ []) (benchReply xs (restoreOf (benchIn xs) l))
+    changeReply (holdsBench xs) xs (state (benchIn xs) costs sent held []) (done (change (update y t)))
+    (λ o. o .state .sent ∷ o .state .held ∷ [])
 
 unfoldable pub netSendReply : List ℕ → List ℕ → ℕ → ℕ → CallOutcome
-netSendReply xs messages y l = ifLong (holdsBench xs) (xs ∷ messages ∷ []) (queueReply xs (sendOf (benchIn xs) messages y l))
+netSendReply xs messages y l =
+    changeReply (holdsBench xs) xs (state (benchIn xs) [] [] [] messages) (done (send y l)) (λ o. o .state .messages ∷ [])
 
 unfoldable pub netLoseReply : List ℕ → List ℕ → ℕ → CallOutcome
-netLoseReply xs messages p = ifLong (holdsBench xs) (xs ∷ messages ∷ []) (queueReply xs (loseOf (benchIn xs) messages p))
+netLoseReply xs messages p =
+    changeReply (holdsBench xs) xs (state (benchIn xs) [] [] [] messages) (done (lose p)) (λ o. o .state .messages ∷ [])
 
--- deliver and repeat, by what each makes of a state
-abbrev pub netDeliveryReply : (State → ℕ → DeliveryOutcome) → State → List ℕ → List ℕ → ℕ → CallOutcome
-netDeliveryReply call s xs out p =
-    ifLong (holdsBench xs && leb 3 (length out)) (xs ∷ out ∷ s .sent ∷ s .held ∷ s .messages ∷ []) (deliveredReply xs out (call s p))
+-- deliver and repeat, at place p: the answer's numbers go to `out`
+abbrev pub deliveryReply : Call → ℕ → List ℕ → State → List ℕ → CallOutcome
+deliveryReply c p xs s out =
+    changeReply (holdsBench xs && leb 3 (length out)) xs s (λ s. outcomeOf s c (λ n. answerAt n p))
+    (λ o. withValue answerNumbers out (o .reply .value) ∷ o .state .sent ∷ o .state .held ∷ o .state .messages ∷ [])
 
 unfoldable pub netDeliverReply : List ℕ → List ℕ → List ℕ → List ℕ → List ℕ → List ℕ → ℕ → CallOutcome
-netDeliverReply xs costs sent held messages out p =
-    netDeliveryReply deliverOf (state (benchIn xs) costs sent held messages) xs out p
+netDeliverReply xs costs sent held messages out p = deliveryReply (deliver p) p xs (state (benchIn xs) costs sent held messages) out
 
 unfoldable pub netRepeatReply : List ℕ → List ℕ → List ℕ → List ℕ → List ℕ → List ℕ → ℕ → CallOutcome
-netRepeatReply xs costs sent held messages out p =
-    netDeliveryReply repeatOf (state (benchIn xs) costs sent held messages) xs out p
+netRepeatReply xs costs sent held messages out p = deliveryReply (repeat p) p xs (state (benchIn xs) costs sent held messages) out
 
 unfoldable pub netPortReply : List ℕ → List ℕ → List ℕ → List ℕ → ℕ → ℕ → List ℕ → CallOutcome
 netPortReply xs costs sent held y d out =
     ifLong (holdsBench xs && leb 1 (length out)) (out ∷ [])
-    (valueReply portNumbers out (portOf (state (benchIn xs) costs sent held []) y d))
-
-unfoldable pub netReportReply : List ℕ → List ℕ → List ℕ → List ℕ → ℕ → List ℕ → CallOutcome
-netReportReply xs costs sent held d rows =
-    ifLong (holdsBench xs) (rows ∷ []) (reportReply (reportOf (state (benchIn xs) costs sent held []) d rows))
+    (valueReply portNumbers out (outcomeOf (state (benchIn xs) costs sent held []) (port y d) (λ n. forwardingPort n y d) .reply))
 
 unfoldable pub netPathReply : List ℕ → List ℕ → List ℕ → List ℕ → ℕ → ℕ → List ℕ → CallOutcome
 netPathReply xs costs sent held y d out =
     ifLong (holdsBench xs && leb 3 (length out)) (out ∷ [])
-    (valueReply pathNumbers out (pathOf (state (benchIn xs) costs sent held []) y d))
+    (valueReply pathNumbers out (outcomeOf (state (benchIn xs) costs sent held []) (path y d) (λ n. paths.path n y d) .reply))
+
+unfoldable pub netReportReply : List ℕ → List ℕ → List ℕ → List ℕ → ℕ → List ℕ → CallOutcome
+netReportReply xs costs sent held d rows =
+    let o : ReportOutcome = reportOf (state (benchIn xs) costs sent held []) d rows in
+    ifLong (holdsBench xs) (rows ∷ []) (callOutcome (o .reply .number) (o .rows ∷ []))

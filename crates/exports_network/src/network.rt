@@ -14,14 +14,14 @@ ghost use mathlib.Core.Path.{_≡_};
 ghost use mathlib.Core.List.{[], _∷_};
 ghost use Prim.Native.Nat.{_≤_};
 ghost use lib.ListN.{length};
-ghost use Rattle.bench.specs.Changes.{number};
-ghost use Rattle.bench.specs.Deliveries.{reactionResponse};
+ghost use Rattle.bench.specs.Contracts.{doneResponse, reactionResponse};
+ghost use Rattle.bench.specs.declared.Reaction as replies;
 ghost use Rattle.agreement.specs.Record.{answerNumbers};
 ghost use Rattle.encoding.specs.Replies.{callOutcome, withValue};
-ghost use Rattle.exports_network.specs.Network.{withBench, withAnswered, netFreshReply, netUpdateReply, netCutReply, netRestoreReply, netSendReply, netLoseReply, netDeliverReply, netRepeatReply, netPortReply, netReportReply, netPathReply};
+ghost use Rattle.exports_network.specs.Network.{withBench, netFreshReply, netUpdateReply, netCutReply, netRestoreReply, netSendReply, netLoseReply, netDeliverReply, netRepeatReply, netPortReply, netReportReply, netPathReply};
 
 fn number_of(reply: Reply) -> u8
-    ensures { λ r. ⌜ r ≡ number reply ⌝ }
+    ensures { λ r. ⌜ r ≡ doneResponse reply .number ⌝ }
 {
     match reply {
         Reply::Refused(by) => by,
@@ -32,7 +32,7 @@ fn number_of(reply: Reply) -> u8
 // The new bench goes to `numbers` where the call was not refused.
 pub(crate) fn store_change(changed: Changed, numbers: &mut [u32]) -> u8
     requires { ⌜ 388 ≤ length (now numbers) ⌝ }
-    ensures { λ r. ⌜ (r ≡ number (changed .reply)) × (now (numbers .exit) ≡ withBench (number (changed .reply)) (changed .bench) (now (numbers .entry))) ⌝ }
+    ensures { λ r. ⌜ (r ≡ doneResponse (changed .reply) .number) × (now (numbers .exit) ≡ withBench (doneResponse (changed .reply) .number) (changed .bench) (now (numbers .entry))) ⌝ }
 {
     let reply = changed.reply;
     let by = number_of(reply);
@@ -42,10 +42,11 @@ pub(crate) fn store_change(changed: Changed, numbers: &mut [u32]) -> u8
     by
 }
 
-// The answer goes to `out` too.
+// The answer goes to `out` too. A delivery that is refused has a number other than 0.
 pub(crate) fn store_delivery(delivery: DeliveryResult, numbers: &mut [u32], out: &mut [u32]) -> u8
     requires { ⌜ (388 ≤ length (now numbers)) × (3 ≤ length (now out)) ⌝ }
-    ensures { λ r. ⌜ (r ≡ reactionResponse (delivery .reply) .number) × (now (numbers .exit) ≡ withAnswered (reactionResponse (delivery .reply) .value) (delivery .bench) (now (numbers .entry))) × (now (out .exit) ≡ withValue answerNumbers (now (out .entry)) (reactionResponse (delivery .reply) .value)) ⌝ }
+    requires { ⌜ (delivery .reply ≡ replies.Reaction.Refused 0 → ⊥) ⌝ }
+    ensures { λ r. ⌜ (r ≡ reactionResponse (delivery .reply) .number) × (now (numbers .exit) ≡ withBench (reactionResponse (delivery .reply) .number) (delivery .bench) (now (numbers .entry))) × (now (out .exit) ≡ withValue answerNumbers (now (out .entry)) (reactionResponse (delivery .reply) .value)) ⌝ }
 {
     let reply = delivery.reply;
     match reply {

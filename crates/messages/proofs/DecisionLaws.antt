@@ -3,18 +3,20 @@
 use mathlib.Core.Path.{_≡_, sym, _∙_, ap, subst}
 use Prim.Native.Nat.{ℕ, _+_, _-_, _*_, _≤_, _<_, min}
 use native.Mathlib.Omega.{arith}
-use mathlib.Core.List.{List, _++_, append-assoc}
+use mathlib.Core.List.{List, [], _++_, append-assoc}
 use lib.ListN.{length, take, drop, length-take}
 use lib.Seq.{sets, length-sets, length-take-le, sets-eq, take-at, drop-at, take-append-seam}
 use Rattle.agreement.specs.Call.{Response}
 use Rattle.agreement.specs.declared.Answer.{Answer}
+use Rattle.protocol.specs.Net.{Network}
+use Rattle.protocol.specs.Calls.{Call, send, lose, deliver, answerAt}
+use Rattle.bench.specs.Contracts.{leftBy, Outcome, outcome, outcomeOf}
 use Rattle.bench.specs.State.{State, state}
-use Rattle.bench.specs.Queue.{QueueOutcome, queueOutcome, sendOf, loseOf}
-use Rattle.bench.specs.Deliveries.{DeliveryOutcome, deliveryOutcome, deliverOf, repeatOf}
 use Rattle.bench.specs.Batches.{batchOutcome, batchOf}
 use Rattle.bench.specs.declared.Bench.{Bench}
 use Rattle.bench.specs.declared.Disposition.{Disposition}
 use Rattle.bench.specs.declared.Event.{Event}
+use Rattle.messages.proofs.Told.{Queued, Delivered, Repeated}
 use Rattle.messages.specs.Steps.{took, shifted}
 use Rattle.messages.proofs.Stores.{part-of-front}
 use Rattle.bench.proofs.QueueAnswers.{Put, Taken, send-left, send-put, lose-left, lose-taken, deliver-left, deliver-taken}
@@ -42,55 +44,69 @@ taken-within n ns b p k after t =
     let cut = length-take (5 * min n 64) ns in
     (omega (arith, t .listed, t .fewer), (omega (arith, cut, t .few, t .long, t .fewer), omega (arith, t .few, t .fewer)))
 
-module _ (n r : ℕ) (ns : List ℕ) (e : r ≡ min n 64) (b : Bench) (p k : ℕ) (b′ : Bench) (after : List ℕ) (g : queueOutcome k b′ after ≡ loseOf b (take (5 * r) ns) p) where
-  lost : queueOutcome k b′ after ≡ loseOf b (took n ns) p
-  lost = subst (λ (i : ℕ). queueOutcome k b′ after ≡ loseOf b (take (5 * i) ns) p) e g
+-- what the contract of a call says of the count of messages and of their numbers
+pub record Left (s : State) (c : Call) (b : Bench) (after : List ℕ) : Type 0 where
+  pub count : b .messages ≡ leftBy s c .bench .messages
+  pub messages : after ≡ leftBy s c .messages
 
-  pub lose-decided : b′ .messages < b .messages → (queueOutcome k b′ (shifted p (b′ .messages) (took n ns)) ≡ loseOf b (took n ns) p) × Within n p (b′ .messages)
-  lose-decided fewer = (ap (λ (l : List ℕ). queueOutcome k b′ l) (sym (t .messages)) ∙ lost, taken-within n ns b p (b′ .messages) after t)
+left-of :
+    {A : Type 0} (s : State) (c : Call) (value : Network → A) (reply : Response A) (b : Bench) (costs sent held after : List ℕ) →
+    outcome reply (state b costs sent held after) ≡ outcomeOf s c value → Left s c b after
+unfolding outcomeOf
+left-of {A} s c value reply b costs sent held after g =
+    record { count = ap (λ (o : Outcome A). o .state .bench .messages) g; messages = ap (λ (o : Outcome A). o .state .messages) g }
+
+module _ (n r : ℕ) (ns : List ℕ) (e : r ≡ min n 64) (b : Bench) (p : ℕ) (k : Response (Unit {0})) (b′ : Bench) (after : List ℕ) (g : Queued (lose p) b (take (5 * r) ns) k b′ after) where
+  lost : Queued (lose p) b (took n ns) k b′ after
+  lost = subst (λ (i : ℕ). Queued (lose p) b (take (5 * i) ns) k b′ after) e g
+
+  -- the state before, with nothing beside
+  abbrev before : State
+  before = state b [] [] [] (took n ns)
+
+  left : Left before (lose p) b′ after
+  left = left-of before (lose p) (λ n. tt) k b′ [] [] [] after (lost [] [] [])
+
+  pub lose-decided : b′ .messages < b .messages → Queued (lose p) b (took n ns) k b′ (shifted p (b′ .messages) (took n ns)) × Within n p (b′ .messages)
+  lose-decided fewer = (subst (Queued (lose p) b (took n ns) k b′) (t .messages) lost, taken-within n ns b p (b′ .messages) after t)
     where
       t : Taken b (took n ns) p (b′ .messages) after
       t =
-          subst (λ (f : QueueOutcome). Taken b (took n ns) p (f .bench .messages) (f .messages)) (sym lost)
-          (lose-taken b (took n ns) p (subst (λ (f : QueueOutcome). f .bench .messages < b .messages) lost fewer))
+          rw (left .count, left .messages) (lose-taken before p (rw (left .count) at fewer))
 
-  pub lose-refused : b .messages ≤ b′ .messages → (queueOutcome k b′ (took n ns) ≡ loseOf b (took n ns) p) × Within n 0 0
-  lose-refused same = (ap (λ (l : List ℕ). queueOutcome k b′ l) (sym kept) ∙ lost, none-within n)
+  pub lose-refused : b .messages ≤ b′ .messages → Queued (lose p) b (took n ns) k b′ (took n ns) × Within n 0 0
+  lose-refused same = (subst (Queued (lose p) b (took n ns) k b′) kept lost, none-within n)
     where
       kept : after ≡ took n ns
-      kept = ap (λ (f : QueueOutcome). f .messages) lost ∙ lose-left b (took n ns) p (subst (λ (f : QueueOutcome). b .messages ≤ f .bench .messages) lost same)
+      kept = left .messages ∙ lose-left before p (rw (left .count) at same)
 
 module _ (n r : ℕ) (ns : List ℕ) (e : r ≡ min n 64) (b : Bench) (costs sent held : List ℕ) (p : ℕ) where
   -- what is handed over, with these numbers
   abbrev with : List ℕ → State
   with m = state b costs sent held m
 
-  module _ (k : Response Answer) (b′ : Bench) (ss hs after : List ℕ) (g : deliveryOutcome k b′ ss hs after ≡ deliverOf (with (take (5 * r) ns)) p) where
-    went : deliveryOutcome k b′ ss hs after ≡ deliverOf (with (took n ns)) p
-    went = subst (λ (i : ℕ). deliveryOutcome k b′ ss hs after ≡ deliverOf (with (take (5 * i) ns)) p) e g
+  module _ (k : Response Answer) (b′ : Bench) (ss hs after : List ℕ) (g : Delivered (with (take (5 * r) ns)) p k b′ ss hs after) where
+    went : Delivered (with (took n ns)) p k b′ ss hs after
+    went = subst (λ (i : ℕ). Delivered (with (take (5 * i) ns)) p k b′ ss hs after) e g
 
-    pub deliver-decided :
-        b′ .messages < b .messages →
-        (deliveryOutcome k b′ ss hs (shifted p (b′ .messages) (took n ns)) ≡ deliverOf (with (took n ns)) p) × Within n p (b′ .messages)
-    deliver-decided fewer = (ap (λ (l : List ℕ). deliveryOutcome k b′ ss hs l) (sym (t .messages)) ∙ went, taken-within n ns b p (b′ .messages) after t)
+    left-there : Left (with (took n ns)) (deliver p) b′ after
+    left-there = left-of (with (took n ns)) (deliver p) (λ n. answerAt n p) k b′ costs ss hs after went
+
+    pub deliver-decided : b′ .messages < b .messages → Delivered (with (took n ns)) p k b′ ss hs (shifted p (b′ .messages) (took n ns)) × Within n p (b′ .messages)
+    deliver-decided fewer = (subst (Delivered (with (took n ns)) p k b′ ss hs) (t .messages) went, taken-within n ns b p (b′ .messages) after t)
       where
         t : Taken b (took n ns) p (b′ .messages) after
-        t =
-            subst (λ (f : DeliveryOutcome). Taken b (took n ns) p (f .bench .messages) (f .messages)) (sym went)
-            (deliver-taken (with (took n ns)) p (subst (λ (f : DeliveryOutcome). f .bench .messages < b .messages) went fewer))
+        t = rw (left-there .count, left-there .messages) (deliver-taken (with (took n ns)) p (rw (left-there .count) at fewer))
 
-    pub deliver-refused : b .messages ≤ b′ .messages → (deliveryOutcome k b′ ss hs (took n ns) ≡ deliverOf (with (took n ns)) p) × Within n 0 0
-    deliver-refused same = (ap (λ (l : List ℕ). deliveryOutcome k b′ ss hs l) (sym kept) ∙ went, none-within n)
+    pub deliver-refused : b .messages ≤ b′ .messages → Delivered (with (took n ns)) p k b′ ss hs (took n ns) × Within n 0 0
+    deliver-refused same = (subst (Delivered (with (took n ns)) p k b′ ss hs) kept went, none-within n)
       where
         kept : after ≡ took n ns
-        kept =
-            ap (λ (f : DeliveryOutcome). f .messages) went
-            ∙ deliver-left (with (took n ns)) p (subst (λ (f : DeliveryOutcome). b .messages ≤ f .bench .messages) went same)
+        kept = left-there .messages ∙ deliver-left (with (took n ns)) p (rw (left-there .count) at same)
 
   pub repeat-decided :
-      (k : Response Answer) (b′ : Bench) (ss hs : List ℕ) → deliveryOutcome k b′ ss hs (take (5 * r) ns) ≡ repeatOf (with (take (5 * r) ns)) p →
-      deliveryOutcome k b′ ss hs (took n ns) ≡ repeatOf (with (took n ns)) p
-  repeat-decided k b′ ss hs g = subst (λ (i : ℕ). deliveryOutcome k b′ ss hs (take (5 * i) ns) ≡ repeatOf (with (take (5 * i) ns)) p) e g
+      (k : Response Answer) (b′ : Bench) (ss hs : List ℕ) → Repeated (with (take (5 * r) ns)) p k b′ ss hs → Repeated (with (took n ns)) p k b′ ss hs
+  repeat-decided k b′ ss hs g = subst (λ (i : ℕ). Repeated (with (take (5 * i) ns)) p k b′ ss hs) e g
 
 -- ---- one appended
 
@@ -102,30 +118,35 @@ sets-again vs l i fits =
     ∙ take-append-seam vs (drop (i + length vs) l)
 
 -- what `decide_send` ensures: ns before, and `exit` after
-abbrev pub Sends : ℕ → List ℕ → List ℕ → Bench → ℕ → ℕ → ℕ → Bench → ℕ → ℕ → Type 0
+abbrev pub Sends : ℕ → List ℕ → List ℕ → Bench → ℕ → ℕ → Response (Unit {0}) → Bench → ℕ → ℕ → Type 0
 Sends n ns exit b y l k b′ i j =
-    (queueOutcome k b′ (took n exit) ≡ sendOf b (took n ns) y l)
+    Queued (send y l) b (took n ns) k b′ (took n exit)
     × ((i ≤ j) × ((j ≤ min n 64) × (took n exit ≡ sets (took n ns) (5 * i) (take (5 * (j - i)) (drop (5 * i) exit)))))
 
-module _ (n r : ℕ) (ns : List ℕ) (e : r ≡ min n 64) (long : length ns ≡ 320) (b : Bench) (y l k : ℕ) (b′ : Bench) (after : List ℕ)
-    (g : queueOutcome k b′ after ≡ sendOf b (take (5 * r) ns) y l) where
+module _ (n r : ℕ) (ns : List ℕ) (e : r ≡ min n 64) (long : length ns ≡ 320) (b : Bench) (y l : ℕ) (k : Response (Unit {0})) (b′ : Bench) (after : List ℕ)
+    (g : Queued (send y l) b (take (5 * r) ns) k b′ after) where
   abbrev exit : List ℕ
   exit = after ++ drop (5 * r) ns
 
-  answered : queueOutcome k b′ after ≡ sendOf b (took n ns) y l
-  answered = subst (λ (i : ℕ). queueOutcome k b′ after ≡ sendOf b (take (5 * i) ns) y l) e g
+  answered : Queued (send y l) b (took n ns) k b′ after
+  answered = subst (λ (i : ℕ). Queued (send y l) b (take (5 * i) ns) k b′ after) e g
+
+  abbrev prior : State
+  prior = state b [] [] [] (took n ns)
+
+  left-sent : Left prior (send y l) b′ after
+  left-sent = left-of prior (send y l) (λ n. tt) k b′ [] [] [] after (answered [] [] [])
 
   front : length after ≡ length (took n ns) → took n exit ≡ after
   front same = lent-front n r ns after e long (same ∙ sym (ap (λ (i : ℕ). length (take (5 * i) ns)) e))
 
   pub send-decided : b .messages < b′ .messages → Sends n ns exit b y l k b′ (b .messages) (b′ .messages)
   send-decided more =
-      (ap (λ (m : List ℕ). queueOutcome k b′ m) all ∙ answered, (omega (arith, more), (omega (arith, t .room, t .more, t .long, cut), all ∙ t .messages ∙ ap (sets (took n ns) (5 * b .messages)) (sym five))))
+      (subst (Queued (send y l) b (took n ns) k b′) (sym all) answered, (omega (arith, more), (omega (arith, t .room, t .more, t .long, cut), all ∙ t .messages ∙ ap (sets (took n ns) (5 * b .messages)) (sym five))))
     where
       t : Put b (took n ns) (b′ .messages) after
       t =
-          subst (λ (f : QueueOutcome). Put b (took n ns) (f .bench .messages) (f .messages)) (sym answered)
-          (send-put b (took n ns) y l (subst (λ (f : QueueOutcome). b .messages < f .bench .messages) answered more))
+          rw (left-sent .count, left-sent .messages) (send-put prior y l (rw (left-sent .count) at more))
 
       cut : length (took n ns) ≡ min (5 * min n 64) (length ns)
       cut = length-take (5 * min n 64) ns
@@ -145,10 +166,10 @@ module _ (n r : ℕ) (ns : List ℕ) (e : r ≡ min n 64) (long : length ns ≡ 
           ∙ sets-again (t .five) (took n ns) (5 * b .messages) (omega (arith, t .room, t .many, t .long))
 
   pub send-refused : b′ .messages ≤ b .messages → Sends n ns exit b y l k b′ 0 0
-  send-refused same = (ap (λ (m : List ℕ). queueOutcome k b′ m) all ∙ answered, (omega arith, (omega arith, all ∙ kept)))
+  send-refused same = (subst (Queued (send y l) b (took n ns) k b′) (sym all) answered, (omega arith, (omega arith, all ∙ kept)))
     where
       kept : after ≡ took n ns
-      kept = ap (λ (f : QueueOutcome). f .messages) answered ∙ send-left b (took n ns) y l (subst (λ (f : QueueOutcome). f .bench .messages ≤ b .messages) answered same)
+      kept = left-sent .messages ∙ send-left prior y l (rw (left-sent .count) at same)
 
       all : took n exit ≡ after
       all = front (ap length kept)

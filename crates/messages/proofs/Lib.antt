@@ -19,3 +19,4 @@ pub mod PlainLaws
 pub mod PlainCalls
 pub mod SliceForms
 pub mod SliceWhole
+pub mod Told

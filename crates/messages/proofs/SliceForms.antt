@@ -5,9 +5,8 @@ use mathlib.Core.Path.{_≡_, refl, sym, _∙_, ap}
 use mathlib.Core.List.{List, [], _∷_, _++_}
 use lib.ListN.{length, take, drop, getD, take-append-drop}
 use Rattle.agreement.specs.Call.{Response}
-use Rattle.agreement.specs.declared.Answer.{Answer}
-use Rattle.bench.specs.Queue.{QueueOutcome, queueOutcome}
-use Rattle.bench.specs.Deliveries.{DeliveryOutcome, deliveryOutcome}
+use Rattle.bench.specs.State.{state}
+use Rattle.bench.specs.Contracts.{Outcome, outcome}
 use Rattle.bench.specs.declared.Bench.{Bench}
 use Rattle.messages.specs.declared.Message.{Message}
 use Rattle.messages.specs.Slices.{numbersIn, flight}
@@ -33,19 +32,11 @@ slice-same ms ns first rest =
     ∙ take-append-drop 64 ns
 
 -- the same call over a slice and over its numbers, each with the outcome that its contract names: reply, network and messages are the same
-pub same-queue :
-    (o : QueueOutcome) (reply said : ℕ) (b c : Bench) (ms : List Message) (numbers : List ℕ) →
-    queueOutcome reply b (flight ms) ≡ o →
-    queueOutcome said c numbers ≡ o →
-    (reply ≡ said) × (b ≡ c) × (flight ms ≡ numbers)
-same-queue o reply said b c ms numbers slice number =
-    let e = slice ∙ sym number in (ap (λ x. x .reply) e, ap (λ x. x .bench) e, ap (λ x. x .messages) e)
-
-pub same-delivered :
-    (o : DeliveryOutcome) (reply said : Response Answer) (b c : Bench) (sent held sent′ held′ : List ℕ) (ms : List Message) (numbers : List ℕ) →
-    deliveryOutcome reply b sent held (flight ms) ≡ o →
-    deliveryOutcome said c sent′ held′ numbers ≡ o →
+pub same-outcome :
+    {A : Type 0} (o : Outcome A) (reply said : Response A) (b c : Bench) (costs sent held costs′ sent′ held′ : List ℕ) (ms : List Message) (numbers : List ℕ) →
+    outcome reply (state b costs sent held (flight ms)) ≡ o →
+    outcome said (state c costs′ sent′ held′ numbers) ≡ o →
     (reply ≡ said) × (b ≡ c) × (sent ≡ sent′) × (held ≡ held′) × (flight ms ≡ numbers)
-same-delivered o reply said b c sent held sent′ held′ ms numbers slice number =
+same-outcome o reply said b c costs sent held costs′ sent′ held′ ms numbers slice number =
     let e = slice ∙ sym number in
-    (ap (λ x. x .reply) e, ap (λ x. x .bench) e, ap (λ x. x .sent) e, ap (λ x. x .held) e, ap (λ x. x .messages) e)
+    (ap (λ x. x .reply) e, ap (λ x. x .state .bench) e, ap (λ x. x .state .sent) e, ap (λ x. x .state .held) e, ap (λ x. x .state .messages) e)

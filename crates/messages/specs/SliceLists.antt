@@ -4,12 +4,13 @@ use Prim.Native.Nat.{ℕ, _≤_}
 use mathlib.Core.Path.{_≡_}
 use mathlib.Core.List.{List, [], _∷_}
 use lib.ListN.{length, drop}
-use Rattle.protocol.specs.Net.{fresh}
+use Rattle.agreement.specs.Call.{says}
+use Rattle.protocol.specs.Net.{Plan, fresh}
 use Rattle.protocol.specs.Calls.{Call, run}
-use Rattle.bench.specs.State.{State, state}
-use Rattle.bench.specs.Changes.{freshOf}
 use Rattle.protocol.specs.Demand3.{Holds}
-use Rattle.bench.specs.Whole.{Represents, Answers, planIn, freshBy, stepBy}
+use Rattle.bench.specs.State.{State, state, network}
+use Rattle.bench.specs.Contracts.{leftBy, freshOf}
+use Rattle.bench.specs.Whole.{Stands, Replies}
 use Rattle.bench.specs.declared.Bench.{Bench}
 use Rattle.messages.specs.declared.Message.{Message}
 use Rattle.messages.specs.Slices.{flight}
@@ -31,9 +32,9 @@ kept bench costs sent held messages =
 abbrev pub numbered : Kept → State
 numbered s = state (s .bench) (s .costs) (s .sent) (s .held) (flight (s .messages))
 
--- a call takes what is kept from s to t: its numbers as the bench's outcome has them, and what lies past 64 messages as it was
+-- a call takes what is kept from s to t: its numbers as the call's contract has them, and what lies past 64 messages as it was
 pub record Leads (s : Kept) (c : Call) (t : Kept) : Type 0 where
-  pub numbers : numbered t ≡ stepBy (numbered s) c
+  pub numbers : numbered t ≡ leftBy (numbered s) c
   pub rest : drop mostMessages (t .messages) ≡ drop mostMessages (s .messages)
 
 -- a call, and what holds of what it leaves
@@ -47,21 +48,17 @@ unfoldable pub Lead : Kept → List Call → Kept → Type 0
 Lead s [] t = t ≡ s
 Lead s (c ∷ cs) t = Next s c (λ u. Lead u cs t)
 
--- `fresh` over this slice was accepted: it leaves the messages alone
-pub record Starts (b : Bench) (costs sent held : List ℕ) (s : Kept) : Type 0 where
-  pub accepted : freshOf b costs sent held .reply ≡ 0
-  pub room : mostMessages ≤ length (s .messages)
-  pub numbers : numbered s ≡ freshBy b costs sent held (flight (s .messages))
+-- `fresh` of what was kept at first was accepted, and left s
+pub record Starts (first s : Kept) : Type 0 where
+  pub accepted : freshOf (numbered first) .reply ≡ says tt
+  pub room : mostMessages ≤ length (first .messages)
+  pub numbers : numbered s ≡ freshOf (numbered first) .state
 
 -- demand 3: what it says of every list of calls, and that the network it speaks of is the one that stands in what is kept
-pub record SlicesMeet (b : Bench) (costs : List ℕ) (cs : List Call) (t : Kept) : Type 0 where
-  pub holds : Holds (planIn b costs) cs
-  pub stands : Represents (numbered t) (run (fresh (planIn b costs)) cs)
-  pub answers : Answers (numbered t) (run (fresh (planIn b costs)) cs)
+pub record SlicesMeet (p : Plan) (cs : List Call) (t : Kept) : Type 0 where
+  pub holds : Holds p cs
+  pub stands : Stands (numbered t) (run (fresh p) cs)
+  pub replies : Replies (numbered t) (run (fresh p) cs)
 
 abbrev pub WholeSlices : Type 0
-WholeSlices =
-    (b : Bench) (costs sent held : List ℕ) (s t : Kept) (cs : List Call) →
-    Starts b costs sent held s →
-    Lead s cs t →
-    SlicesMeet b costs cs t
+WholeSlices = (first s t : Kept) (cs : List Call) → Starts first s → Lead s cs t → SlicesMeet (network (numbered first) .plan) cs t

@@ -9,15 +9,16 @@ use bench::Changed;
 use bench::DeliveryResult;
 ghost use mathlib.Core.Path.{_≡_};
 ghost use lib.ListN.{drop};
-ghost use Rattle.bench.specs.Changes.{number, NoZero};
+ghost use Prim.Native.Nat.{ℕ};
+ghost use mathlib.Core.List.{List};
+ghost use Rattle.protocol.specs.Calls as calls;
 ghost use Rattle.bench.specs.State.{state};
-ghost use Rattle.bench.specs.Queue.{queueOutcome, sendOf, loseOf};
-ghost use Rattle.bench.specs.Deliveries.{reactionResponse, deliveryOutcome, deliverOf, repeatOf};
+ghost use Rattle.bench.specs.Contracts.{doneResponse, reactionResponse, outcome, outcomeOf};
 ghost use Rattle.messages.specs.Slices.{flight};
 
 // Appends the message of a bridge over a link.
 pub fn send(bench: Bench, ms: &mut [Message], bridge: usize, link: usize) -> Changed
-    ensures { λ r. ⌜ (queueOutcome (number (r .reply)) (r .bench) (flight (now (ms .exit))) ≡ sendOf bench (flight (now (ms .entry))) bridge link) × NoZero (r .reply) ⌝ }
+    ensures { λ r. ⌜ ((costs sent held : List ℕ) → outcome (doneResponse (r .reply)) (state (r .bench) costs sent held (flight (now (ms .exit)))) ≡ outcomeOf (state bench costs sent held (flight (now (ms .entry)))) (calls.send bridge link) (λ n. tt)) ⌝ }
     ensures { λ _. ⌜ drop 64 (now (ms .exit)) ≡ drop 64 (now (ms .entry)) ⌝ }
 {
     let mut numbers = numbers_in(ms);
@@ -28,7 +29,7 @@ pub fn send(bench: Bench, ms: &mut [Message], bridge: usize, link: usize) -> Cha
 
 // Takes a message out; later ones move up by one.
 pub fn lose(bench: Bench, ms: &mut [Message], place: usize) -> Changed
-    ensures { λ r. ⌜ (queueOutcome (number (r .reply)) (r .bench) (flight (now (ms .exit))) ≡ loseOf bench (flight (now (ms .entry))) place) × NoZero (r .reply) ⌝ }
+    ensures { λ r. ⌜ ((costs sent held : List ℕ) → outcome (doneResponse (r .reply)) (state (r .bench) costs sent held (flight (now (ms .exit)))) ≡ outcomeOf (state bench costs sent held (flight (now (ms .entry)))) (calls.lose place) (λ n. tt)) ⌝ }
     ensures { λ _. ⌜ drop 64 (now (ms .exit)) ≡ drop 64 (now (ms .entry)) ⌝ }
 {
     let numbers = numbers_in(ms);
@@ -46,7 +47,7 @@ pub fn deliver(
     ms: &mut [Message],
     place: usize,
 ) -> DeliveryResult
-    ensures { λ r. ⌜ deliveryOutcome (reactionResponse (r .reply)) (r .bench) (now (sent .exit)) (now (held .exit)) (flight (now (ms .exit))) ≡ deliverOf (state bench (now (costs .entry)) (now (sent .entry)) (now (held .entry)) (flight (now (ms .entry)))) place ⌝ }
+    ensures { λ r. ⌜ outcome (reactionResponse (r .reply)) (state (r .bench) (now (costs .entry)) (now (sent .exit)) (now (held .exit)) (flight (now (ms .exit)))) ≡ outcomeOf (state bench (now (costs .entry)) (now (sent .entry)) (now (held .entry)) (flight (now (ms .entry)))) (calls.deliver place) (λ n. calls.answerAt n place) ⌝ }
     ensures { λ _. ⌜ drop 64 (now (ms .exit)) ≡ drop 64 (now (ms .entry)) ⌝ }
 {
     let numbers = numbers_in(ms);
@@ -64,7 +65,7 @@ pub fn repeat(
     ms: &[Message],
     place: usize,
 ) -> DeliveryResult
-    ensures { λ r. ⌜ deliveryOutcome (reactionResponse (r .reply)) (r .bench) (now (sent .exit)) (now (held .exit)) (flight (now (ms .entry))) ≡ repeatOf (state bench (now (costs .entry)) (now (sent .entry)) (now (held .entry)) (flight (now (ms .entry)))) place ⌝ }
+    ensures { λ r. ⌜ outcome (reactionResponse (r .reply)) (state (r .bench) (now (costs .entry)) (now (sent .exit)) (now (held .exit)) (flight (now (ms .entry)))) ≡ outcomeOf (state bench (now (costs .entry)) (now (sent .entry)) (now (held .entry)) (flight (now (ms .entry)))) (calls.repeat place) (λ n. calls.answerAt n place) ⌝ }
 {
     let numbers = numbers_in(ms);
     decisions::decide_repeat(bench, costs, sent, held, numbers, ms.len(), place)

@@ -9,10 +9,11 @@ ghost use mathlib.Core.Path.{_≡_};
 ghost use Prim.Native.Nat.{_*_, _≤_, min, _-_};
 ghost use lib.ListN.{length, take, drop};
 ghost use lib.Seq.{sets};
-ghost use Rattle.bench.specs.Changes.{number, NoZero};
+ghost use Prim.Native.Nat.{ℕ};
+ghost use mathlib.Core.List.{List};
+ghost use Rattle.protocol.specs.Calls as calls;
 ghost use Rattle.bench.specs.State.{state};
-ghost use Rattle.bench.specs.Queue.{queueOutcome, sendOf, loseOf};
-ghost use Rattle.bench.specs.Deliveries.{reactionResponse, deliveryOutcome, deliverOf, repeatOf};
+ghost use Rattle.bench.specs.Contracts.{doneResponse, reactionResponse, outcome, outcomeOf};
 ghost use Rattle.messages.specs.Steps.{took, shifted};
 
 // The messages that a call reads of a slice of this length.
@@ -48,7 +49,7 @@ pub(crate) fn decide_send(
     link: usize,
 ) -> Decision
     requires { ⌜ length (now numbers) ≡ 320 ⌝ }
-    ensures { λ r. ⌜ ((queueOutcome (number (r .changed .reply)) (r .changed .bench) (took len (now (numbers .exit))) ≡ sendOf bench (took len (now (numbers .entry))) bridge link) × NoZero (r .changed .reply)) × ((r .from ≤ r .past) × ((r .past ≤ min len 64) × (took len (now (numbers .exit)) ≡ sets (took len (now (numbers .entry))) (5 * r .from) (take (5 * (r .past - r .from)) (drop (5 * r .from) (now (numbers .exit))))))) ⌝ }
+    ensures { λ r. ⌜ (((costs sent held : List ℕ) → outcome (doneResponse (r .changed .reply)) (state (r .changed .bench) costs sent held (took len (now (numbers .exit)))) ≡ outcomeOf (state bench costs sent held (took len (now (numbers .entry)))) (calls.send bridge link) (λ n. tt))) × ((r .from ≤ r .past) × ((r .past ≤ min len 64) × (took len (now (numbers .exit)) ≡ sets (took len (now (numbers .entry))) (5 * r .from) (take (5 * (r .past - r .from)) (drop (5 * r .from) (now (numbers .exit))))))) ⌝ }
 {
     let before = bench.messages;
     let changed = bench::messages::send(bench, &mut numbers[..MESSAGE * room(len)], bridge, link);
@@ -74,7 +75,7 @@ pub(crate) fn decide_lose(
     len: usize,
     place: usize,
 ) -> Decision
-    ensures { λ r. ⌜ ((queueOutcome (number (r .changed .reply)) (r .changed .bench) (shifted (r .from) (r .past) (took len numbers)) ≡ loseOf bench (took len numbers) place) × NoZero (r .changed .reply)) × ((r .from ≤ r .past) × ((r .past ≤ len - 1) × (r .past ≤ 63))) ⌝ }
+    ensures { λ r. ⌜ (((costs sent held : List ℕ) → outcome (doneResponse (r .changed .reply)) (state (r .changed .bench) costs sent held (shifted (r .from) (r .past) (took len numbers))) ≡ outcomeOf (state bench costs sent held (took len numbers)) (calls.lose place) (λ n. tt))) × ((r .from ≤ r .past) × ((r .past ≤ len - 1) × (r .past ≤ 63))) ⌝ }
 {
     let before = bench.messages;
     let mut left = numbers;
@@ -103,7 +104,7 @@ pub(crate) fn decide_deliver(
     len: usize,
     place: usize,
 ) -> Decided
-    ensures { λ r. ⌜ (deliveryOutcome (reactionResponse (r .delivery .reply)) (r .delivery .bench) (now (sent .exit)) (now (held .exit)) (shifted (r .from) (r .past) (took len numbers)) ≡ deliverOf (state bench (now (costs .entry)) (now (sent .entry)) (now (held .entry)) (took len numbers)) place) × ((r .from ≤ r .past) × ((r .past ≤ len - 1) × (r .past ≤ 63))) ⌝ }
+    ensures { λ r. ⌜ (outcome (reactionResponse (r .delivery .reply)) (state (r .delivery .bench) (now (costs .entry)) (now (sent .exit)) (now (held .exit)) (shifted (r .from) (r .past) (took len numbers))) ≡ outcomeOf (state bench (now (costs .entry)) (now (sent .entry)) (now (held .entry)) (took len numbers)) (calls.deliver place) (λ n. calls.answerAt n place)) × ((r .from ≤ r .past) × ((r .past ≤ len - 1) × (r .past ≤ 63))) ⌝ }
 {
     let before = bench.messages;
     let mut left = numbers;
@@ -139,7 +140,7 @@ pub(crate) fn decide_repeat(
     len: usize,
     place: usize,
 ) -> DeliveryResult
-    ensures { λ r. ⌜ deliveryOutcome (reactionResponse (r .reply)) (r .bench) (now (sent .exit)) (now (held .exit)) (took len numbers) ≡ repeatOf (state bench (now (costs .entry)) (now (sent .entry)) (now (held .entry)) (took len numbers)) place ⌝ }
+    ensures { λ r. ⌜ outcome (reactionResponse (r .reply)) (state (r .bench) (now (costs .entry)) (now (sent .exit)) (now (held .exit)) (took len numbers)) ≡ outcomeOf (state bench (now (costs .entry)) (now (sent .entry)) (now (held .entry)) (took len numbers)) (calls.repeat place) (λ n. calls.answerAt n place) ⌝ }
 {
     let all = numbers;
     bench::messages::repeat(bench, costs, sent, held, &all[..MESSAGE * room(len)], place)

@@ -10,10 +10,11 @@ use bench::DeliveryResult;
 use bench::sizes::MESSAGES;
 use bench::sizes::MOST_MESSAGES;
 ghost use mathlib.Core.Path.{_≡_};
-ghost use Rattle.bench.specs.Changes.{number, NoZero};
+ghost use Prim.Native.Nat.{ℕ};
+ghost use mathlib.Core.List.{List};
+ghost use Rattle.protocol.specs.Calls as calls;
 ghost use Rattle.bench.specs.State.{state};
-ghost use Rattle.bench.specs.Queue.{queueOutcome, sendOf, loseOf};
-ghost use Rattle.bench.specs.Deliveries.{reactionResponse, deliveryOutcome, deliverOf, repeatOf};
+ghost use Rattle.bench.specs.Contracts.{doneResponse, reactionResponse, outcome, outcomeOf};
 ghost use Rattle.messages.specs.Slices.{numbersIn};
 
 pub struct ChangedNumbers {
@@ -60,7 +61,7 @@ pub(crate) fn numbers_from(ms: [Message; MOST_MESSAGES]) -> [u32; MESSAGES]
 
 // Appends the message of a bridge over a link.
 pub fn send(bench: Bench, numbers: [u32; MESSAGES], bridge: usize, link: usize) -> ChangedNumbers
-    ensures { λ r. ⌜ (queueOutcome (number (r .changed .reply)) (r .changed .bench) (r .numbers) ≡ sendOf bench numbers bridge link) × NoZero (r .changed .reply) ⌝ }
+    ensures { λ r. ⌜ ((costs sent held : List ℕ) → outcome (doneResponse (r .changed .reply)) (state (r .changed .bench) costs sent held (r .numbers)) ≡ outcomeOf (state bench costs sent held numbers) (calls.send bridge link) (λ n. tt)) ⌝ }
 {
     let mut ms = messages_in(numbers);
     let changed = calls::send(bench, &mut ms, bridge, link);
@@ -72,7 +73,7 @@ pub fn send(bench: Bench, numbers: [u32; MESSAGES], bridge: usize, link: usize) 
 
 // Takes a message out; later ones move up by one.
 pub fn lose(bench: Bench, numbers: [u32; MESSAGES], place: usize) -> ChangedNumbers
-    ensures { λ r. ⌜ (queueOutcome (number (r .changed .reply)) (r .changed .bench) (r .numbers) ≡ loseOf bench numbers place) × NoZero (r .changed .reply) ⌝ }
+    ensures { λ r. ⌜ ((costs sent held : List ℕ) → outcome (doneResponse (r .changed .reply)) (state (r .changed .bench) costs sent held (r .numbers)) ≡ outcomeOf (state bench costs sent held numbers) (calls.lose place) (λ n. tt)) ⌝ }
 {
     let mut ms = messages_in(numbers);
     let changed = calls::lose(bench, &mut ms, place);
@@ -91,7 +92,7 @@ pub fn deliver(
     numbers: [u32; MESSAGES],
     place: usize,
 ) -> DeliveredNumbers
-    ensures { λ r. ⌜ deliveryOutcome (reactionResponse (r .delivery .reply)) (r .delivery .bench) (now (sent .exit)) (now (held .exit)) (r .numbers) ≡ deliverOf (state bench (now (costs .entry)) (now (sent .entry)) (now (held .entry)) numbers) place ⌝ }
+    ensures { λ r. ⌜ outcome (reactionResponse (r .delivery .reply)) (state (r .delivery .bench) (now (costs .entry)) (now (sent .exit)) (now (held .exit)) (r .numbers)) ≡ outcomeOf (state bench (now (costs .entry)) (now (sent .entry)) (now (held .entry)) numbers) (calls.deliver place) (λ n. calls.answerAt n place) ⌝ }
 {
     let mut ms = messages_in(numbers);
     let delivery = calls::deliver(bench, costs, sent, held, &mut ms, place);
@@ -110,7 +111,7 @@ pub fn repeat(
     numbers: [u32; MESSAGES],
     place: usize,
 ) -> DeliveryResult
-    ensures { λ r. ⌜ deliveryOutcome (reactionResponse (r .reply)) (r .bench) (now (sent .exit)) (now (held .exit)) numbers ≡ repeatOf (state bench (now (costs .entry)) (now (sent .entry)) (now (held .entry)) numbers) place ⌝ }
+    ensures { λ r. ⌜ outcome (reactionResponse (r .reply)) (state (r .bench) (now (costs .entry)) (now (sent .exit)) (now (held .exit)) numbers) ≡ outcomeOf (state bench (now (costs .entry)) (now (sent .entry)) (now (held .entry)) numbers) (calls.repeat place) (λ n. calls.answerAt n place) ⌝ }
 {
     let ms = messages_in(numbers);
     calls::repeat(bench, costs, sent, held, &ms, place)

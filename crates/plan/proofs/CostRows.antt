@@ -1,17 +1,23 @@
 -- The row that a view's costs are stored in, for the layers above: as long as before, with the costs first. Assumes nothing.
-use Prim.Native.Nat.{ℕ, zero, suc, _≤_, _<_}
+use Prim.Native.Nat.{ℕ, zero, suc, _+_, _*_, _≤_, _<_}
 use native.Mathlib.Nat.{not-suc-le-zero}
 use native.Mathlib.Omega.{arith}
-use mathlib.Core.Path.{_≡_, refl, _∙_}
-use mathlib.Core.Bool.{Bool, true, false, cond, _&&_}
+use mathlib.Core.Path.{_≡_, refl, sym, ap, _∙_}
+use mathlib.Core.Bool.{Bool, true, false, cond, not}
 use mathlib.Core.List.{List}
-use borrow.Author.Tests.{le-leb, eqb-true, eqb-false}
+use borrow.Author.Tests.{ltb-false, le-ltb, le-leb, eqb-true, eqb-false}
 use lib.ListN.{length, getD, length-set}
 use lib.Seq.{getD-set-same, getD-set-other}
-use lib.Dec.{eqb, leb}
-use Rattle.plan.specs.Sizes.{mostLinks}
+use lib.Dec.{eqb, leb, ltb}
+use Rattle.distances.specs.View.{maxCost}
+use Rattle.distances.specs.Refusal.{check, refusal}
+use Rattle.distances.proofs.Ranges.{true-allBelow}
+use Rattle.distances.proofs.Refusals.{First.none, First.next, first, passed}
+use Rattle.plan.specs.Sizes.{mostLinks, headerBytes, costBytes}
 use Rattle.plan.specs.Fields.{costIn}
-use Rattle.plan.specs.Reading.{withCosts, stored, costsReply}
+use Rattle.plan.specs.Reading.{withCosts, costsChecks, stored, costsReply}
+use Rattle.plan.specs.declared.Storing.{Storing}
+use Rattle.plan.proofs.Laws.{fits-below}
 
 module _ (rest : List ℕ) where
   -- a row with the costs of the first k links
@@ -26,18 +32,45 @@ module _ (rest : List ℕ) where
   costs-at (suc k) row l h g = go (eqb l k) refl (costs-at k row l)
     where
       go : (q : Bool) → eqb l k ≡ q → (l < k → k ≤ length row → getD (withCosts rest k row) l 0 ≡ costIn rest l) → getD (withCosts rest (suc k) row) l 0 ≡ costIn rest l
-      go true q next = rw (eqb-true l k q) (getD-set-same (withCosts rest k row) k (costIn rest k) 0 (omega (arith, costs-length k row)))
-      go false q next = getD-set-other (withCosts rest k row) k l (costIn rest k) 0 (eqb-false l k q) ∙ next (omega (arith, eqb-false l k q)) (omega arith)
+      go true q low = rw (eqb-true l k q) (getD-set-same (withCosts rest k row) k (costIn rest k) 0 (omega (arith, costs-length k row)))
+      go false q low = getD-set-other (withCosts rest k row) k l (costIn rest k) 0 (eqb-false l k q) ∙ low (omega (arith, eqb-false l k q)) (omega arith)
+
+  -- where no check applies
+  pub few-links : (links room : ℕ) → refusal (costsChecks rest links room) ≡ 0 → (links ≤ mostLinks) × (mostLinks ≤ room)
+  unfolding costsChecks
+  few-links links room e =
+      let one = passed (check (ltb mostLinks links) 17) _ (omega arith) e in
+      let two = passed (check (ltb room mostLinks) 17) _ (omega arith) (one .1) in
+      (ltb-false mostLinks links (one .0), ltb-false room mostLinks (two .0))
 
   module _ (links : ℕ) (row : List ℕ) where
     pub row-length : length (costsReply rest links row .row) ≡ length row
     unfolding costsReply
-    row-length = go (leb links mostLinks && leb mostLinks (length row))
+    row-length = go (refusal (costsChecks rest links (length row)))
       where
-        go : (b : Bool) → length (cond b (stored 0 (withCosts rest links row)) (stored 17 row) .row) ≡ length row
-        go true = costs-length links row
-        go false = refl
+        either : (n : ℕ) (b : Bool) → length (cond b (stored Storing.Stored (withCosts rest links row)) (stored (Storing.Refused n) row) .row) ≡ length row
+        either n true = costs-length links row
+        either n false = refl
 
-    pub row-cost : links ≤ mostLinks → mostLinks ≤ length row → (l : ℕ) → l < links → getD (costsReply rest links row .row) l 0 ≡ costIn rest l
+        go : (n : ℕ) → length (cond (eqb n 0) (stored Storing.Stored (withCosts rest links row)) (stored (Storing.Refused n) row) .row) ≡ length row
+        go n = either n (eqb n 0)
+
+    accepted :
+        links ≤ mostLinks →
+        mostLinks ≤ length row →
+        headerBytes + costBytes * links ≤ length rest →
+        ((l : ℕ) → l < links → costIn rest l ≤ maxCost) →
+        0 ≡ refusal (costsChecks rest links (length row))
+    unfolding costsChecks
+    accepted few long whole each =
+        let fit = fits-below rest links ∙ true-allBelow links (λ l. leb (costIn rest l) maxCost) (λ l h. le-leb (costIn rest l) maxCost (each l h)) in
+        first (next (le-ltb _ _ few) (next (le-ltb _ _ long) (next (le-ltb _ _ whole) (next (ap not fit) none))))
+
+    pub row-cost :
+        links ≤ mostLinks →
+        mostLinks ≤ length row →
+        headerBytes + costBytes * links ≤ length rest →
+        ((l : ℕ) → l < links → costIn rest l ≤ maxCost) →
+        (l : ℕ) → l < links → getD (costsReply rest links row .row) l 0 ≡ costIn rest l
     unfolding costsReply
-    row-cost few long l h = rw (le-leb links mostLinks few, le-leb mostLinks (length row) long) (costs-at links row l h (omega arith))
+    row-cost few long whole each l h = rw (sym (accepted few long whole each)) (costs-at links row l h (omega arith))

@@ -1,5 +1,5 @@
 -- What a field that was read tells, for the layers above: the bytes that it takes, and what its checks say of it. Assumes nothing.
-use Prim.Native.Nat.{ℕ, zero, suc, _≤_, _<_}
+use Prim.Native.Nat.{ℕ, zero, suc, _+_, _*_, _≤_, _<_}
 use native.Mathlib.Omega.{arith}
 use mathlib.Core.Path.{_≡_, refl, sym, ap, subst, _∙_}
 use mathlib.Core.Logic.{⊎-elim}
@@ -14,10 +14,10 @@ use Rattle.distances.specs.Call.{allBelow}
 use Rattle.distances.specs.Refusal.{check, refusal}
 use Rattle.distances.proofs.Booleans.{both-true, one-true}
 use Rattle.distances.proofs.Ranges.{allBelow-true, allBelow-none, allBelow-more}
-use Rattle.plan.specs.Sizes.{leastBridges, mostBridges, mostLinks, mostViews, headerBytes}
-use Rattle.plan.specs.Tags.{tags, mayCome, passes, known, isSetup, inOrder, rightLength}
+use Rattle.plan.specs.Sizes.{leastBridges, mostBridges, mostLinks, mostViews, headerBytes, costBytes}
+use Rattle.plan.specs.Tags.{tags, mayCome, lengthFits, passes, known, isSetup, inOrder, rightLength}
 use Rattle.plan.specs.Fields.{value, tag, valueLength, size, costIn, eventBy, fieldOf}
-use Rattle.plan.specs.Reading.{headerChecks, costsFit, bridgeChecks, linkChecks, viewChecks, valueChecks, fieldRefusal, readOf, progressInRange, readReply}
+use Rattle.plan.specs.Reading.{headerChecks, costsFit, bridgeChecks, linkChecks, viewChecks, valueChecks, fieldRefusal, readOf, graphCounted, progressInRange, readReply}
 use Rattle.plan.specs.declared.Progress.{Progress}
 use Rattle.plan.specs.declared.Field.{Field}
 use Rattle.plan.specs.declared.Read.{Read}
@@ -42,6 +42,7 @@ pub record ViewRead (rest : List ℕ) (p : Progress) : Type 0 where
   pub early : p .stage ≤ 2
   pub listed : p .links ≤ mostLinks
   pub room : p .views < mostViews
+  pub whole : headerBytes + costBytes * p .links ≤ length rest
   pub costs : (l : ℕ) → l < p .links → costIn rest l ≤ maxCost
 
 abbrev pub FieldRead : List ℕ → Progress → Field → Type 0
@@ -51,7 +52,7 @@ FieldRead rest p Field.View = ViewRead rest p
 FieldRead rest p (Field.Event v) = 2 ≤ p .stage
 
 -- the tests of all costs, as the tests below a bound
-fits-below : (rest : List ℕ) (k : ℕ) → costsFit rest k ≡ allBelow k (λ l. leb (costIn rest l) maxCost)
+pub fits-below : (rest : List ℕ) (k : ℕ) → costsFit rest k ≡ allBelow k (λ l. leb (costIn rest l) maxCost)
 unfolding costsFit
 fits-below rest zero = allBelow-none _
 fits-below rest (suc k) = rw (fits-below rest k, allBelow-more)
@@ -64,24 +65,42 @@ view-stage s e =
     (λ h. omega (arith, eqb-true s 2 h))
     (one-true (eqb s 1) (eqb s 2) e)
 
--- a progress in range has no link too many
-pub in-range-links : (p : Progress) → progressInRange p ≡ true → p .links ≤ mostLinks
-unfolding progressInRange
-in-range-links p e =
-    let counts = both-true (leb (p .stage) 3) _ e .1 in
-    let more = both-true (eqb (p .bridges) 0 || leb leastBridges (p .bridges) && leb (p .bridges) mostBridges) _ counts .1 in
-    leb-true (p .links) mostLinks (both-true (leb (p .links) mostLinks) _ more .0)
+-- how many bridges and links a progress in range has at most
+record Few (p : Progress) : Type 0 where
+  bridges : p .bridges ≤ mostBridges
+  links : p .links ≤ mostLinks
 
--- nor a bridge
-pub in-range-bridges : (p : Progress) → progressInRange p ≡ true → p .bridges ≤ mostBridges
+counted-few : (p : Progress) → graphCounted p ≡ true → Few p
+unfolding graphCounted
+counted-few p e =
+    let least = both-true (leb leastBridges (p .bridges)) _ e in
+    let most = both-true (leb (p .bridges) mostBridges) _ (least .1) in
+    record { bridges = leb-true (p .bridges) mostBridges (most .0); links = leb-true (p .links) mostLinks (most .1) }
+
+in-range-few : (p : Progress) → progressInRange p ≡ true → Few p
 unfolding progressInRange
-in-range-bridges p e =
-    let counts = both-true (leb (p .stage) 3) _ e .1 in
-    let counted = both-true (eqb (p .bridges) 0 || leb leastBridges (p .bridges) && leb (p .bridges) mostBridges) _ counts .0 in
-    ⊎-elim
-    (λ h. omega (arith, eqb-true (p .bridges) 0 h))
-    (λ h. leb-true (p .bridges) mostBridges (both-true (leb leastBridges (p .bridges)) _ h .1))
-    (one-true (eqb (p .bridges) 0) _ counted)
+in-range-few p = go (eqb (p .stage) 0) (eqb (p .stage) 1)
+  where
+    go : (a b : Bool) →
+        cond a (eqb (p .bridges) 0 && (eqb (p .links) 0 && eqb (p .views) 0)) (
+        cond b (graphCounted p && eqb (p .views) 0) (
+        leb (p .stage) 3 && (graphCounted p && (leb 1 (p .views) && leb (p .views) mostViews)))) ≡ true →
+        Few p
+    go true b e =
+        let bridges = both-true (eqb (p .bridges) 0) _ e in
+        let links = both-true (eqb (p .links) 0) _ (bridges .1) in
+        record {
+          bridges = omega (arith, eqb-true (p .bridges) 0 (bridges .0));
+          links = omega (arith, eqb-true (p .links) 0 (links .0));
+        }
+    go false true e = counted-few p (both-true (graphCounted p) _ e .0)
+    go false false e = counted-few p (both-true (graphCounted p) _ (both-true (leb (p .stage) 3) _ e .1) .0)
+
+pub in-range-links : (p : Progress) → progressInRange p ≡ true → p .links ≤ mostLinks
+in-range-links p e = in-range-few p e .links
+
+pub in-range-bridges : (p : Progress) → progressInRange p ≡ true → p .bridges ≤ mostBridges
+in-range-bridges p e = in-range-few p e .bridges
 
 -- a stop is no field
 stops : {n : ℕ} {f : Field} {k : ℕ} → Read.Stop n ≡ Read.Field f k → ⊥
@@ -137,34 +156,36 @@ module _ (rest : List ℕ) (p : Progress) where
         differ = eqb-false a b (not-true (eqb a b) (more .1));
       }
 
-  view-told : tag rest ≡ 3 → p .links ≤ mostLinks → inOrder (tag rest) (p .stage) ≡ true → refusal (viewChecks rest p) ≡ 0 → ViewRead rest p
-  unfolding inOrder passes tags mayCome viewChecks
-  view-told t listed order e =
+  view-told : tag rest ≡ 3 → p .links ≤ mostLinks → Header → refusal (viewChecks rest p) ≡ 0 → ViewRead rest p
+  unfolding inOrder rightLength passes tags mayCome lengthFits viewChecks
+  view-told t listed header e =
       let one = passed (check (leb mostViews (p .views)) 8) _ (omega arith) e in
       let two = passed (check (not (costsFit rest (p .links))) 9) [] (omega arith) (one .1) in
-      let stage = view-stage (p .stage) (rw t at order) in
+      let stage = view-stage (p .stage) (rw t at (header .order)) in
+      let costs = eqb-true (valueLength rest) (costBytes * p .links) (rw t at (header .right)) in
       record {
         counted = stage .0;
         early = stage .1;
         listed = listed;
         room = leb-false mostViews (p .views) (one .0);
+        whole = omega (arith, costs, header .whole);
         costs = λ l h.
             leb-true (costIn rest l) maxCost
             (allBelow-true (p .links) (λ l. leb (costIn rest l) maxCost) (sym (fits-below rest (p .links)) ∙ not-false _ (two .0)) l h);
       }
 
   -- by the tag
-  value-told : p .links ≤ mostLinks → inOrder (tag rest) (p .stage) ≡ true → refusal (valueChecks rest p) ≡ 0 → FieldRead rest p (fieldOf rest)
+  value-told : p .links ≤ mostLinks → Header → refusal (valueChecks rest p) ≡ 0 → FieldRead rest p (fieldOf rest)
   unfolding valueChecks fieldOf
-  value-told listed order = go (eqb (tag rest) 1) (eqb (tag rest) 2) (eqb (tag rest) 3) refl refl refl
+  value-told listed header = go (eqb (tag rest) 1) (eqb (tag rest) 2) (eqb (tag rest) 3) refl refl refl
     where
       go : (a b c : Bool) → eqb (tag rest) 1 ≡ a → eqb (tag rest) 2 ≡ b → eqb (tag rest) 3 ≡ c →
           refusal (cond a (bridgeChecks rest p) (cond b (linkChecks rest p) (cond c (viewChecks rest p) []))) ≡ 0 →
           FieldRead rest p (cond a (Field.Bridges (value rest 0)) (cond b (Field.Link (value rest 0) (value rest 1)) (cond c Field.View (Field.Event (eventBy (tag rest) (value rest 0) (value rest 1))))))
-      go true b c one two three e = bridges-told (eqb-true (tag rest) 1 one) order e
-      go false true c one two three e = link-told (eqb-true (tag rest) 2 two) order e
-      go false false true one two three e = view-told (eqb-true (tag rest) 3 three) listed order e
-      go false false false one two three e = event-late (tag rest) (p .stage) one two three order
+      go true b c one two three e = bridges-told (eqb-true (tag rest) 1 one) (header .order) e
+      go false true c one two three e = link-told (eqb-true (tag rest) 2 two) (header .order) e
+      go false false true one two three e = view-told (eqb-true (tag rest) 3 three) listed header e
+      go false false false one two three e = event-late (tag rest) (p .stage) one two three (header .order)
 
   -- a field that was read: none of its checks applies
   record Passed (f : Field) (k : ℕ) : Type 0 where
@@ -286,4 +307,4 @@ field-bridges rest p {f} {k} = go (progressInRange p) refl
 pub field-read : (rest : List ℕ) (p : Progress) {f : Field} {k : ℕ} → readReply rest p ≡ Read.Field f k → FieldRead rest p f
 field-read rest p e =
     let t = none-applies rest p e in
-    subst (FieldRead rest p) (t .field) (value-told rest p (t .listed) (header-told rest p (t .header) .order) (t .value))
+    subst (FieldRead rest p) (t .field) (value-told rest p (t .listed) (header-told rest p (t .header)) (t .value))

@@ -1,17 +1,17 @@
 -- What is read at the head of the bytes that are left (document 01, "Where input is turned down"). Assumes nothing.
-use Prim.Native.Nat.{ℕ, zero, suc}
-use mathlib.Core.Bool.{Bool, true, cond, _&&_, _||_, not}
+use Prim.Native.Nat.{ℕ, zero, suc, _+_, _*_}
+use mathlib.Core.Bool.{Bool, true, cond, _&&_, not}
 use mathlib.Core.List.{List, [], _∷_}
 use lib.ListN.{length, set}
 use lib.Dec.{eqb, leb, ltb}
 use Rattle.distances.specs.View.{maxCost}
 use Rattle.distances.specs.Refusal.{Check, check, refusal}
-use Rattle.plan.specs.Sizes.{leastBridges, mostBridges, mostLinks, mostViews, headerBytes}
+use Rattle.plan.specs.Sizes.{leastBridges, mostBridges, mostLinks, mostViews, headerBytes, costBytes}
 use Rattle.plan.specs.Tags.{known, inOrder, rightLength}
 use Rattle.plan.specs.Fields.{value, tag, valueLength, size, costIn, fieldOf}
 use Rattle.plan.specs.declared.Progress.{Progress}
 use Rattle.plan.specs.declared.Read.{Read}
-use Rattle.plan.specs.declared.Costs.{Costs}
+use Rattle.plan.specs.declared.Storing.{Storing}
 
 -- the header's checks, in document 01's order
 unfoldable pub headerChecks : List ℕ → Progress → List Check
@@ -58,14 +58,19 @@ readOf rest p =
     cond (eqb (length rest) 0) (Read.Stop (cond (eqb (p .views) 0) 4 0))
     (cond (eqb (fieldRefusal rest p) 0) (Read.Field (fieldOf rest) (size rest)) (Read.Stop (fieldRefusal rest p)))
 
--- how far a plan can have come: stages 0 to 3; 2 to 16 bridges, none before they are counted; up to 32 links and 32 views
+-- 2 to 16 bridges, and up to 32 links
+unfoldable pub graphCounted : Progress → Bool
+graphCounted p = leb leastBridges (p .bridges) && (leb (p .bridges) mostBridges && leb (p .links) mostLinks)
+
+-- a plan can have come so far: at stage 0 there are no bridges, links or views; at stage 1 there are 2 to 16 bridges, up to 32 links and no view;
+-- at stages 2 and 3 there are 2 to 16 bridges, up to 32 links and 1 to 32 views
 unfoldable pub progressInRange : Progress → Bool
 progressInRange p =
-    leb (p .stage) 3
-    && ((eqb (p .bridges) 0 || leb leastBridges (p .bridges) && leb (p .bridges) mostBridges)
-    && (leb (p .links) mostLinks && leb (p .views) mostViews))
+    cond (eqb (p .stage) 0) (eqb (p .bridges) 0 && (eqb (p .links) 0 && eqb (p .views) 0))
+    (cond (eqb (p .stage) 1) (graphCounted p && eqb (p .views) 0)
+    (leb (p .stage) 3 && (graphCounted p && (leb 1 (p .views) && leb (p .views) mostViews))))
 
--- for any progress handed in: 17 where it is out of range
+-- for any progress handed in: 17 where no plan can have come so far
 unfoldable pub readReply : List ℕ → Progress → Read
 readReply rest p = cond (progressInRange p) (readOf rest p) (Read.Stop 17)
 
@@ -74,18 +79,34 @@ unfoldable pub withCosts : List ℕ → ℕ → List ℕ → List ℕ
 withCosts rest zero row = row
 withCosts rest (suc l) row = set (withCosts rest l row) l (costIn rest l)
 
--- the reply's number and the lent row
+-- the checks of a view's costs, for a row of so many numbers: 17 at the entry, then the bytes of header and value, then each cost
+unfoldable pub costsChecks : List ℕ → ℕ → ℕ → List Check
+costsChecks rest links room =
+    check (ltb mostLinks links) 17
+    ∷ check (ltb room mostLinks) 17
+    ∷ check (ltb (length rest) (headerBytes + costBytes * links)) 1
+    ∷ check (not (costsFit rest links)) 9
+    ∷ []
+
+-- each reply's number in document 01, 0 where nothing is refused
+abbrev pub stopNumber : Read → ℕ
+stopNumber (Read.Stop number) = number
+stopNumber (Read.Field f used) = 0
+
+abbrev pub storingNumber : Storing → ℕ
+storingNumber (Storing.Refused number) = number
+storingNumber Storing.Stored = 0
+
+-- the reply and the lent row
 pub record Stored : Type 0 where
-  pub reply : ℕ
+  pub reply : Storing
   pub row : List ℕ
 
-abbrev pub stored : ℕ → List ℕ → Stored
+abbrev pub stored : Storing → List ℕ → Stored
 stored reply row = record { reply = reply; row = row }
 
-abbrev pub costsNumber : Costs → ℕ
-costsNumber Costs.Refused = 17
-costsNumber Costs.Stored = 0
-
+-- the first check that applies, and the row as it was; else the row with the costs
 unfoldable pub costsReply : List ℕ → ℕ → List ℕ → Stored
 costsReply rest links row =
-    cond (leb links mostLinks && leb mostLinks (length row)) (stored 0 (withCosts rest links row)) (stored 17 row)
+    let number : ℕ = refusal (costsChecks rest links (length row)) in
+    cond (eqb number 0) (stored Storing.Stored (withCosts rest links row)) (stored (Storing.Refused number) row)

@@ -1,9 +1,10 @@
 // The public calls: the next field, and a view's costs.
-use crate::Costs;
 use crate::Progress;
 use crate::Read;
+use crate::Storing;
 use crate::bytes::value_length;
 use crate::header::header_refusal;
+use crate::sizes::COST_BYTES;
 use crate::sizes::HEADER_BYTES;
 use crate::values;
 use distances::ready::both;
@@ -12,34 +13,39 @@ use distances::sizes::MOST_BRIDGES;
 use distances::sizes::MOST_LINKS;
 use distances::sizes::MOST_VIEWS;
 ghost use mathlib.Core.Path.{_≡_};
-ghost use mathlib.Core.Bool.{_&&_, _||_};
 ghost use Prim.Native.Nat.{_≤_};
 ghost use lib.ListN.{length};
-ghost use lib.Dec.{eqb, leb};
-ghost use Rattle.plan.specs.Sizes.{leastBridges, mostBridges, mostLinks};
-ghost use Rattle.plan.specs.Reading.{progressInRange, readReply, withCosts, costsNumber, stored, costsReply};
+ghost use Rattle.distances.specs.Refusal.{refusal};
+ghost use Rattle.plan.specs.Sizes.{mostLinks};
+ghost use Rattle.plan.specs.Reading.{graphCounted, progressInRange, readReply, withCosts, costsChecks, stored, costsReply};
 
-fn count_in_range(bridges: usize) -> bool
-    ensures { λ r. ⌜ r ≡ (eqb bridges 0 || leb leastBridges bridges && leb bridges mostBridges) ⌝ }
+fn graph_counted(p: Progress) -> bool
+    ensures { λ r. ⌜ r ≡ graphCounted p ⌝ }
 {
-    if bridges == 0 {
-        return true;
-    }
-    both(LEAST_BRIDGES <= bridges, bridges <= MOST_BRIDGES)
-}
-
-// Shared with the list of events, which tests a progress once.
-pub(crate) fn progress_in_range(p: Progress) -> bool
-    ensures { λ r. ⌜ r ≡ progressInRange p ⌝ }
-{
-    let counted = count_in_range(p.bridges);
     both(
-        p.stage <= 3,
-        both(counted, both(p.links <= MOST_LINKS, p.views <= MOST_VIEWS)),
+        LEAST_BRIDGES <= p.bridges,
+        both(p.bridges <= MOST_BRIDGES, p.links <= MOST_LINKS),
     )
 }
 
-// What stands at the head of the bytes that are left. A progress out of document 01's ranges is refused with 17.
+// Can a plan have come so far? Shared with the list of events, which tests a progress once.
+pub(crate) fn progress_in_range(p: Progress) -> bool
+    ensures { λ r. ⌜ r ≡ progressInRange p ⌝ }
+{
+    if p.stage == 0 {
+        return both(p.bridges == 0, both(p.links == 0, p.views == 0));
+    }
+    let counted = graph_counted(p);
+    if p.stage == 1 {
+        return both(counted, p.views == 0);
+    }
+    both(
+        p.stage <= 3,
+        both(counted, both(1 <= p.views, p.views <= MOST_VIEWS)),
+    )
+}
+
+// What stands at the head of the bytes that are left. A progress that no plan leads to is refused with 17.
 pub fn read_field(rest: &[u8], p: Progress) -> Read
     ensures { λ r. ⌜ r ≡ readReply (now (rest .entry)) p ⌝ }
 {
@@ -63,18 +69,35 @@ pub fn read_field(rest: &[u8], p: Progress) -> Read
     Read::Field(values::field_of(rest), HEADER_BYTES + value_length(rest))
 }
 
-// A view's costs into a lent row with room for the most links: the first `links` numbers. 17 where there are more links, or the row is shorter.
-pub fn read_costs(rest: &[u8], links: usize, row: &mut [u32]) -> Costs
-    ensures { λ r. ⌜ stored (costsNumber r) (now (row .exit)) ≡ costsReply (now (rest .entry)) links (now (row .entry)) ⌝ }
+// A row of `room` numbers has to have room for the most links, and the bytes for the header and for each link's cost.
+fn costs_refusal(rest: &[u8], links: usize, room: usize) -> u8
+    ensures { λ r. ⌜ r ≡ refusal (costsChecks (now (rest .entry)) links room) ⌝ }
 {
     if MOST_LINKS < links {
-        return Costs::Refused;
+        return 17;
     }
-    if row.len() < MOST_LINKS {
-        return Costs::Refused;
+    if room < MOST_LINKS {
+        return 17;
+    }
+    if rest.len() < HEADER_BYTES + COST_BYTES * links {
+        return 1;
+    }
+    if values::costs_fit(rest, links) {
+        return 0;
+    }
+    9
+}
+
+// A view's costs into a lent row: the first `links` numbers. A refused call leaves the row as it was.
+pub fn read_costs(rest: &[u8], links: usize, row: &mut [u32]) -> Storing
+    ensures { λ r. ⌜ stored r (now (row .exit)) ≡ costsReply (now (rest .entry)) links (now (row .entry)) ⌝ }
+{
+    let number = costs_refusal(rest, links, row.len());
+    if number != 0 {
+        return Storing::Refused(number);
     }
     store_costs(rest, links, row);
-    Costs::Stored
+    Storing::Stored
 }
 
 fn store_costs(rest: &[u8], links: usize, row: &mut [u32])

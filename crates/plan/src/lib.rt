@@ -31,8 +31,8 @@ pub enum Read {
     Stop(u8),
 }
 
-// What `read_costs` did.
-pub enum Costs {
-    Refused,
+// What `read_costs` did: refused with document 01's number, or stored the costs.
+pub enum Storing {
+    Refused(u8),
     Stored,
 }

@@ -31,7 +31,8 @@ pub(crate) fn cost_in(rest: &[u8], l: usize) -> u32
     16777216 * a + (65536 * b + (256 * c + d))
 }
 
-fn costs_fit(rest: &[u8], links: usize) -> bool
+// Each cost is at most the greatest there is. Shared with `read_costs`.
+pub(crate) fn costs_fit(rest: &[u8], links: usize) -> bool
     requires { ⌜ links ≤ mostLinks ⌝ }
     ensures { λ r. ⌜ r ≡ costsFit (now (rest .entry)) links ⌝ }
 {

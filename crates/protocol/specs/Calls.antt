@@ -1,6 +1,6 @@
 -- The calls, what turns each down, and what each does (document 01, "Events" and "Where input is turned down"). Assumes nothing.
 use Prim.Native.Nat.{ℕ, suc, _+_, _*_, _%_}
-use mathlib.Core.Bool.{Bool, true, false, cond, _&&_, _||_, not}
+use mathlib.Core.Bool.{Bool, true, false, cond, _||_, not}
 use mathlib.Core.List.{List, [], _∷_, _++_}
 use lib.ListN.{length, getD, take, drop}
 use lib.Dec.{eqb, leb, ltb}
@@ -10,6 +10,7 @@ pub use Rattle.distances.specs.Refusal.{Check}
 unfoldable pub use Rattle.distances.specs.Refusal.{refusal}
 use Rattle.agreement.specs.Offer.{opposite}
 use Rattle.agreement.specs.Record.{carried, updated, sentUpdated, heldUpdated, answer, recorded, sentDelivered, heldDelivered}
+use Rattle.agreement.specs.Update.{numbersUsedUp, nextNumber}
 use Rattle.agreement.specs.Forwarding.{Records}
 use Rattle.agreement.specs.declared.Answer.{Answer}
 use Rattle.agreement.specs.declared.EndRecord.{EndRecord}
@@ -41,7 +42,7 @@ noSuchLink n l = record { when = not (ltb l (n .plan .graph .links)); number = 1
 
 -- 16: the number is 65,535 and the view differs
 unfoldable pub noNumberLeft : Network → ℕ → ℕ → Check
-noNumberLeft n b t = record { when = eqb (n .number b) 65535 && not (eqb (n .view b) t); number = 16 }
+noNumberLeft n b t = record { when = numbersUsedUp (n .number b) (n .view b) t; number = 16 }
 
 -- 11: the bridge is not on the link
 unfoldable pub notOnLink : Network → ℕ → ℕ → Check
@@ -64,10 +65,11 @@ noMessage n p = record { when = not (ltb p (length (n .messages))); number = 15 
 unfoldable pub already : Network → Bool → ℕ → Check
 already n so l = record { when = cond so (n .records .cut l) (not (n .records .cut l)); number = 12 }
 
--- the message at place p
+-- what stands for a message at a place where there is none
 abbrev pub noMessageThere : Message
 noMessageThere = record { link = 0; direction = 0; agreement = record { view = 0; number = 0; discarded = 0 } }
 
+-- the message at place p
 abbrev pub messageAt : Network → ℕ → Message
 messageAt n p = getD (n .messages) p noMessageThere
 
@@ -105,7 +107,7 @@ moved n b t =
     record {
       plan = n .plan;
       view = λ z. cond (eqb z b) t (n .view z);
-      number = λ z. cond (eqb z b) (suc (n .number z)) (n .number z);
+      number = λ z. cond (eqb z b) (nextNumber (n .number z)) (n .number z);
       records =
           record {
             cut = n .records .cut;

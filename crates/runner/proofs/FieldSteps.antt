@@ -12,14 +12,14 @@ use Rattle.bench.specs.State.{State}
 use Rattle.bench.specs.Batches.{replyOf}
 use Rattle.bench.specs.declared.Bench.{Bench}
 use Rattle.plan.specs.Fields.{byte}
-use Rattle.plan.specs.Reading.{readReply}
+use Rattle.plan.specs.Reading.{readReply, stopNumber}
 use Rattle.bench.specs.declared.Event.{Event}
 use Rattle.plan.specs.declared.Field.{Field}
 use Rattle.plan.specs.declared.Read.{Read}
-use Rattle.plan.proofs.Laws.{FieldRead, field-size, field-read}
+use Rattle.plan.proofs.Laws.{FieldRead, ViewRead, field-size, field-read}
 use Rattle.runner.specs.Buffers.{Buffers, buffers, buffersLong, stateOn, progressOf}
 use Rattle.runner.specs.Events.{textOf, stateAfter, Line, line, lineOf}
-use Rattle.runner.specs.Steps.{StepOutcome, stepOutcome, lastStep, lastText, setupStep, eventStep, fieldStep, readStep, stepOf, stopNumber, runnerInRange, fieldFits}
+use Rattle.runner.specs.Steps.{StepOutcome, stepOutcome, lastStep, lastText, setupStep, eventStep, fieldStep, readStep, stepOf, runnerInRange, ViewFits, fieldFits}
 use Rattle.runner.specs.declared.Runner.{Runner}
 
 -- a private call is lent nothing, or the bytes to be printed alone: its step on all of the buffers
@@ -106,11 +106,18 @@ step-told r k ok =
       out = leb-true _ _ (messages .1);
     }
 
--- what the reader tells of a field
+-- what the reader tells of a view
+pub view-fits :
+    (stage : ℕ) (rest : List ℕ) (b : Bench) →
+    ViewRead rest (record { stage = stage; bridges = b .bridges; links = b .links; views = b .views }) →
+    ViewFits rest b
+view-fits stage rest b h = record { room = h .room; listed = h .listed; whole = h .whole; costs = h .costs }
+
+-- and of any field
 told-fits : (rest : List ℕ) (r : Runner) (f : Field) → FieldRead rest (progressOf r) f → fieldFits rest (r .bench) f
 told-fits rest r (Field.Bridges n) h = tt
 told-fits rest r (Field.Link x y) h = h .room
-told-fits rest r Field.View h = record { room = h .room; listed = h .listed; costs = h .costs }
+told-fits rest r Field.View h = view-fits (r .stage) rest (r .bench) h
 told-fits rest r (Field.Event e) h = tt
 
 module _ (rest : List ℕ) (r : Runner) {f : Field} {used : ℕ} (read : readReply rest (progressOf r) ≡ Read.Field f used) where

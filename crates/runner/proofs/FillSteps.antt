@@ -1,16 +1,14 @@
 -- Steps on, one after another: how far they have come, and where they end. Assumes nothing.
 use Prim.Native.Nat.{ℕ, zero, suc, _+_, _-_, _≤_, _<_}
 use native.Mathlib.Omega.{arith}
-use mathlib.Core.Path.{_≡_, refl, sym, ap, subst, _∙_}
-use mathlib.Core.Bool.{Bool, true, false, cond, _&&_}
-use mathlib.Core.List.{List, _++_, append-nil}
-use borrow.Author.Tests.{leb-true}
-use lib.ListN.{length, take, drop, length-append, length-drop, drop-of-length-le}
-use lib.Seq.{take-all, length-take-le}
-use lib.Dec.{leb}
+use mathlib.Core.Path.{_≡_, refl}
+use mathlib.Core.Bool.{Bool, true, false, cond}
+use mathlib.Core.List.{List}
+use lib.ListN.{length, take, drop, length-append, length-drop}
+use lib.Seq.{length-take-le}
 use Rattle.distances.proofs.Booleans.{both-true}
 use Rattle.runner.specs.Buffers.{Buffers, buffers}
-use Rattle.runner.specs.Steps.{StepOutcome, stepOutcome, stepOf}
+use Rattle.runner.specs.Steps.{StepOutcome, stepOf}
 use Rattle.runner.specs.Fills.{buffersWithOut, stepOn, stepsOn, fills, fieldsAtOnce, fillOf}
 use Rattle.runner.specs.declared.Runner.{Runner}
 use Rattle.runner.proofs.RunFuel.{uses}

@@ -10,9 +10,9 @@ use lib.Seq.{sets, length-sets}
 use lib.Dec.{eqb, leb}
 use Rattle.distances.proofs.Booleans.{not-both}
 use Rattle.protocol.specs.Calls.{report, path, refuse, checks}
-use Rattle.bench.specs.State.{State}
+use Rattle.bench.specs.State.{State, state, network}
 use Rattle.bench.specs.Batches.{replyOf, answersOf, answerSize}
-use Rattle.bench.specs.Changes.{ChangeOutcome}
+use Rattle.bench.specs.Contracts.{Outcome}
 use Rattle.bench.specs.declared.Bench.{Bench}
 use Rattle.bench.specs.declared.Event.{Event}
 use Rattle.bench.specs.declared.Event.the-variants.{Update, Send, Deliver, Repeat, Lose, Cut, Restore, Report, Path}
@@ -52,7 +52,7 @@ path-listed s y d none = bridges-listed _ y d _ (refusal-none _ _ (path y d) non
 
 pub record ShortText (s : State) (e : Event) : Type 0 where
   pub room : length (textOf s e) ≤ 544
-  pub few : length (textOf s e) ≤ 15 * length (answersOf s e)
+  pub few : length (textOf s e) ≤ 15 * length (answersOf (network s) e)
 
 -- a text has room among 544 bytes, and 15 for each number that its event answers with
 pub text-short : (s : State) (e : Event) → replyOf s e ≡ 0 → ShortText s e
@@ -67,13 +67,13 @@ text-short s (Restore l) none = record { room = omega arith; few = omega arith }
 text-short s (Report d) none =
     let bridges = accepted-bridges s (Report d) none in
     let listed = report-listed s d none in
-    let short = length-reportText d (s .bench .bridges) (answersOf s (Report d)) (omega (arith, listed, bridges .1)) (omega (arith, bridges .1)) in
-    record { room = omega (arith, short, bridges .1); few = omega (arith, short, bridges .0, answers-length s (Report d) none) }
+    let short = length-reportText d (s .bench .bridges) (answersOf (network s) (Report d)) (omega (arith, listed, bridges .1)) (omega (arith, bridges .1)) in
+    record { room = omega (arith, short, bridges .1); few = omega (arith, short, bridges .0, answers-length s (Report d)) }
 text-short s (Path y d) none =
     let bridges = accepted-bridges s (Path y d) none in
     let listed = path-listed s y d none in
-    let short = path-short y d (answersOf s (Path y d)) (omega (arith, listed .0, bridges .1)) (omega (arith, listed .1, bridges .1)) in
-    record { room = omega (arith, short); few = omega (arith, short, answers-length s (Path y d) none) }
+    let short = path-short y d (answersOf (network s) (Path y d)) (omega (arith, listed .0, bridges .1)) (omega (arith, listed .1, bridges .1)) in
+    record { room = omega (arith, short); few = omega (arith, short, answers-length s (Path y d)) }
 
 last-short : (number events offset : ℕ) → length (lastText number events offset) ≤ 544
 unfolding lastText
@@ -131,21 +131,21 @@ module _ (e : Event) (used most : ℕ) (r : Runner) (k : Buffers) where
           }
 
 module _ (b : Bench) (costs : List ℕ) (used most : ℕ) (r : Runner) (k : Buffers) where
-  abbrev network : ChangeOutcome
-  network = freshWithView b costs (k .sent) (k .held)
+  abbrev made : Outcome (Unit {0})
+  made = freshWithView (state b costs (k .sent) (k .held) (k .messages))
 
   view-texts : used ≤ most → Texts most (λ out. viewStep used b costs r (buffersWithOut out k))
   unfolding viewStep setupStep lastStep
-  view-texts low = go (eqb (network .reply) 0) refl
+  view-texts low = go (eqb (made .reply .number) 0) refl
     where
-      go : (q : Bool) → eqb (network .reply) 0 ≡ q → Texts most (λ out. viewStep used b costs r (buffersWithOut out k))
+      go : (q : Bool) → eqb (made .reply .number) 0 ≡ q → Texts most (λ out. viewStep used b costs r (buffersWithOut out k))
       go true q =
           record {
             reply = 0;
             going = true;
             used = used;
-            runner = record { bench = network .bench; stage = 2; events = r .events; offset = r .offset + used };
-            after = buffers costs (network .sent) (network .held) (k .messages) (k .out);
+            runner = record { bench = made .state .bench; stage = 2; events = r .events; offset = r .offset + used };
+            after = buffersWith (made .state) [] k;
             text = [];
             fits = low;
             short = omega arith;
@@ -153,14 +153,14 @@ module _ (b : Bench) (costs : List ℕ) (used most : ℕ) (r : Runner) (k : Buff
           }
       go false q =
           record {
-            reply = network .reply;
+            reply = made .reply .number;
             going = false;
             used = 0;
             runner = r;
             after = k;
-            text = refusedText (network .reply) (r .offset);
+            text = refusedText (made .reply .number) (r .offset);
             fits = omega arith;
-            short = length-refusedText (network .reply) (r .offset);
+            short = length-refusedText (made .reply .number) (r .offset);
             is = λ out long. rw q;
           }
 

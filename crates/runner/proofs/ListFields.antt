@@ -7,14 +7,13 @@ use mathlib.Core.Bool.{true, false}
 use mathlib.Core.List.{List, [], _∷_, _++_}
 use lib.ListN.{length, take, drop, length-drop, length-append}
 use lib.Seq.{sets, length-sets, take-at, drop-at, drop-drop}
-use Rattle.bench.specs.State.{State}
-use Rattle.bench.specs.Whole.{stepBy}
+use Rattle.bench.specs.State.{State, network}
+use Rattle.bench.specs.Standing.{stepIn}
 use Rattle.bench.specs.Batches.{callOf, replyOf, answersOf, answerSize, answerSizes, Batch, batch, eventBatchIn, batchFrom}
 use Rattle.bench.specs.declared.Disposition.{Disposition}
 use Rattle.bench.specs.declared.Event.{Event}
 use Rattle.bench.proofs.BatchRuns.{First, full, refused, made, first-of, answers-length, following, runs-none, runs-made, runs-unmade}
-use Rattle.bench.proofs.CallLengths.{step-kept}
-use Rattle.bench.proofs.CallSteps.{step-lasting}
+use Rattle.bench.proofs.RunSteps.{step-kept, step-costs}
 use Rattle.plan.specs.Events.{Placed, eventsOf, listProgress}
 use Rattle.plan.specs.declared.Progress.{Progress}
 use Rattle.plan.proofs.EventLaws.{ReadAs, lastEnd}
@@ -22,9 +21,9 @@ use Rattle.plan.proofs.Laws.{field-size}
 use Rattle.text.specs.Writing.{Put}
 use Rattle.text.proofs.Puts.{joined}
 use Rattle.runner.specs.Buffers.{buffers}
-use Rattle.runner.specs.Events.{eventText, textOf}
+use Rattle.runner.specs.Events.{textOf}
 use Rattle.runner.specs.Steps.{StepOutcome, stepOutcome}
-use Rattle.runner.specs.Fills.{fills, stepOn}
+use Rattle.runner.specs.Fills.{fills}
 use Rattle.runner.specs.Lists.{textsOf, withRefusal, withDisposition, SomeNumber}
 use Rattle.runner.proofs.FillTexts.{text-short}
 use Rattle.runner.proofs.FillSteps.{fills-more, fills-over}
@@ -51,7 +50,7 @@ puts-both out a b w =
 -- a list that ended with a refusal has its number
 pub some-number : (room : ℕ) (s : State) (es : List Event) → SomeNumber (batchFrom room s es .disposition)
 some-number room s [] = rw runs-none tt
-some-number room s (e ∷ es) = go (some-number (room - length (answersOf s e)) (stepBy s (callOf e)) es) (eventBatchIn room s e) refl (first-of room s e)
+some-number room s (e ∷ es) = go (some-number (room - length (answersOf (network s) e)) (stepIn s (callOf e)) es) (eventBatchIn room s e) refl (first-of room s e)
   where
     go : SomeNumber (following room s e es .disposition) → (b : Batch) → eventBatchIn room s e ≡ b → First room s e b → SomeNumber (batchFrom room s (e ∷ es) .disposition)
     go later b is (full few) = rw (runs-unmade room s e es b is refl) tt
@@ -62,21 +61,21 @@ some-number room s (e ∷ es) = go (some-number (room - length (answersOf s e)) 
 pub texts-few : (room : ℕ) (s : State) (es : List Event) → let b : Batch = batchFrom room s es in length (textsOf (s .bench .bridges) (take (b .made) es) (b .answers)) ≤ 15 * length (b .answers)
 unfolding textsOf
 texts-few room s [] = rw runs-none (omega arith)
-texts-few room s (e ∷ es) = go (texts-few (room - length (answersOf s e)) (stepBy s (callOf e)) es) (eventBatchIn room s e) refl (first-of room s e)
+texts-few room s (e ∷ es) = go (texts-few (room - length (answersOf (network s) e)) (stepIn s (callOf e)) es) (eventBatchIn room s e) refl (first-of room s e)
   where
     then : Batch
     then = following room s e es
 
     go :
-        length (textsOf (stepBy s (callOf e) .bench .bridges) (take (then .made) es) (then .answers)) ≤ 15 * length (then .answers) →
+        length (textsOf (stepIn s (callOf e) .bench .bridges) (take (then .made) es) (then .answers)) ≤ 15 * length (then .answers) →
         (b : Batch) → eventBatchIn room s e ≡ b → First room s e b →
         let r : Batch = batchFrom room s (e ∷ es) in
         length (textsOf (s .bench .bridges) (take (r .made) (e ∷ es)) (r .answers)) ≤ 15 * length (r .answers)
     go later b is (full few) = rw (runs-unmade room s e es b is refl) (omega arith)
     go later b is (refused some) = rw (runs-unmade room s e es b is refl) (omega arith)
     go later b is (made none fits) =
-        let answers : List ℕ = answersOf s e in
-        let long = answers-length s e none in
+        let answers : List ℕ = answersOf (network s) e in
+        let long = answers-length s e in
         let kept = step-kept s (callOf e) in
         let short = text-short s e none in
         let behind : length (textsOf (s .bench .bridges) (take (then .made) es) (then .answers)) ≤ 15 * length (then .answers) =
@@ -123,10 +122,10 @@ module _ (rest : List ℕ) (off : ℕ) where
     e = x .event
 
     abbrev answers : List ℕ
-    answers = answersOf (stateAt t) e
+    answers = answersOf (network (stateAt t)) e
 
     long : length answers ≡ answerSize (t .runner .bench .bridges) e
-    long = answers-length (stateAt t) e none
+    long = answers-length (stateAt t) e
 
     at-next : At (x .past) (eventOn t e used)
     at-next = record { used = omega (arith, here .used, past); offset = omega (arith, here .offset, past) }
@@ -135,7 +134,7 @@ module _ (rest : List ℕ) (off : ℕ) where
     roomy-on : used ≤ length (drop (t .used) rest) → Roomy rest more (numbers - length answers) (eventOn t e used)
     roomy-on size =
         let kept = step-kept (stateAt t) (callOf e) in
-        let lasting = step-lasting (stateAt t) (callOf e) in
+        let lasting = step-costs (stateAt t) (callOf e) in
         let short = text-short (stateAt t) e none in
         record {
           stage = refl;
@@ -208,12 +207,12 @@ module _ (rest : List ℕ) (off : ℕ) where
           subst (λ (p : Progress). ReadAs p (drop (t .used + read .used) rest) (x .past) xs) (sym progress)
           (subst (λ (l : List ℕ). ReadAs (listProgress (t .runner .bench)) l (x .past) xs) same (read .then)) in
           let bridges : u .runner .bench .bridges ≡ t .runner .bench .bridges = step-kept s (callOf (x .event)) .bridges in
-          let left : answerSizes (u .runner .bench .bridges) (eventsOf xs) ≤ numbers - length (answersOf s (x .event)) =
-          rw bridges (omega (arith, sizes, answers-length s (x .event) none)) in
+          let left : answerSizes (u .runner .bench .bridges) (eventsOf xs) ≤ numbers - length (answersOf (network s) (x .event)) =
+          rw bridges (omega (arith, sizes, answers-length s (x .event))) in
           rw (runs-made numbers s (x .event) (eventsOf xs) is)
           (fills-more (length xs) t rest (steps-on rest _ numbers t roomy)
           ∙ ap (λ (z : StepOutcome). fills (length xs) z rest) (step-on-event rest _ numbers t roomy (x .event) (read .used) (read .read) none)
-          ∙ later u (x .past) (numbers - length (answersOf s (x .event)))
+          ∙ later u (x .past) (numbers - length (answersOf (network s) (x .event)))
           (at-next (length xs) numbers t roomy at here x none fits (read .used) (read .past))
           reads
           (roomy-on (length xs) numbers t roomy at here x none fits (read .used) (read .past) (size .1))

@@ -1,5 +1,5 @@
 -- What a list of events left is as many steps as it has events, by what its calls ensure. Assumes nothing.
-use Prim.Native.Nat.{ℕ, zero, suc, _+_, _-_, _*_, _≤_, _<_}
+use Prim.Native.Nat.{ℕ, zero, suc, _+_, _-_, _*_, _≤_}
 use native.Mathlib.Nat.{add-zero, zero-add}
 use native.Mathlib.Omega.{arith}
 use mathlib.Core.Path.{_≡_, refl, sym, ap, subst, _∙_}
@@ -23,13 +23,13 @@ use Rattle.plan.proofs.EventLaws.{ReadAs, reads-as, sizes-fit, lastEnd, end-wit
 use Rattle.runner.specs.Buffers.{Buffers, buffers, buffersLong}
 use Rattle.runner.specs.Steps.{StepOutcome, stepOutcome, stepOf}
 use Rattle.runner.specs.Fills.{stepOn, fills, listFits, answerRoom, fieldsAtOnce, fillOf}
-use Rattle.runner.specs.Lists.{textsOf, outcomeOn, afterEvents, withDisposition, batchStep, withRefusal, ResultFits}
+use Rattle.runner.specs.Lists.{textsOf, outcomeOn, withDisposition, batchStep, withRefusal, ResultFits}
 use Rattle.runner.specs.declared.Runner.{Runner}
 use Rattle.runner.specs.declared.StepResult.{StepResult}
 use Rattle.runner.proofs.FillSteps.{fills-more}
 use Rattle.runner.proofs.ListSteps.{stateAt, Roomy, steps-on}
 use Rattle.runner.proofs.ListTexts.{texts-head}
-use Rattle.runner.proofs.ListFields.{replyAfter, reply-still, some-number, texts-few, At, listOn, list-steps}
+use Rattle.runner.proofs.ListFields.{reply-still, some-number, texts-few, At, listOn, list-steps}
 
 -- ---- the end of a list, with all of the buffers
 

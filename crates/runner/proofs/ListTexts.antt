@@ -1,5 +1,5 @@
 -- The lines of the events of a list, written one behind the other. Assumes nothing.
-use Prim.Native.Nat.{ℕ, zero, suc, _+_, _-_, _*_, _≤_, _<_}
+use Prim.Native.Nat.{ℕ, zero, suc, _+_, _-_, _≤_, _<_}
 use native.Mathlib.Numerals.{add-one}
 use native.Mathlib.Omega.{arith}
 use mathlib.Core.Path.{_≡_, refl, sym, ap, _∙_}
@@ -7,7 +7,7 @@ use mathlib.Core.Bool.{false}
 use mathlib.Core.List.{List, [], _∷_, _++_, append-nil, append-assoc}
 use borrow.Author.Tests.{ne-eqb}
 use lib.ListN.{length, getD, take, drop, length-append, length-drop, drop-of-length-le}
-use lib.Seq.{sets, length-sets, getD-take, take-all, take-append-le, drop-drop, drop-cons, length-take-le}
+use lib.Seq.{sets, length-sets, take-all, take-append-le, drop-drop, drop-cons, length-take-le}
 use Rattle.bench.specs.Batches.{answerSize, answerSizes, refusalIn}
 use Rattle.bench.specs.declared.Disposition.{Disposition}
 use Rattle.bench.specs.declared.Event.{Event}

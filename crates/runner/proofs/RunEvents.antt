@@ -1,7 +1,8 @@
 -- From the first event on: the state at the end is what the calls make of the state now. Assumes nothing.
 use Prim.Native.Nat.{ℕ, zero, suc}
 use native.Mathlib.Omega.{arith}
-use mathlib.Core.Path.{_≡_, refl, sym, _∙_}
+use mathlib.Core.Path.{_≡_, refl, sym, _∙_, ap}
+use borrow.Author.Tests.{eqb-true}
 use mathlib.Core.Bool.{Bool, true, false, cond}
 use mathlib.Core.List.{List, [], _∷_, _++_}
 use lib.ListN.{drop}
@@ -9,14 +10,16 @@ use lib.Dec.{eqb}
 use Rattle.protocol.specs.Calls.{Call}
 use Rattle.bench.specs.Batches.{callOf, replyOf}
 use Rattle.bench.specs.State.{State}
-use Rattle.bench.specs.Whole.{runBy}
-use Rattle.bench.proofs.CallSteps.{run-none, run-next}
+use Rattle.bench.specs.Whole.{runIn}
+use Rattle.bench.proofs.RunSteps.{run-none, run-next, left-ready}
+use Rattle.bench.proofs.BatchRuns.{accepted-ready}
 use Rattle.plan.specs.Reading.{readReply}
 use Rattle.bench.specs.declared.Event.{Event}
 use Rattle.plan.specs.declared.Field.{Field}
 use Rattle.plan.specs.declared.Read.{Read}
 use Rattle.plan.proofs.Laws.{FieldRead, field-read}
 use Rattle.runner.specs.Buffers.{Buffers, stateOn, progressOf}
+use Rattle.runner.specs.Events.{stateAfter}
 use Rattle.runner.specs.Steps.{StepOutcome, lastStep, eventStep, fieldStep, stepOf}
 use Rattle.runner.specs.Whole.{Position, position, stateAt, callRead, calls, leaves}
 use Rattle.runner.specs.declared.Runner.{Runner}
@@ -24,7 +27,7 @@ use Rattle.runner.proofs.RunSteps.{Step, refused, ended, carried, step-
 
 -- the calls make of the state s the state at the end, and an event came
 pub record RunsTo (s : State) (end : Position) (cs : List Call) : Type 0 where
-  pub state : stateAt end ≡ runBy s cs
+  pub state : stateAt end ≡ runIn s cs
   pub stage : end .runner .stage ≡ 3
 
 -- what follows a step
@@ -42,6 +45,10 @@ Follows fuel = (r : Runner) (k : Buffers) (rest : List ℕ) → r .stage ≡ 3 �
 abbrev pub accepts : Runner → Buffers → Event → Bool
 accepts r k e = eqb (replyOf (stateOn (r .bench) k) e) 0
 
+-- the call of an accepted event, and those that follow
+run-event : (s : State) (e : Event) (cs : List Call) → replyOf s e ≡ 0 → runIn (stateAfter s e) cs ≡ runIn s (callOf e ∷ cs)
+run-event s e cs none = ap (λ (x : State). runIn x cs) (sym (left-ready s (callOf e) (accepted-ready s e none))) ∙ sym (run-next s (callOf e) cs)
+
 module _ (fuel : ℕ) (e : Event) (used : ℕ) (r : Runner) (k : Buffers) (rest : List ℕ) where
   abbrev pub end : Position
   end = endAfter fuel rest (eventStep e used r k)
@@ -53,7 +60,7 @@ module _ (fuel : ℕ) (e : Event) (used : ℕ) (r : Runner) (k : Buffers) (rest 
   unfolding eventStep
   event-ran follows q =
       let n = follows _ _ (drop used rest) refl in
-      rw q (record { state = n .state ∙ sym (run-next (stateOn (r .bench) k) (callOf e) _); stage = n .stage })
+      rw q (record { state = n .state ∙ run-event (stateOn (r .bench) k) e _ (eqb-true _ 0 q); stage = n .stage })
 
   -- refused, it leaves network and runner as they were
   pub event-stopped : accepts r k e ≡ false → (stateAt end ≡ stateOn (r .bench) k) × (end .runner .stage ≡ r .stage) × (made ≡ [])

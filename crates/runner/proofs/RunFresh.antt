@@ -8,18 +8,21 @@ use borrow.Author.Tests.{eqb-true, eqb-false}
 use lib.ListN.{length, take}
 use lib.Seq.{length-take-le, take-append-le, take-take}
 use lib.Dec.{eqb}
-use Rattle.bench.specs.State.{part}
-use Rattle.bench.specs.Changes.{ChangeOutcome, changeOutcome, freshBench, freshOf}
+use Rattle.bench.specs.State.{State, state, part}
+use Rattle.agreement.specs.Call.{says}
+use Rattle.bench.specs.Contracts.{blank, Outcome, outcome, freshOf}
 use Rattle.bench.specs.declared.Bench.{Bench}
-use Rattle.bench.proofs.TieFresh.{FreshLimits, fresh-opens, limits-same}
+use Rattle.bench.proofs.TieFresh.{FreshLimits, limits-same}
+use Rattle.bench.proofs.FreshStands.{Opened, fresh-opens}
 use Rattle.plan.proofs.Laws.{ViewRead}
 use Rattle.runner.specs.Steps.{withView, withRow, freshWithView}
+use Rattle.runner.proofs.FieldSteps.{view-fits}
 use Rattle.runner.proofs.RunSetup.{Begun, view-begun, fresh-begun, lasts}
 use Rattle.runner.proofs.ViewSteps.{fresh-with-view-reply}
 
 -- the bench and the limits are those of a fresh network
 pub record Stands (b : Bench) (costs sent held : List ℕ) : Type 0 where
-  pub bench : freshBench b ≡ b
+  pub bench : blank b ≡ b
   pub limits : FreshLimits b costs sent held
 
 -- after a field of the setup
@@ -37,20 +40,23 @@ first-row rest b costs some long =
 module _
     (stage : ℕ)
     (b : Bench)
-    (costs sent held : List ℕ)
+    (costs sent held messages : List ℕ)
     (s : Standing stage b costs sent held)
     (rest : List ℕ)
     (told : ViewRead rest (record { stage = stage; bridges = b .bridges; links = b .links; views = b .views })) where
   abbrev rows : List ℕ
   rows = withRow rest b costs
 
-  abbrev network : ChangeOutcome
-  network = freshWithView (withView b) rows sent held
+  abbrev handed : State
+  handed = state (withView b) rows sent held messages
+
+  abbrev network : Outcome (Unit {0})
+  network = freshWithView handed
 
   -- it is not refused
-  pub view-taken : 1024 ≤ length costs → 1024 ≤ length rows → 1024 ≤ length sent → 1024 ≤ length held → network .reply ≡ 0
+  pub view-taken : 1024 ≤ length costs → 1024 ≤ length rows → 1024 ≤ length sent → 1024 ≤ length held → network .reply .number ≡ 0
   view-taken long rowsLong sentLong heldLong =
-      fresh-with-view-reply rest b costs sent held (record { room = told .room; listed = told .listed; costs = told .costs }) long sentLong heldLong
+      fresh-with-view-reply rest b costs sent held messages (view-fits stage rest b told) long sentLong heldLong
       ∙ rw (lasts 2 (withView b) rows (view-begun stage b costs (s .begun) rest told long) refl rowsLong .graph) (either (eqb (b .views) 0))
     where
       either : (q : Bool) → cond {A = ℕ} (cond q true true) 0 17 ≡ 0
@@ -62,7 +68,7 @@ module _
       1024 ≤ length rows →
       1024 ≤ length sent →
       1024 ≤ length held →
-      Standing 2 (network .bench) rows (network .sent) (network .held)
+      Standing 2 (network .state .bench) (network .state .costs) (network .state .sent) (network .state .held)
   unfolding freshWithView
   view-stands long rowsLong sentLong heldLong = go (eqb (b .views + 1) 1) refl
     where
@@ -70,12 +76,12 @@ module _
       now = view-begun stage b costs (s .begun) rest told long
 
       -- the first view
-      fresh-now : (o : ChangeOutcome) → (o .bench ≡ freshBench (withView b)) × FreshLimits (withView b) rows (o .sent) (o .held) → Standing 2 (o .bench) rows (o .sent) (o .held)
+      fresh-now : (o : Outcome (Unit {0})) → Opened handed o → Standing 2 (o .state .bench) (o .state .costs) (o .state .sent) (o .state .held)
       fresh-now o told =
-          rw (told .0)
+          rw (told .bench, told .costs)
           (record {
             begun = fresh-begun 2 (withView b) rows now;
-            stood = λ h. record { bench = refl; limits = limits-same (withView b) (freshBench (withView b)) rows rows refl refl refl refl (o .sent) (o .held) (told .1) };
+            stood = λ h. record { bench = refl; limits = limits-same (withView b) (blank (withView b)) rows rows refl refl refl refl (o .state .sent) (o .state .held) (told .limits) };
           })
 
       -- a further view
@@ -91,9 +97,9 @@ module _
           }
 
       go : (q : Bool) → eqb (b .views + 1) 1 ≡ q →
-          let o : ChangeOutcome = cond q (freshOf (withView b) rows sent held) (changeOutcome 0 (withView b) sent held) in
-          Standing 2 (o .bench) rows (o .sent) (o .held)
-      go true q = fresh-now (freshOf (withView b) rows sent held) (fresh-opens (withView b) rows sent held (lasts 2 (withView b) rows now refl rowsLong) sentLong heldLong)
+          let o : Outcome (Unit {0}) = cond q (freshOf handed) (outcome (says tt) handed) in
+          Standing 2 (o .state .bench) (o .state .costs) (o .state .sent) (o .state .held)
+      go true q = fresh-now (freshOf handed) (fresh-opens handed (lasts 2 (withView b) rows now refl rowsLong) sentLong heldLong)
       go false q =
           let some : 1 ≤ b .views = omega (arith, eqb-false (b .views + 1) 1 q) in
           stood-still some (s .stood (two some))

@@ -8,6 +8,7 @@ use mathlib.Core.List.{List, _++_, append-nil}
 use lib.ListN.{length, take, drop, length-drop}
 use lib.Dec.{eqb}
 use Rattle.distances.proofs.Booleans.{not-both}
+use Rattle.bench.specs.State.{state}
 use Rattle.bench.specs.Batches.{replyOf}
 use Rattle.bench.specs.declared.Bench.{Bench}
 use Rattle.plan.specs.Reading.{readReply}
@@ -32,9 +33,9 @@ event-used e used r k = go (eqb (replyOf (stateOn (r .bench) k) e) 0) refl
 
 view-used : (used : ℕ) (b : Bench) (costs : List ℕ) (r : Runner) (k : Buffers) → viewStep used b costs r k .going ≡ true → viewStep used b costs r k .used ≡ used
 unfolding viewStep setupStep lastStep
-view-used used b costs r k = go (eqb (freshWithView b costs (k .sent) (k .held) .reply) 0) refl
+view-used used b costs r k = go (eqb (freshWithView (state b costs (k .sent) (k .held) (k .messages)) .reply .number) 0) refl
   where
-    go : (q : Bool) → eqb (freshWithView b costs (k .sent) (k .held) .reply) 0 ≡ q → viewStep used b costs r k .going ≡ true → viewStep used b costs r k .used ≡ used
+    go : (q : Bool) → eqb (freshWithView (state b costs (k .sent) (k .held) (k .messages)) .reply .number) 0 ≡ q → viewStep used b costs r k .going ≡ true → viewStep used b costs r k .used ≡ used
     go true q h = rw q
     go false q h = absurd (false≢true (rw q at h))
 

@@ -13,7 +13,7 @@ use lib.Dec.{eqb}
 use Rattle.distances.specs.Call.{graphPasses, costsPass}
 use Rattle.distances.proofs.Ranges.{graph-made, costs-made}
 use Rattle.bench.specs.State.{part}
-use Rattle.bench.specs.Changes.{freshBench}
+use Rattle.bench.specs.Contracts.{blank}
 use Rattle.bench.specs.declared.Bench.{Bench}
 use Rattle.bench.proofs.TieRanges.{part-at, part-length, LastingOf}
 use Rattle.plan.specs.Fields.{costIn}
@@ -22,6 +22,7 @@ use Rattle.plan.proofs.CostRows.{row-length, row-cost}
 use Rattle.plan.proofs.Laws.{ViewRead}
 use Rattle.runner.specs.Steps.{withBridges, withLink, withView, withRow, ViewFits}
 use Rattle.runner.specs.Plans.{firstRunner, firstBuffers}
+use Rattle.runner.proofs.FieldSteps.{view-fits}
 
 -- the costs with one more row: the rows before it are as they were, and it holds what was read
 row-old : (rest : List ℕ) (b : Bench) (costs : List ℕ) (i : ℕ) → i < 32 * b .views → 32 * b .views ≤ length costs → getD (withRow rest b costs) i 0 ≡ getD costs i 0
@@ -33,15 +34,15 @@ row-old rest b costs i h long =
 past : (xs ys : List ℕ) (n l : ℕ) → length xs ≡ n → getD (xs ++ ys) (n + l) 0 ≡ getD ys l 0
 past xs ys n l e = rw e at (getD-append-add xs ys l 0)
 
-row-new : (rest : List ℕ) (b : Bench) (costs : List ℕ) (l : ℕ) → 32 * b .views + 32 ≤ length costs → b .links ≤ 32 → l < b .links →
+row-new : (rest : List ℕ) (b : Bench) (costs : List ℕ) (l : ℕ) → 32 * b .views + 32 ≤ length costs → ViewFits rest b → l < b .links →
     getD (withRow rest b costs) (32 * b .views + l) 0 ≡ costIn rest l
 unfolding withRow
-row-new rest b costs l long most h =
+row-new rest b costs l long fits h =
     let row : List ℕ = part 32 (b .views) costs in
     let size = part-length 32 (b .views) costs long in
     past (take (32 * b .views) costs) _ (32 * b .views) l (length-take-le (32 * b .views) costs (omega arith))
     ∙ List·getD-append (costsReply rest (b .links) row .row) _ 0 l (omega (arith, row-length rest (b .links) row))
-    ∙ row-cost rest (b .links) row most (omega arith) l h
+    ∙ row-cost rest (b .links) row (fits .listed) (omega arith) (fits .whole) (fits .costs) l h
 
 pub row-kept : (rest : List ℕ) (b : Bench) (costs : List ℕ) → b .views < 32 → 1024 ≤ length costs → length (withRow rest b costs) ≡ length costs
 unfolding withRow
@@ -70,7 +71,7 @@ row-passes rest b costs fits long =
     let rows : List ℕ = withRow rest b costs in
     let kept : length rows ≡ length costs = row-kept rest b costs room long in
     costs-made (b .links) (part 32 (b .views) rows) (omega (arith, part-length 32 (b .views) rows (omega arith)))
-    (λ l h. rw (part-at 32 (b .views) rows l (omega arith), row-new rest b costs l (omega arith) few h) (fits .costs l h))
+    (λ l h. rw (part-at 32 (b .views) rows l (omega arith), row-new rest b costs l (omega arith) fits h) (fits .costs l h))
 
 -- the ends of a link are two bridges
 pub record Joins (bridges a b : ℕ) : Type 0 where
@@ -178,13 +179,13 @@ module _ (stage : ℕ) (b : Bench) (costs : List ℕ) (s : Begun stage b costs) 
       }
     where
       cost-at : (t l : ℕ) → t < b .views + 1 → l < b .links → (q : Bool) → eqb t (b .views) ≡ q → getD (withRow rest b costs) (32 * t + l) 0 ≤ 16777215
-      cost-at t l h g true q = rw (eqb-true t (b .views) q, row-new rest b costs l (omega arith) (s .linksMost) g) (told .costs l g)
+      cost-at t l h g true q = rw (eqb-true t (b .views) q, row-new rest b costs l (omega arith) (view-fits stage rest b told) g) (told .costs l g)
       cost-at t l h g false q =
           let low : t < b .views = omega (arith, eqb-false t (b .views) q) in
           rw (row-old rest b costs (32 * t + l) (omega (arith, s .linksMost)) (omega (arith, told .room))) (s .cost t l low g)
 
   -- `fresh` keeps them
-  pub fresh-begun : Begun stage (freshBench b) costs
+  pub fresh-begun : Begun stage (blank b) costs
   fresh-begun =
       record {
         early = s .early;

@@ -12,11 +12,13 @@ use lib.Dec.{leb}
 use Rattle.distances.proofs.Booleans.{both-true}
 use Rattle.protocol.specs.Calls.{Call}
 use Rattle.protocol.specs.Net as net
-use Rattle.bench.specs.Whole.{runBy, Represents, planIn}
+use Rattle.bench.specs.State.{network}
+use Rattle.bench.specs.Whole.{runIn}
+use Rattle.bench.proofs.Represents.{Represents}
 use Rattle.bench.specs.declared.Bench.{Bench}
 use Rattle.bench.proofs.TieFresh.{fresh-stands}
 use Rattle.bench.proofs.TieRanges.{LastingOf, plan-in-range}
-use Rattle.bench.proofs.TieWhole.{whole-from}
+use Rattle.bench.proofs.TieWhole.{stands-in, whole-from}
 use Rattle.plan.specs.Reading.{readReply}
 use Rattle.bench.specs.declared.Event.{Event}
 use Rattle.plan.specs.declared.Field.{Field}
@@ -59,7 +61,7 @@ record Opens (p : Position) (end : Position) (cs : List Call) : Type 0 where
   stage : end .runner .stage ≡ 3
   inRange : net.PlanInRange (planAt p)
   fresh : Represents (stateAt p) (net.fresh (planAt p))
-  reached : stateAt end ≡ runBy (stateAt p) cs
+  reached : stateAt end ≡ runIn (stateAt p) cs
 
 abbrev Outcome : Position → Position → List Call → Type 0
 Outcome p end cs = NoEvent end cs ⊎ Opens p end cs
@@ -78,7 +80,7 @@ module _ (fuel : ℕ) (v : Event) (used : ℕ) (r : Runner) (k : Buffers) (rest 
   stands : Represents (stateAt (position r k)) (net.fresh (planAt (position r k)))
   stands =
       let was = s .stood two in
-      subst (λ (b : Bench). Represents (stateOn b k) (net.fresh (planIn b (k .costs)))) (was .bench)
+      subst (λ (b : Bench). Represents (stateOn b k) (net.fresh (network (stateOn b k) .plan))) (was .bench)
       (fresh-stands (r .bench) (k .costs) (k .sent) (k .held) (k .messages) lasting (was .limits) (long .messages))
 
   first-event : Outcome (position r k) (end fuel v used r k rest) (made fuel v used r k rest)
@@ -115,9 +117,9 @@ set-up (suc fuel) r k rest s = go (set-up fuel) (step-is r k rest)
         field Field.View d e told =
             let room = long-told k long in
             let rows : 1024 ≤ length (withRow rest (r .bench) (k .costs)) = rw (row-kept rest (r .bench) (k .costs) (told .room) (room .costs)) (room .costs) in
-            let taken = view-taken _ _ _ _ _ s rest told (room .costs) rows (room .sent) (room .held) in
+            let taken = view-taken _ _ _ _ _ (k .messages) s rest told (room .costs) rows (room .sent) (room .held) in
             rw (e ∙ view-goes used r k (withView (r .bench)) (withRow rest (r .bench) (k .costs)) taken, d)
-            (next _ _ (drop used rest) (view-stands _ _ _ _ _ s rest told (room .costs) rows (room .sent) (room .held)))
+            (next _ _ (drop used rest) (view-stands _ _ _ _ _ (k .messages) s rest told (room .costs) rows (room .sent) (room .held)))
         field (Field.Event v) d e told = rw (e, d) (first-event fuel v used r k rest s told (long-told k long))
 
 pub plan-runs : PlanRuns
@@ -127,4 +129,4 @@ plan-runs plan = go _ _ _ (set-up (suc (length plan)) firstRunner firstBuffers p
     go p end cs (inl n) = inl n
     go p end cs (inr o) =
         let all = whole-from (stateAt p) (planAt p) (o .inRange) (o .fresh) cs in
-        inr (record { stage = o .stage; fresh = o .fresh; reached = o .reached; holds = all .0; stands = rw (o .reached) (all .1); answers = rw (o .reached) (all .2) })
+        inr (record { stage = o .stage; fresh = stands-in _ _ (o .fresh); reached = o .reached; holds = all .holds; stands = rw (o .reached) (all .stands); replies = rw (o .reached) (all .replies) })

@@ -6,9 +6,9 @@ use mathlib.Core.List.{List, []}
 use lib.ListN.{length, getD}
 use lib.Seq.{sets}
 use lib.Dec.{eqb}
-use Rattle.bench.specs.State.{State}
+use Rattle.bench.specs.State.{State, network}
+use Rattle.bench.specs.Standing.{stepIn}
 use Rattle.bench.specs.Batches.{callOf, answersOf}
-use Rattle.bench.specs.Whole.{stepBy}
 use Rattle.bench.specs.declared.Event.{Event}
 use Rattle.bench.specs.declared.Event.the-variants.{Update, Send, Deliver, Repeat, Lose, Cut, Restore, Report, Path}
 use Rattle.text.specs.Lines.{reportText, deliveredText, stopsText}
@@ -36,11 +36,11 @@ abbrev pub NoText : Event → Type 0
 NoText e = (bridges : ℕ) (answers : List ℕ) → eventText bridges e answers ≡ []
 
 abbrev pub textOf : State → Event → List ℕ
-textOf s e = eventText (s .bench .bridges) e (answersOf s e)
+textOf s e = eventText (s .bench .bridges) e (answersOf (network s) e)
 
--- the state afterwards: as the call's contract has it, unchanged where it is refused
+-- the state afterwards: the network that stands in it makes the call's step
 abbrev pub stateAfter : State → Event → State
-stateAfter s e = stepBy s (callOf e)
+stateAfter s e = stepIn s (callOf e)
 
 -- a text written from the first lent byte on, and its count, by a private function
 pub record Line : Type 0 where

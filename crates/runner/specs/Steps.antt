@@ -1,16 +1,17 @@
 -- One step of a plan: a field read and carried out, for every input. Assumes nothing.
 use Prim.Native.Nat.{ℕ, _+_, _*_, _≤_, _<_}
 use mathlib.Core.Bool.{Bool, true, false, cond, _&&_}
-use mathlib.Core.List.{List, _++_}
+use mathlib.Core.List.{List, [], _++_}
 use lib.ListN.{length, set, take, drop}
 use lib.Dec.{eqb, leb}
 use Rattle.distances.specs.View.{maxCost}
 use Rattle.distances.specs.Call.{graphPasses}
-use Rattle.bench.specs.State.{State, part}
+use Rattle.bench.specs.State.{State, state, part}
 use Rattle.bench.specs.Batches.{replyOf}
-use Rattle.bench.specs.Changes.{ChangeOutcome, changeOutcome, freshOf}
+use Rattle.agreement.specs.Call.{says}
+use Rattle.bench.specs.Contracts.{Outcome, outcome, freshOf}
 use Rattle.bench.specs.declared.Bench.{Bench}
-use Rattle.plan.specs.Sizes.{mostLinks, mostViews}
+use Rattle.plan.specs.Sizes.{mostLinks, mostViews, headerBytes, costBytes}
 use Rattle.plan.specs.Fields.{costIn}
 use Rattle.plan.specs.Reading.{readReply, costsReply}
 use Rattle.bench.specs.declared.Event.{Event}
@@ -18,7 +19,7 @@ use Rattle.plan.specs.declared.Field.{Field}
 use Rattle.plan.specs.declared.Read.{Read}
 use Rattle.text.specs.Lines.{endText, refusedText}
 use Rattle.text.specs.declared.Written.{Written}
-use Rattle.runner.specs.Buffers.{Buffers, buffers, buffersLong, stateOn, buffersWith, progressOf}
+use Rattle.runner.specs.Buffers.{Buffers, buffersLong, stateOn, buffersWith, progressOf}
 use Rattle.runner.specs.Events.{textOf, stateAfter}
 use Rattle.runner.specs.declared.Runner.{Runner}
 use Rattle.runner.specs.Sizes.{longestPlan}
@@ -95,16 +96,16 @@ withRow rest b costs =
     ++ (costsReply rest (b .links) (part 32 (b .views) costs) .row ++ drop 32 (drop (32 * b .views) costs))
 
 -- "A fresh network": it is made with the first view, which is all that it needs
-unfoldable pub freshWithView : Bench → List ℕ → List ℕ → List ℕ → ChangeOutcome
-freshWithView b costs sent held = cond (eqb (b .views) 1) (freshOf b costs sent held) (changeOutcome 0 b sent held)
+unfoldable pub freshWithView : State → Outcome (Unit {0})
+freshWithView s = cond (eqb (s .bench .views) 1) (freshOf s) (outcome (says tt) s)
 
--- a view of so many bytes, which b and costs have: the plan goes on, or ends where the network cannot be made
+-- a view of so many bytes, which b and costs hold already: the plan goes on, or ends where the network cannot be made
 unfoldable pub viewStep : ℕ → Bench → List ℕ → Runner → Buffers → StepOutcome
 viewStep used b costs r k =
-    let o : ChangeOutcome = freshWithView b costs (k .sent) (k .held) in
-    cond (eqb (o .reply) 0)
-    (setupStep used (o .bench) 2 r (buffers costs (o .sent) (o .held) (k .messages) (k .out)))
-    (lastStep (o .reply) (refusedText (o .reply) (r .offset)) r k)
+    let o : Outcome (Unit {0}) = freshWithView (state b costs (k .sent) (k .held) (k .messages)) in
+    cond (eqb (o .reply .number) 0)
+    (setupStep used (o .state .bench) 2 r (buffersWith (o .state) [] k))
+    (lastStep (o .reply .number) (refusedText (o .reply .number) (r .offset)) r k)
 
 -- an event: accepted, it is counted and printed; refused, it ends the plan and leaves runner, network and messages as they were
 unfoldable pub eventStep : Event → ℕ → Runner → Buffers → StepOutcome
@@ -141,14 +142,10 @@ runnerInRange r = leb (r .events) longestPlan && leb (r .offset) longestPlan
 unfoldable pub stepOf : Runner → Buffers → List ℕ → StepOutcome
 stepOf r k rest = cond (runnerInRange r && buffersLong k) (readStep rest (readReply rest (progressOf r)) r k) (stepOutcome 17 false 0 0 r k)
 
--- for private functions: the count of bytes of a reply, the number of a plan that ends
+-- for private functions: the count of bytes of a reply
 abbrev pub countOf : Written → ℕ
 countOf (Written.Bytes k) = k
 countOf Written.Refused = 0
-
-abbrev pub stopNumber : Read → ℕ
-stopNumber (Read.Stop number) = number
-stopNumber (Read.Field f used) = 0
 
 -- a further view, or the first one of a graph in range
 abbrev pub mayView : Bench → Bool
@@ -158,6 +155,7 @@ mayView b = cond (eqb (b .views) 0) (graphPasses (b .bridges) (b .links) (b .end
 pub record ViewFits (rest : List ℕ) (b : Bench) : Type 0 where
   pub room : b .views < mostViews
   pub listed : b .links ≤ mostLinks
+  pub whole : headerBytes + costBytes * b .links ≤ length rest
   pub costs : (l : ℕ) → l < b .links → costIn rest l ≤ maxCost
 
 -- and of any field

@@ -11,8 +11,8 @@ use Rattle.protocol.specs.Net as net
 use Rattle.protocol.specs.Calls.{Call, run}
 use Rattle.protocol.specs.Demand3.{Holds}
 use Rattle.bench.specs.Batches.{callOf}
-use Rattle.bench.specs.State.{State}
-use Rattle.bench.specs.Whole.{runBy, Represents, Answers, planIn}
+use Rattle.bench.specs.State.{State, network}
+use Rattle.bench.specs.Whole.{runIn, Stands, Replies}
 use Rattle.plan.specs.Reading.{readReply}
 use Rattle.plan.specs.declared.Field.{Field}
 use Rattle.plan.specs.declared.Read.{Read}
@@ -57,7 +57,7 @@ stateAt p = stateOn (p .runner .bench) (p .buffers)
 
 -- the plan of the network that was set up
 abbrev pub planAt : Position → Plan
-planAt p = planIn (p .runner .bench) (p .buffers .costs)
+planAt p = network (stateAt p) .plan
 
 -- where the plan ends
 unfoldable pub leaves : ℕ → Runner → Buffers → List ℕ → Position
@@ -89,14 +89,14 @@ pub record NoEvent (end : Position) (cs : List Call) : Type 0 where
   pub none : cs ≡ []
 
 -- events were carried out: the fresh network stood before the first, and the state at the end is what the calls make of that state; therefore
--- demand 3 holds of the calls, and the network of Demand3 is the one that stands in the state at the end, and the one that answers are about
+-- demand 3 holds of the calls, and the network of Demand3 is the one that stands in the state at the end, and the one that replies are about
 pub record RunsFrom (p : Position) (end : Position) (cs : List Call) : Type 0 where
   pub stage : end .runner .stage ≡ 3
-  pub fresh : Represents (stateAt p) (net.fresh (planAt p))
-  pub reached : stateAt end ≡ runBy (stateAt p) cs
+  pub fresh : Stands (stateAt p) (net.fresh (planAt p))
+  pub reached : stateAt end ≡ runIn (stateAt p) cs
   pub holds : Holds (planAt p) cs
-  pub stands : Represents (stateAt end) (run (net.fresh (planAt p)) cs)
-  pub answers : Answers (stateAt end) (run (net.fresh (planAt p)) cs)
+  pub stands : Stands (stateAt end) (run (net.fresh (planAt p)) cs)
+  pub replies : Replies (stateAt end) (run (net.fresh (planAt p)) cs)
 
 abbrev pub PlanRuns : Type 0
 PlanRuns =

@@ -4,7 +4,11 @@ use bench::sizes::COST_ROW;
 ghost use mathlib.Core.Path.{_≡_};
 ghost use Prim.Native.Nat.{_≤_, _<_};
 ghost use lib.ListN.{length};
-ghost use Rattle.bench.specs.Changes.{changeOutcome};
+ghost use Prim.Native.Nat.{ℕ};
+ghost use mathlib.Core.List.{List};
+ghost use Rattle.agreement.specs.Call.{says};
+ghost use Rattle.bench.specs.State.{state};
+ghost use Rattle.bench.specs.Contracts.{outcome};
 ghost use Rattle.runner.specs.Steps.{withBridges, withLink, withView, withRow, mayView, freshWithView};
 
 pub(crate) fn with_bridges(bench: Bench, count: u8) -> Bench
@@ -64,8 +68,8 @@ pub(crate) fn fresh_with_view(
     sent: &mut [u32],
     held: &mut [u32],
 ) -> Bench
-    requires { ⌜ freshWithView bench (now costs) (now sent) (now held) .reply ≡ 0 ⌝ }
-    ensures { λ b. ⌜ changeOutcome 0 b (now (sent .exit)) (now (held .exit)) ≡ freshWithView bench (now (costs .entry)) (now (sent .entry)) (now (held .entry)) ⌝ }
+    requires { ⌜ ((messages : List ℕ) → freshWithView (state bench (now costs) (now sent) (now held) messages) .reply .number ≡ 0) ⌝ }
+    ensures { λ b. ⌜ ((messages : List ℕ) → outcome (says tt) (state b (now (costs .entry)) (now (sent .exit)) (now (held .exit)) messages) ≡ freshWithView (state bench (now (costs .entry)) (now (sent .entry)) (now (held .entry)) messages)) ⌝ }
 {
     if bench.views == 1 {
         let started = bench::changes::fresh(bench, costs, sent, held);

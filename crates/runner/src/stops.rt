@@ -4,7 +4,8 @@ ghost use mathlib.Core.Path.{_≡_};
 ghost use Prim.Native.Nat.{_≤_};
 ghost use lib.ListN.{length};
 ghost use Rattle.runner.specs.Events.{line, lineOf};
-ghost use Rattle.runner.specs.Steps.{countOf, stopNumber, lastText};
+ghost use Rattle.runner.specs.Steps.{countOf, lastText};
+ghost use Rattle.plan.specs.Reading.{stopNumber};
 
 pub(crate) fn count_of(written: text::Written) -> usize
     ensures { λ r. ⌜ r ≡ countOf written ⌝ }

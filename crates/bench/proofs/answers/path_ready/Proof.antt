@@ -1,9 +1,9 @@
 -- `answers::path_ready` meets its contract: nothing of the table applies, then the walk itself. Assumes nothing.
 use mathlib.Core.Path.{sym, _∙_, refl}
 use mathlib.Core.List.{[]}
-use Rattle.bench.specs.Answers.{pathOf}
-use Rattle.bench.specs.Deliveries.{refusedBy}
-use Rattle.bench.specs.State.{networkOf}
+use Rattle.bench.specs.Private.Answers.{pathOf}
+use Rattle.bench.specs.Contracts.{refusedBy}
+use Rattle.bench.specs.Private.Views.{networkOf}
 use Rattle.protocol.specs.Calls.{refuse, checks, noSuchBridge}
 use Rattle.bench.proofs.PathSteps.{bridges-listed}
 use Rattle.bench.proofs.ChoiceSteps.{ports-told}

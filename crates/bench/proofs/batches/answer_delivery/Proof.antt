@@ -1,6 +1,6 @@
 -- `batches::answer_delivery` meets its contract: the number, and the answer where there is one. Assumes nothing.
 use mathlib.Core.Path.{refl}
-use Rattle.bench.specs.Batches.{valueNumbers}
+use Rattle.bench.specs.Private.ListSteps.{valueNumbers}
 use borrow.Author.Needs.{needs}
 use Rattle.bench.proofs.batches.answer_delivery.Statement.{statement}
 use Rattle.bench.proofs.batches.answer_delivery.Tie as tie

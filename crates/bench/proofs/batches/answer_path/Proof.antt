@@ -1,8 +1,8 @@
 -- `batches::answer_path` meets its contract: the number, and a path's three numbers where there is one. Assumes nothing.
 use mathlib.Core.Path.{refl, subst}
 use native.Mathlib.Omega.{arith}
-use Rattle.bench.specs.Batches.{valueNumbers}
-use Rattle.bench.specs.Answers.{PathFits}
+use Rattle.bench.specs.Private.ListSteps.{valueNumbers}
+use Rattle.bench.specs.Private.Answers.{PathFits}
 use Rattle.bench.proofs.batches.answer_path.Statement.{statement}
 use Rattle.bench.proofs.batches.answer_path.Tie as tie
 

@@ -3,7 +3,8 @@ use mathlib.Core.Path.{refl, sym, _∙_}
 use native.Mathlib.Omega.{arith}
 use mathlib.Core.List.{[]}
 use Rattle.protocol.specs.Calls.{checks, refuse}
-use Rattle.bench.specs.State.{State, state, networkOf}
+use Rattle.bench.specs.State.{State, state}
+use Rattle.bench.specs.Private.Views.{networkOf}
 use Rattle.bench.proofs.BatchSteps.{report-refused, report-done}
 use Rattle.bench.proofs.ChoiceSteps.{ports-told}
 use Rattle.bench.proofs.PathSteps.{bridge-listed}

@@ -10,18 +10,19 @@ use lib.Seq.{length-take-le, getD-take}
 use lib.Dec.{ltb, eqb}
 use Rattle.distances.proofs.Booleans.{both-true}
 use Rattle.bench.specs.State.{State, state}
-use Rattle.bench.specs.Deliveries.{deliveryReady}
+use Rattle.bench.specs.Ranges.{stateInRange}
 use Rattle.bench.specs.Batches.{batchFrom, Batch}
-use Rattle.bench.specs.Changes.{ChangeOutcome, stateInRange}
-use Rattle.bench.specs.Chains.{Chained}
-use Rattle.bench.specs.Effects.{stateOf, appliedTo}
-use Rattle.bench.specs.Steps.{Tables}
+use Rattle.bench.specs.Private.Changes.{ChangeOutcome}
+use Rattle.bench.specs.Ranges.{networkInRange}
+use Rattle.bench.specs.Private.Chains.{Chained}
+use Rattle.bench.specs.Private.Effects.{stateOf, appliedTo}
+use Rattle.bench.specs.Private.Steps.{Tables}
 use Rattle.bench.specs.declared.Bench.{Bench}
 use Rattle.agreement.specs.Record.{freshRecord}
 use Rattle.agreement.proofs.Basics.{getD-default}
 use Rattle.bench.proofs.ArrivalSteps.{arrival-told}
 use Rattle.bench.proofs.BatchLoop.{Underway, left, begins, turned, stands, ended, shrinks, behind-all, none-behind}
-use Rattle.bench.proofs.CallLengths.{records-long}
+use Rattle.bench.proofs.TieMovedEnds.{records-long}
 use Rattle.bench.proofs.ChainSteps.{ends-told}
 use Rattle.bench.proofs.ChainLaws.{chained-same}
 use Rattle.bench.proofs.ChoiceReads.{record-fits}
@@ -41,7 +42,7 @@ abbrev Inv-loop : tie.InvT-loop
 Inv-loop costs sent₀ held₀ flight₀ count answers₀ events tables₀ known₀ places chain current₀ how₀ made₀ answered₀ going₀ sent held flight answers tables known current how made answered going =
     Underway (batchFrom (length answers₀) (state current₀ costs sent₀ held₀ flight₀) (take count events)) (take count events) answers₀
     (state current costs sent held flight) made answered answers going how
-    × (deliveryReady (state current costs sent held flight) ≡ true)
+    × (stateInRange (state current costs sent held flight) ≡ true)
     × Tables current costs tables known
     × (length sent ≡ length sent₀)
     × (length held ≡ length held₀)
@@ -251,7 +252,7 @@ loop-again-5 c =
     let done = c .before .before .before .before .before .before .before .before .before .before .before .before .before .before .before .before .before .before .before .before .before .before .before .before .before .carry-out in
     let now = ap (stateOf (Then (c .before .before .before .before .before .before .before .before .before .before .before .before .before .before .before .before .before .before .before .before .before .before .before .before .before))) (c .before .before .before .before .moved .ensures) in (
       rw (none-behind (l .answers) _ (l .answered)) (stands now (rw (c .before .before .before .before .before .before .before .before .before .before .effect4 .given .1) at (turn (c .before .before .before .before .before .before .before .before .before .before .before .before .before .before .before .before .before .before .before .before .before .before .before .before .before)))),
-      ap (λ (z : State). deliveryReady z) now ∙ (rw (c .before .before .before .before .before .before .before .before .before .before .effect4 .given .1) at (done .ensures .0 .ready)),
+      ap (λ (z : State). stateInRange z) now ∙ (rw (c .before .before .before .before .before .before .before .before .before .before .effect4 .given .1) at (done .ensures .0 .ready)),
       tables-same (l .current) (c .before .before .before .before .moved .result) _ _ _ (sym (ap (λ (o : ChangeOutcome). o .bench .bridges) (c .before .before .before .before .moved .ensures))) (sym (ap (λ (o : ChangeOutcome). o .bench .links) (c .before .before .before .before .moved .ensures)))
           (sym (ap (λ (o : ChangeOutcome). o .bench .ends) (c .before .before .before .before .moved .ensures))) (done .ensures .1 .1),
       c .before .before .before .before .moved .kept .1 .1 .1 .1 .1 .1 .0 ∙ (done .kept .1 .1 .1 .1 .1 .1 .0 ∙ l .inv .3),
@@ -266,7 +267,7 @@ slice-aggregate-end-chains : tie.Need-slice-aggregate-end-chains Inv-loop μ-loo
 slice-aggregate-end-chains c = sym (placed (c .before .before .before .before .before .before .before))
 
 end-chains-requires : tie.Need-end-chains-requires Inv-loop μ-loop
-end-chains-requires c κs = ends-told _ _ _ _ (both-true (stateInRange (At (c .before .before .before .before .before .before .before) (c .before .before .before .before .before .before .before .args .bench) (c .before .before .before .before .before .before .before .args .sent .now) (c .before .before .before .before .before .before .before .args .held .now) (c .before .before .before .before .before .before .before .args .flight .now))) _ (c .before .before .before .before .before .before .before .pre .0) .0)
+end-chains-requires c κs = ends-told _ _ _ _ (both-true (networkInRange (At (c .before .before .before .before .before .before .before) (c .before .before .before .before .before .before .before .args .bench) (c .before .before .before .before .before .before .before .args .sent .now) (c .before .before .before .before .before .before .before .args .held .now) (c .before .before .before .before .before .before .before .args .flight .now))) _ (c .before .before .before .before .before .before .before .pre .0) .0)
 
 slice-aggregate-carry-out-3 : tie.Need-slice-aggregate-carry-out-3 Inv-loop μ-loop
 slice-aggregate-carry-out-3 c = sym (c .before .before .before .before .before .before .before .before .before .before .before .end-chains .ensures .long)
@@ -306,7 +307,7 @@ moved-requires c κs =
     let l = c .before .before .before .before .before .before .before .before .before .before .before .before .before .before .before .before .before .before .before .before .before .before .before .before .before .before .before .before .before .before .before .before .before .before .before .loop in
     let can = rw (c .before .before .before .before .before .effect4 .given .1) at (c .before .before .before .before .before .before .before .before .before .before .before .before .before .before .before .before .before .before .before .before .carry-out .ensures .1 .0) in
     let tables = c .before .before .before .before .before .before .before .before .before .before .before .before .before .before .before .before .before .before .before .before .carry-out .ensures .1 .1 in
-    let inside = both-true (stateInRange (At (c .before .before .before .before .before .before .before .before .before .before .before .before .before .before .before .before .before .before .before .before .before .before .before .before .before .before .before .before .before .before .before .before .before .before .before .before .before .before .before .before .before .before .before .before) (l .current) (l .sent) (l .held) (l .flight))) _ (l .inv .1) .0 in
+    let inside = both-true (networkInRange (At (c .before .before .before .before .before .before .before .before .before .before .before .before .before .before .before .before .before .before .before .before .before .before .before .before .before .before .before .before .before .before .before .before .before .before .before .before .before .before .before .before .before .before .before .before) (l .current) (l .sent) (l .held) (l .flight))) _ (l .inv .1) .0 in
     let ready = network-told _ _ _ _ inside in (
       (rw (c .before .before .before .before .before .before .before .before .before .before .before .before .before .before .before .before .before .before .before .before .carry-out .kept .1 .1 .1 .1 .1 .1 .0, c .before .before .before .before .before .before .before .before .before .before .before .before .before .before .before .before .before .before .before .before .carry-out .kept .1 .1 .1 .1 .1 .1 .1 .0) inside, can .bridge, can .view, le-of-eq (sym (tables .long)), can .number),
       (tables-filled (l .current) _ _ _ tables _ (lt-of-lt-of-le (can .view) (ready .fewViews)) (can .filled), l .inv .6),

@@ -1,19 +1,27 @@
 -- `changes::cut` meets its contract: out of range, turned down, or the link is cut. Assumes nothing.
 use native.Mathlib.Omega.{arith}
-use Prim.Native.Nat.{ℕ}
 use mathlib.Core.Path.{_≡_, refl, sym, _∙_}
 use mathlib.Core.Bool.{true}
 use mathlib.Core.List.{[]}
 use borrow.Author.Needs.{needs}
 use borrow.Author.Tests.{not-true, not-false}
-use Rattle.protocol.specs.Calls.{refuse, checks, changeChecks}
-use Rattle.bench.specs.State.{networkOf}
 use Rattle.bench.specs.Ranges.{benchInRange}
-use Rattle.bench.specs.Changes.{benchOutcome, cutOf}
-use Rattle.bench.proofs.EntryOutcomes.{out-of-range, turned-down, goes-on, link-listed}
 use Rattle.bench.proofs.EntryChecks.{bench-counted}
+use Prim.Native.Nat.{_<_}
+use lib.ListN.{length}
+use Rattle.protocol.specs.Calls.{change, cut, refuse, checks, changeChecks, noSuchLink, already}
+use Rattle.bench.specs.State.{state, network}
+use Rattle.bench.specs.Private.Views.{networkOf}
+use Rattle.bench.specs.Contracts.{readyFor}
+use Rattle.bench.proofs.EntryOutcomes.{link-listed}
+use Rattle.bench.proofs.OutcomeLaws.{range-refused, table-refused, call-done}
+use Rattle.bench.proofs.Stepped.{cut-is}
 use Rattle.bench.proofs.changes.cut.Statement.{statement}
 use Rattle.bench.proofs.changes.cut.Tie as tie
+
+-- as many flags as the type says
+flags : (s : tie.Start) → length (s .args .bench .cut) ≡ 32
+flags s = search needs
 
 inside : (c : tie.Else1) → benchInRange (c .before .before .args .bench) ≡ true
 inside c = sym (c .before .bench-in-range .ensures) ∙ not-false _ (c .if1 .left)
@@ -22,27 +30,26 @@ bench-in-range-requires : tie.Need-bench-in-range-requires
 bench-in-range-requires c κs = tt
 
 refused-requires : tie.Need-refused-requires
-refused-requires c κs = search needs
+refused-requires c κs = tt
 
 returns : tie.Need-returns
-unfolding cutOf
-returns c = (
-  c .refused .ensures .0 ∙ out-of-range _ _ _ (λ k. benchOutcome k (c .before .before .before .args .bench)) _ (sym (c .before .before .bench-in-range .ensures) ∙ not-true _ (c .before .if1 .taken)),
-  c .refused .ensures .1,
-)
+unfolding readyFor
+returns c = λ costs sent held messages.
+    rw (c .refused .ensures .0, c .refused .ensures .1)
+    (range-refused (state (c .before .before .before .args .bench) costs sent held messages) (change (cut (c .before .before .before .args .link))) (λ n. tt) (sym (c .before .before .bench-in-range .ensures) ∙ not-true _ (c .before .if1 .taken)))
 
 cut-refusal-requires : tie.Need-cut-refusal-requires
 cut-refusal-requires c κs = bench-counted _ (inside (c .before)) .links
 
 refused-requires-2 : tie.Need-refused-requires-2
-refused-requires-2 c κs = omega arith
+refused-requires-2 c κs = tt
 
 returns-2 : tie.Need-returns-2
-unfolding cutOf
-returns-2 c = (
-  c .refused2 .ensures .0 ∙ turned-down _ _ _ (λ k. benchOutcome k (c .before .before .before .before .before .before .args .bench)) _ (inside (c .before .before .before .before)) _ (c .before .before .cut-refusal .ensures (c .before .before .before .before .before .before .args .bench) refl refl) (c .before .if2 .taken),
-  c .refused2 .ensures .1,
-)
+unfolding readyFor refuse checks changeChecks noSuchLink already
+returns-2 c = λ costs sent held messages.
+    let a = c .before .before .before .before .before .before .args in
+    rw (c .refused2 .ensures .0, c .refused2 .ensures .1)
+    (table-refused (state (a .bench) costs sent held messages) (change (cut (a .link))) (λ n. tt) (inside (c .before .before .before .before)) _ (c .before .before .cut-refusal .ensures (a .bench) refl refl) (c .before .if2 .taken))
 
 with-cut-requires : tie.Need-with-cut-requires
 unfolding refuse checks changeChecks
@@ -53,11 +60,15 @@ with-cut-requires c κs = omega (
 )
 
 returns-3 : tie.Need-returns-3
-unfolding cutOf
-returns-3 c = (
-  rw (c .with-cut .ensures) (goes-on _ _ _ (λ k. benchOutcome k (c .before .before .before .before .before .before .args .bench)) _ (inside (c .before .before .before .before)) _ (c .before .before .cut-refusal .ensures (c .before .before .before .before .before .before .args .bench) refl refl) (c .before .if2 .left)),
-  tt,
-)
+unfolding readyFor refuse checks changeChecks noSuchLink already
+returns-3 c = λ costs sent held messages.
+    let a = c .before .before .before .before .before .before .args in
+    let s = state (a .bench) costs sent held messages in
+    let none : refuse (network s) (change (cut (a .link))) ≡ 0 = sym (c .before .before .cut-refusal .ensures (a .bench) refl refl) ∙ c .before .if2 .left in
+    let low : a .link < a .bench .links = link-listed (network s) (a .link) _ none in
+    rw (c .with-cut .ensures)
+    (call-done s (change (cut (a .link))) (λ n. tt) (inside (c .before .before .before .before)) none
+    (cut-is s (a .link) low (omega (arith, bench-counted _ (inside (c .before .before .before .before)) .links, flags (c .before .before .before .before .before .before))) none) refl)
 
 pub cut-spec : {M : Type 1} → statement M
 cut-spec =

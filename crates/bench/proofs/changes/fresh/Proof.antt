@@ -5,10 +5,14 @@ use borrow.Author.Tests.{not-true, not-false}
 use borrow.Author.Needs.{needs}
 use Rattle.distances.proofs.Booleans.{both-true}
 use Rattle.distances.specs.Call.{Outcome}
-use Rattle.bench.specs.State.{distanceTable}
-use Rattle.bench.specs.Changes.{BenchOutcome, changeOutcome, freshOf}
+use Rattle.bench.specs.Private.Views.{distanceTable}
 use Rattle.bench.proofs.EntryChecks.{graph-counted}
 use Rattle.bench.proofs.ChangeEntry.{plan-lasting}
+use Rattle.agreement.specs.Call.{says}
+use Rattle.bench.specs.State.{state}
+use Rattle.bench.specs.Contracts.{outcome, freshOf}
+use Rattle.bench.specs.Private.Changes.{LimitTables}
+use Rattle.bench.proofs.FreshStands.{fresh-left}
 use Rattle.bench.proofs.changes.fresh.Statement.{statement}
 use Rattle.bench.proofs.changes.fresh.Tie as tie
 
@@ -16,16 +20,12 @@ plan-in-range-requires : tie.Need-plan-in-range-requires
 plan-in-range-requires c κs = tt
 
 refused-requires : tie.Need-refused-requires
-refused-requires c κs = omega arith
+refused-requires c κs = tt
 
 returns : tie.Need-returns
 unfolding freshOf
-returns c =
-    let a = c .before .before .before .before .before .before .args in (
-      ap (λ (o : BenchOutcome). changeOutcome (o .reply) (o .bench) (a .sent .now) (a .held .now)) (c .refused .ensures .0)
-          ∙ rw (sym (c .before .before .plan-in-range .ensures) ∙ not-true _ (c .before .if1 .taken)),
-      c .refused .ensures .1,
-    )
+returns c = λ messages.
+    rw (c .refused .ensures .0, c .refused .ensures .1, sym (c .before .before .plan-in-range .ensures) ∙ not-true _ (c .before .if1 .taken))
 
 slice-aggregate-distances : tie.Need-slice-aggregate-distances
 slice-aggregate-distances c = search needs
@@ -70,17 +70,13 @@ same-length-2 : tie.Need-same-length-2
 same-length-2 c = c .before .before .before .before .before .start-ends .kept .1 .1 .1 .1 .0
 
 returns-2 : tie.Need-returns-2
-unfolding freshOf distanceTable
-returns-2 c =
-    let table = ap (λ (o : Outcome). o .table) (c .before .before .before .before .before .before .before .before .before .before .before .distances .ensures) in (
-      rw (
-        sym (c .before .before .before .before .before .before .before .before .before .before .before .before .before .before .before .before .before .plan-in-range .ensures) ∙ not-false _ (c .before .before .before .before .before .before .before .before .before .before .before .before .before .before .before .before .if1 .left),
-        c .fresh-bench .ensures,
-        ← table,
-        ← c .before .before .before .before .before .start-ends .ensures,
-      ),
-      tt,
-    )
+unfolding distanceTable
+returns-2 c = λ messages.
+    let a = c .before .before .before .before .before .before .before .before .before .before .before .before .before .before .before .before .before .before .before .before .before .args in
+    let table = ap (λ (o : Outcome). o .table) (c .before .before .before .before .before .before .before .before .before .before .before .distances .ensures) in
+    let ok = sym (c .before .before .before .before .before .before .before .before .before .before .before .before .before .before .before .before .before .plan-in-range .ensures) ∙ not-false _ (c .before .before .before .before .before .before .before .before .before .before .before .before .before .before .before .before .if1 .left) in
+    ap (λ (x : LimitTables). outcome (says tt) (state (c .fresh-bench .result) (a .costs .now) (x .sent) (x .held) messages)) (rw table at (c .before .before .before .before .before .start-ends .ensures))
+    ∙ rw (c .fresh-bench .ensures) (fresh-left (state (a .bench) (a .costs .now) (a .sent .now) (a .held .now) messages) ok)
 
 pub fresh-spec : {M : Type 1} → statement M
 fresh-spec =

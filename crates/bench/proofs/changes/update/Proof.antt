@@ -1,49 +1,68 @@
 -- `changes::update` meets its contract: out of range, turned down, on the view already, or moved. Assumes nothing.
-use Prim.Native.Nat.{ℕ}
 use mathlib.Core.Path.{_≡_, sym, _∙_, ap, refl}
 use mathlib.Core.Bool.{true}
-use mathlib.Core.List.{[]}
 use native.Mathlib.Nat.{lt-of-lt-of-le, le-of-eq}
-use lib.ListN.{length}
 use borrow.Author.Needs.{needs}
 use borrow.Author.Tests.{not-true, not-false}
 use Rattle.bench.specs.State.{State, state}
-use Rattle.bench.specs.Changes.{BenchOutcome, changeOutcome, stateInRange, updateOf}
-use Rattle.bench.specs.Effects.{updatingTo}
-use Rattle.bench.proofs.EntryOutcomes.{out-of-range}
+use Rattle.bench.specs.Ranges.{networkInRange}
 use Rattle.bench.proofs.QueueRanges.{network-told}
 use Rattle.bench.proofs.TableSteps.{tables-none, tables-filled}
 use Rattle.bench.proofs.ChainSteps.{ends-told}
+use Prim.Native.Nat.{ℕ}
+use mathlib.Core.List.{List, []}
+use lib.ListN.{length}
+use Rattle.agreement.specs.Call.{says}
+use Rattle.protocol.specs.Calls.{change, update}
+use Rattle.bench.specs.Contracts.{readyFor, outcome, outcomeOf}
+use Rattle.bench.specs.Private.Changes.{ChangeOutcome}
+use Rattle.bench.specs.Private.Effects.{updatingTo, updatingResponse}
+use Rattle.bench.proofs.Represents.{Typed}
+use Rattle.bench.proofs.CallSteps.{withRewritten}
+use Rattle.bench.proofs.OutcomeLaws.{range-refused}
+use Rattle.bench.proofs.CallOutcomes.{update-outcome}
+use Rattle.bench.proofs.Types.{typed-by}
 use Rattle.bench.proofs.changes.update.Statement.{statement}
 use Rattle.bench.proofs.changes.update.Tie as tie
 
--- what is handed over
-abbrev Given : tie.Start → State
-Given s = let a = s .args in state (a .bench) (a .costs .now) (a .sent .now) (a .held .now) []
+-- what is handed over, beside any messages
+abbrev Given : tie.Start → List ℕ → State
+Given s messages = let a = s .args in state (a .bench) (a .costs .now) (a .sent .now) (a .held .now) messages
+
+-- what the types tell of the bench
+typed : (s : tie.Start) → Typed (s .args .bench)
+typed s = typed-by _ _ (s .good .0)
 
 placed : (s : tie.Start) → length (s .args .bench .ends) ≡ 64
 placed s = search needs
 
-inside : (c : tie.Else1) → stateInRange (Given (c .before .before .before .before .before)) ≡ true
+inside : (c : tie.Else1) → networkInRange (Given (c .before .before .before .before .before) []) ≡ true
 inside c = sym (c .before .network-in-range .ensures) ∙ not-false _ (c .if1 .left)
 
 -- what the update comes to
-comes : (c : tie.After-update-ready) → updatingTo (c .update-ready .result) (Given (c .before .before .before .before .before .before .before .before)) (c .before .before .before .before .before .before .before .before .args .bridge) (c .before .before .before .before .before .before .before .before .args .view) ≡ updateOf (Given (c .before .before .before .before .before .before .before .before)) (c .before .before .before .before .before .before .before .before .args .bridge) (c .before .before .before .before .before .before .before .before .args .view)
-comes c = c .update-ready .ensures .0 (Given (c .before .before .before .before .before .before .before .before)) refl (inside (c .before .before .before))
+comes :
+    (c : tie.After-update-ready) (messages : List ℕ) →
+    let a = c .before .before .before .before .before .before .before .before .args in
+    let s : State = Given (c .before .before .before .before .before .before .before .before) messages in
+    outcome (updatingResponse (c .update-ready .result)) (withRewritten s (updatingTo (c .update-ready .result) s (a .bridge) (a .view)))
+    ≡ outcomeOf s (change (update (a .bridge) (a .view))) (λ n. tt)
+comes c messages =
+    let s = Given (c .before .before .before .before .before .before .before .before) messages in
+    update-outcome s (inside (c .before .before .before)) (typed (c .before .before .before .before .before .before .before .before)) _ _ (c .update-ready .result) _
+    (c .update-ready .ensures .0 s refl (inside (c .before .before .before))) (c .update-ready .ensures .1 .0)
 
 network-in-range-requires : tie.Need-network-in-range-requires
 network-in-range-requires c κs = tt
 
 refused-requires : tie.Need-refused-requires
-refused-requires c κs = search needs
+refused-requires c κs = tt
 
 returns : tie.Need-returns
-unfolding updateOf
-returns c = let a = c .before .before .before .before .before .before .args in (
-  ap (λ (o : BenchOutcome). changeOutcome (o .reply) (o .bench) (a .sent .now) (a .held .now)) (c .refused .ensures .0)
-      ∙ out-of-range _ _ _ (λ k. changeOutcome k (a .bench) (a .sent .now) (a .held .now)) _ (sym (c .before .before .network-in-range .ensures) ∙ not-true _ (c .before .if1 .taken)),
-  c .refused .ensures .1,
-)
+unfolding readyFor
+returns c = λ messages.
+    let a = c .before .before .before .before .before .before .args in
+    rw (c .refused .ensures .0, c .refused .ensures .1)
+    (range-refused (Given (c .before .before .before .before .before .before) messages) (change (update (a .bridge) (a .view))) (λ n. tt) (sym (c .before .before .network-in-range .ensures) ∙ not-true _ (c .before .if1 .taken)))
 
 update-ready-requires : tie.Need-update-ready-requires
 update-ready-requires c κs = (network-told _ _ _ _ (inside (c .before .before)), tables-none (c .before .before .before .before .before .before .before .args .bench) _)
@@ -64,7 +83,7 @@ enum-known-updating : tie.Need-enum-known-updating
 enum-known-updating c = c .match .keys1
 
 refused-requires-2 : tie.Need-refused-requires-2
-refused-requires-2 c κs = rw (c .before .updating .given .1) at (c .before .before .before .before .before .before .before .before .update-ready .ensures .1 .0)
+refused-requires-2 c κs = tt
 
 enum-told : tie.Need-enum-told
 enum-told c = c .match .keys2
@@ -88,14 +107,11 @@ moved-requires c κs =
     )
 
 returns-2 : tie.Need-returns-2
-returns-2 c = let a = c .before .before .before .before .before .before .before .before .before .before .before .before .before .before .before .before .before .args in (
-  ap (λ (o : BenchOutcome). changeOutcome (o .reply) (o .bench) (a .sent .now) (a .held .now)) (c .refused2 .ensures .0)
-      ∙ (rw (c .before .before .updating .given .1) at (comes (c .before .before .before .before .before .before .before .before .before))),
-  c .refused2 .ensures .1,
-)
+returns-2 c = λ messages.
+    rw (c .refused2 .ensures .0, c .refused2 .ensures .1) (rw (c .before .before .updating .given .1) at (comes (c .before .before .before .before .before .before .before .before .before) messages))
 
 returns-3 : tie.Need-returns-3
-returns-3 c = (rw (c .enum-told .given .1) at (comes (c .before .before .before .before .before .before .before)), tt)
+returns-3 c = λ messages. rw (c .enum-told .given .1) at (comes (c .before .before .before .before .before .before .before) messages)
 
 same-length : tie.Need-same-length
 same-length c = c .before .before .before .before .moved .kept .1 .1 .1 .1 .1 .1 .0
@@ -104,7 +120,9 @@ same-length-2 : tie.Need-same-length-2
 same-length-2 c = c .before .before .before .before .moved .kept .1 .1 .1 .1 .1 .1 .1 .0
 
 returns-4 : tie.Need-returns-4
-returns-4 c = (c .before .before .before .before .moved .ensures ∙ (rw (c .before .before .before .before .before .before .before .before .before .enum-told2 .given .1) at (comes (c .before .before .before .before .before .before .before .before .before .before .before .before .before .before .before .before))), tt)
+returns-4 c = λ messages.
+    ap (λ (o : ChangeOutcome). outcome (says tt) (withRewritten (Given (c .before .before .before .before .before .before .before .before .before .before .before .before .before .before .before .before .before .before .before .before .before .before .before .before) messages) o)) (c .before .before .before .before .moved .ensures)
+    ∙ (rw (c .before .before .before .before .before .before .before .before .before .enum-told2 .given .1) at (comes (c .before .before .before .before .before .before .before .before .before .before .before .before .before .before .before .before) messages))
 
 pub update-spec : {M : Type 1} → statement M
 update-spec =

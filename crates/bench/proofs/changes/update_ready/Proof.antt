@@ -1,5 +1,5 @@
 -- `changes::update_ready` meets its contract. What is not turned down moves its bridge, unless the bridge is on the view. Assumes nothing.
-use Prim.Native.Nat.{ℕ, _<_}
+use Prim.Native.Nat.{_<_}
 use mir.Val.{Fits}
 use mir.Syntax.{w16}
 use native.Mathlib.Omega.{arith}
@@ -8,7 +8,8 @@ use mathlib.Core.Path.{_≡_, refl, ap, sym, _∙_}
 use borrow.Author.Needs.{needs}
 use lib.ListN.{getD}
 use native.Mathlib.Nat.{lt-of-lt-of-le}
-use Rattle.bench.specs.State.{State, networkOf}
+use Rattle.bench.specs.State.{State}
+use Rattle.bench.specs.Private.Views.{networkOf}
 use Rattle.bench.specs.declared.Bench.{Bench}
 use Rattle.bench.proofs.ChangeEntry.{update-told, number-left}
 use Rattle.bench.proofs.UpdateSteps.{turns-down, changes-nothing, moves-it}

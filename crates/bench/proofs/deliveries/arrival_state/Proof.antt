@@ -5,7 +5,7 @@ use Prim.Native.Nat.{ℕ, _<_}
 use mathlib.Core.Path.{ap}
 use lib.ListN.{getD}
 use Rattle.agreement.proofs.Ends.{opposite-below}
-use Rattle.bench.specs.Effects.{endStateIn}
+use Rattle.bench.specs.Private.Effects.{endStateIn}
 use Rattle.bench.proofs.QueueReads.{from-low}
 use Rattle.bench.proofs.ChoiceReads.{bridge-fits}
 use Rattle.bench.proofs.ViewReads.{number-fits}

@@ -5,7 +5,7 @@ use borrow.Author.Needs.{needs}
 use lib.ListN.{length}
 use native.Mathlib.Nat.{le-antisymm}
 use Rattle.agreement.specs.Call.{viewData}
-use Rattle.bench.specs.Changes.{limitTables, startedEnds}
+use Rattle.bench.specs.Private.Changes.{limitTables, startedEnds}
 use Rattle.bench.proofs.ChangeSteps.{started-more}
 use Rattle.bench.proofs.ChoiceReads.{end-low, ends-fit}
 use Rattle.bench.proofs.LoopSteps.{next-fits, next-low, fewer-left}

@@ -1,5 +1,4 @@
 -- `messages::deliver` meets its contract: out of range, or `deliver_ready`, and then the bench with what it took. Assumes nothing.
-use native.Mathlib.Omega.{arith}
 use Prim.Native.Nat.{ℕ}
 use mathlib.Core.Path.{_≡_, sym, _∙_, refl, ap}
 use mathlib.Core.Bool.{true}
@@ -7,16 +6,22 @@ use borrow.Author.Needs.{needs}
 use lib.ListN.{length, getD}
 use Rattle.agreement.proofs.Basics.{getD-default}
 use Rattle.agreement.specs.Record.{freshRecord}
-use Rattle.bench.specs.Deliveries.{deliveryReady}
+use Rattle.bench.specs.Ranges.{stateInRange}
 use Rattle.bench.proofs.ChangeSteps.{length-mapped}
 use Rattle.bench.proofs.ChoiceReads.{record-fits}
 use Rattle.bench.proofs.TieRanges.{told}
 use Rattle.bench.proofs.ArrivalSteps.{arrival-told}
 use borrow.Author.Tests.{not-true, not-false}
 use Rattle.bench.specs.State.{State, state}
-use Rattle.bench.proofs.TieRefusals.{refusal-out}
-use Rattle.bench.proofs.QueueCalls.{deliver-refused}
 use Rattle.bench.proofs.TableSteps.{tables-none}
+use Rattle.protocol.specs.Calls.{deliver, answerAt}
+use Rattle.bench.specs.Contracts.{readyFor, outcome}
+use Rattle.bench.specs.Private.Deliveries.{DeliveryOutcome}
+use Rattle.bench.proofs.Represents.{Typed}
+use Rattle.bench.proofs.CallSteps.{withDelivered}
+use Rattle.bench.proofs.OutcomeLaws.{range-refused}
+use Rattle.bench.proofs.CallOutcomes.{deliver-outcome}
+use Rattle.bench.proofs.Types.{typed-by}
 use Rattle.bench.proofs.messages.deliver.Statement.{statement}
 use Rattle.bench.proofs.messages.deliver.Tie as tie
 
@@ -24,11 +29,15 @@ use Rattle.bench.proofs.messages.deliver.Tie as tie
 abbrev Given : tie.Start → State
 Given s = let a = s .args in state (a .t1) (a .costs .now) (a .sent .now) (a .held .now) (a .messages .now)
 
+-- what the types tell of the bench
+typed : (s : tie.Start) → Typed (s .args .t1)
+typed s = typed-by _ _ (s .good .0)
+
 -- as many records as the type says
 listed : (s : tie.Start) → length (s .args .t1 .records) ≡ 64
 listed s = search (needs, length-mapped)
 
-inside : (c : tie.Else1) → deliveryReady (Given (c .before .before .before .before .before .before .before)) ≡ true
+inside : (c : tie.Else1) → stateInRange (Given (c .before .before .before .before .before .before .before)) ≡ true
 inside c = sym (c .before .delivery-in-range .ensures) ∙ not-false _ (c .if1 .left)
 
 delivery-in-range-requires : tie.Need-delivery-in-range-requires
@@ -41,7 +50,10 @@ same-length : tie.Need-same-length
 same-length c = refl
 
 returns : tie.Need-returns
-returns c = deliver-refused (Given (c .before .before .before .before .before .before .before .before)) _ 17 (refusal-out _ _ _ (sym (c .before .before .delivery-in-range .ensures) ∙ not-true _ (c .before .if1 .taken))) (λ z. omega arith) (c .refused-delivery .ensures .0) (c .refused-delivery .ensures .1)
+unfolding readyFor
+returns c =
+    rw (c .refused-delivery .ensures .0, c .refused-delivery .ensures .1)
+    (range-refused (Given (c .before .before .before .before .before .before .before .before)) (deliver (c .before .before .before .before .before .before .before .before .args .place)) (λ n. answerAt n (c .before .before .before .before .before .before .before .before .args .place)) (sym (c .before .before .delivery-in-range .ensures) ∙ not-true _ (c .before .if1 .taken)))
 
 deliver-ready-requires : tie.Need-deliver-ready-requires
 deliver-ready-requires c κs = let a = c .before .before .before .before .before .before .before .before .before .before .before .before .before .before .before .args in (
@@ -62,7 +74,10 @@ same-length-4 : tie.Need-same-length-4
 same-length-4 c = c .before .before .before .before .before .before .before .before .before .before .deliver-ready .kept .1 .1 .1 .1 .1 .1 .1 .0
 
 returns-2 : tie.Need-returns-2
-returns-2 c = rw (c .taken .ensures .0, c .taken .ensures .1, c .before .taken-count .ensures) (c .before .before .before .before .before .before .before .before .before .before .deliver-ready .ensures .0 .0)
+returns-2 c =
+    let s = c .before .before .before .before .before .before .before .before .before .before .before .before .before .before .before .before .before .before .before .before .before .before .before .before .before .before in
+    ap (λ (o : DeliveryOutcome). outcome (o .reply) (withDelivered (Given s) o)) (rw (c .taken .ensures .0, c .taken .ensures .1, c .before .taken-count .ensures) (c .before .before .before .before .before .before .before .before .before .before .deliver-ready .ensures .0 .0))
+    ∙ deliver-outcome (Given s) (inside (c .before .before .before .before .before .before .before .before .before .before .before .before .before .before .before .before .before .before .before)) (typed s) (s .args .place)
 
 taken-requires : tie.Need-taken-requires
 taken-requires c κs = c .before .before .before .before .before .before .before .before .before .deliver-ready .ensures .0 .1

@@ -6,13 +6,15 @@ use mathlib.Core.Path.{_≡_, sym, _∙_, refl, ap}
 use borrow.Author.Needs.{needs}
 use lib.ListN.{length}
 use native.Mathlib.Nat.{le-of-eq}
-use Rattle.bench.specs.Effects.{receptionResponse, receptionBench, Accepts}
+use Rattle.bench.specs.Private.Effects.{receptionResponse, receptionBench, Accepts}
 use Rattle.bench.specs.declared.effects.EndState.{EndState}
 use Rattle.bench.proofs.ArrivalSteps.{ArrivalFacts, arrival-told, stands-in}
-use Rattle.bench.specs.State.{State, state, networkOf}
+use Rattle.bench.specs.State.{State, state}
+use Rattle.bench.specs.Private.Views.{networkOf}
 use Rattle.protocol.specs.Calls.{deliver, refuse}
-use Rattle.bench.specs.Changes.{refusalOf}
-use Rattle.bench.specs.Deliveries.{deliveryReady, deliveryOutcome, received}
+use Rattle.bench.specs.Contracts.{refusalOf}
+use Rattle.bench.specs.Ranges.{stateInRange}
+use Rattle.bench.specs.Private.Deliveries.{deliveryOutcome, received}
 use Rattle.bench.proofs.TieRefusals.{refusal-ready}
 use Rattle.bench.proofs.TieRanges.{told, few}
 use Rattle.bench.proofs.TieChecks.{message-told}
@@ -26,7 +28,7 @@ abbrev Given : tie.Start → State
 Given s = let a = s .args in state (a .bench) (a .costs .now) (a .sent .now) (a .held .now) (a .messages .now)
 
 -- the table's number, in range
-same : (s : tie.Start) (k : ℕ) → k ≡ refuse (networkOf (s .args .bench) (s .args .messages .now)) (deliver (s .args .place)) → k ≡ refusalOf (deliveryReady (Given s)) (networkOf (s .args .bench) (s .args .messages .now)) (deliver (s .args .place))
+same : (s : tie.Start) (k : ℕ) → k ≡ refuse (networkOf (s .args .bench) (s .args .messages .now)) (deliver (s .args .place)) → k ≡ refusalOf (stateInRange (Given s)) (networkOf (s .args .bench) (s .args .messages .now)) (deliver (s .args .place))
 same s k e = e ∙ sym (refusal-ready _ _ _ (s .pre .0))
 
 -- as many ends as the type says

@@ -1,7 +1,7 @@
 -- `messages::lose_ready` meets its contract. Each refusal is the table's, and an accepted place is one of those in flight. Assumes nothing.
 use native.Mathlib.Omega.{arith}
 use mathlib.Core.Path.{refl, sym, _∙_}
-use Rattle.bench.specs.Queue.{queueOutcome, loseOf}
+use Rattle.bench.specs.Private.Queue.{queueOutcome, loseOf}
 use Rattle.bench.proofs.EntryOutcomes.{turned-down, goes-on}
 use Rattle.bench.proofs.QueueRanges.{flight-told}
 use Rattle.bench.proofs.QueueCalls.{lose-same, lose-told}

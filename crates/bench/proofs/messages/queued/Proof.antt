@@ -1,7 +1,5 @@
 -- `messages::queued` meets its contract. Assumes nothing.
-use borrow.Author.Needs.{needs}
-use mathlib.Core.Path.{refl, subst}
-use Rattle.bench.specs.Effects.{QueueChangeFits}
+use mathlib.Core.Path.{refl}
 use Rattle.bench.proofs.messages.queued.Statement.{statement}
 use Rattle.bench.proofs.messages.queued.Tie as tie
 
@@ -9,7 +7,7 @@ enum-known-queue : tie.Need-enum-known-queue
 enum-known-queue c = c .match .keys1
 
 refused-requires : tie.Need-refused-requires
-refused-requires c κs = subst QueueChangeFits (c .before .queue .given .1) (c .before .before .before .pre)
+refused-requires c κs = tt
 
 enum-known-queue-2 : tie.Need-enum-known-queue-2
 enum-known-queue-2 c = c .match .keys2
@@ -21,7 +19,7 @@ returns : tie.Need-returns
 returns c = rw (c .before .before .queue .given .1) (c .refused .ensures)
 
 returns-2 : tie.Need-returns-2
-returns-2 c = rw (c .before .before .queue2 .given .1, c .with-count .ensures) (refl, tt)
+returns-2 c = rw (c .before .before .queue2 .given .1, c .with-count .ensures) (refl, refl)
 
 pub queued-spec : {M : Type 1} → statement M
 queued-spec =

@@ -9,12 +9,14 @@ use borrow.Author.Tests.{not-true, not-false}
 use Rattle.agreement.proofs.Basics.{getD-default}
 use Rattle.agreement.specs.Record.{freshRecord}
 use Rattle.bench.specs.Ranges.{benchInRange, messagesInRange}
-use Rattle.bench.specs.Queue.{queueOutcome, sendOf}
 use Rattle.bench.proofs.ChangeSteps.{length-mapped}
 use Rattle.bench.proofs.ChoiceReads.{record-fits}
 use Rattle.bench.proofs.QueueRanges.{flight-told}
-use Rattle.bench.proofs.EntryOutcomes.{out-of-range}
-use Rattle.bench.proofs.QueueCalls.{flown-refused}
+use Rattle.protocol.specs.Calls.{send}
+use Rattle.bench.specs.State.{state}
+use Rattle.bench.specs.Contracts.{readyFor}
+use Rattle.bench.proofs.OutcomeLaws.{range-refused}
+use Rattle.bench.proofs.CallOutcomes.{send-outcome}
 use Rattle.bench.proofs.messages.send.Statement.{statement}
 use Rattle.bench.proofs.messages.send.Tie as tie
 
@@ -32,18 +34,17 @@ flight-in-range-requires : tie.Need-flight-in-range-requires
 flight-in-range-requires c κs = tt
 
 refused-requires : tie.Need-refused-requires
-refused-requires c κs = search needs
+refused-requires c κs = tt
 
 same-length : tie.Need-same-length
 same-length c = refl
 
 returns : tie.Need-returns
-unfolding sendOf
-returns c = let a = c .before .before .before .before .before .args in (
-  flown-refused (a .messages .now) (c .refused .ensures .0)
-      ∙ out-of-range _ _ _ (λ k. queueOutcome k (a .t1) (a .messages .now)) _ (sym (c .before .before .flight-in-range .ensures) ∙ not-true _ (c .before .if1 .taken)),
-  c .refused .ensures .1,
-)
+unfolding readyFor
+returns c = λ costs sent held.
+    let a = c .before .before .before .before .before .args in
+    rw (c .refused .ensures .0, c .refused .ensures .1)
+    (range-refused (state (a .t1) costs sent held (a .messages .now)) (send (a .bridge) (a .link)) (λ n. tt) (sym (c .before .before .flight-in-range .ensures) ∙ not-true _ (c .before .if1 .taken)))
 
 send-ready-requires : tie.Need-send-ready-requires
 send-ready-requires c κs = let a = c .before .before .before .before .before .before .before .before .before .args in (
@@ -55,10 +56,13 @@ same-length-2 : tie.Need-same-length-2
 same-length-2 c = c .before .before .before .send-ready .kept .1 .1 .0
 
 returns-2 : tie.Need-returns-2
-returns-2 c = (flown-refused _ (c .queued .ensures .0) ∙ c .before .before .before .send-ready .ensures .0, c .queued .ensures .1)
+returns-2 c = λ costs sent held.
+    let a = c .before .before .before .before .before .before .before .before .before .before .before .before .before .args in
+    rw (c .queued .ensures .0, c .queued .ensures .1)
+    (send-outcome (state (a .t1) costs sent held (a .messages .now)) (inside (c .before .before .before .before .before .before .before .before .before)) (a .bridge) (a .link) (c .before .before .before .send-ready .result) _ (c .before .before .before .send-ready .ensures .0) (c .before .before .before .send-ready .ensures .1))
 
 queued-requires : tie.Need-queued-requires
-queued-requires c κs = c .before .before .send-ready .ensures .1
+queued-requires c κs = tt
 
 slice-aggregate-sending-end : tie.Need-slice-aggregate-sending-end
 slice-aggregate-sending-end c = sym (placed (c .before .before .before .before .before .before))

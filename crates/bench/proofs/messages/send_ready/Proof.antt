@@ -12,8 +12,8 @@ use lib.Seq.{sets}
 use Rattle.agreement.specs.Call.{Response, says, carryingResponse}
 use Rattle.agreement.specs.declared.Agreement.{Agreement}
 use Rattle.protocol.specs.Calls.{send, refuse, messageOf}
-use Rattle.bench.specs.State.{networkOf}
-use Rattle.bench.specs.Queue.{queueOutcome, sendOf}
+use Rattle.bench.specs.Private.Views.{networkOf}
+use Rattle.bench.specs.Private.Queue.{queueOutcome, sendOf}
 use Rattle.bench.proofs.RangesSteps.{sent-stays}
 use Rattle.bench.proofs.EntryOutcomes.{turned-down, goes-on}
 use Rattle.bench.proofs.QueueRanges.{flight-told}

@@ -1,7 +1,7 @@
 -- `messages::taken` meets its contract. Assumes nothing.
 use native.Mathlib.Omega.{arith}
 use mathlib.Core.Path.{refl, subst}
-use Rattle.bench.specs.Effects.{ReceptionFits}
+use Rattle.bench.specs.Private.Effects.{ReceptionFits}
 use Rattle.bench.proofs.messages.taken.Statement.{statement}
 use Rattle.bench.proofs.messages.taken.Tie as tie
 

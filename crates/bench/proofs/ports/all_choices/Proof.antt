@@ -6,7 +6,7 @@ use mathlib.Core.List.{[]}
 use borrow.Author.Needs.{needs}
 use lib.ListN.{length, getD, length-set}
 use Rattle.bench.specs.State.{state}
-use Rattle.bench.specs.Steps.{AreChoices}
+use Rattle.bench.specs.Private.Steps.{AreChoices}
 use Rattle.bench.proofs.ChangeSteps.{length-mapped}
 use Rattle.bench.proofs.ChoiceSteps.{view-low, far-low, choice-more, choices-more}
 use Rattle.bench.proofs.LoopSteps.{next-fits, next-low, fewer-left}

@@ -8,7 +8,7 @@ use lib.ListN.{length, getD, length-set}
 use native.Mathlib.Nat.{lt-of-lt-of-le, le-antisymm, lt-trans}
 use lib.Dec.{lit<}
 use Rattle.bench.specs.State.{state}
-use Rattle.bench.specs.Steps.{AreChoices, AllFilled}
+use Rattle.bench.specs.Private.Steps.{AreChoices, AllFilled}
 use Rattle.bench.proofs.ChangeSteps.{length-mapped}
 use Rattle.bench.proofs.ChoiceSteps.{choice-first, choices-begun}
 use Rattle.bench.proofs.ChoiceReads.{view-fits, block-fits, row-fits, distances-fit, distance-fits, distance-scaled, distance-there, choice-fits}

@@ -6,8 +6,8 @@ use borrow.Author.Needs.{needs}
 use lib.ListN.{length, getD}
 use native.Mathlib.Nat.{lt-of-lt-of-le, le-antisymm}
 use Rattle.bench.specs.State.{state}
-use Rattle.bench.specs.Chains.{IsNext}
-use Rattle.bench.specs.Steps.{choiceIn}
+use Rattle.bench.specs.Private.Chains.{IsNext}
+use Rattle.bench.specs.Private.Steps.{choiceIn}
 use Rattle.bench.proofs.ChangeSteps.{length-mapped}
 use Rattle.bench.proofs.ChoiceSteps.{view-low, far-low, choice-first, choice-more, choice-low, choice-port}
 use Rattle.bench.proofs.ChainLaws.{next-own, first-there, next-there, first-fits, end-fits, fewer-then}

@@ -6,7 +6,7 @@ use lib.ListN.{length}
 use native.Mathlib.Nat.{lt-of-lt-of-le, le-antisymm, lt-trans, le-of-eq, le-refl}
 use lib.Dec.{lit<}
 use Rattle.bench.specs.State.{state}
-use Rattle.bench.specs.Answers.{reported}
+use Rattle.bench.specs.Private.Answers.{reported}
 use Rattle.bench.proofs.PathSteps.{reported-more}
 use Rattle.bench.proofs.ChoiceSteps.{view-low, choice-low, choice-row}
 use Rattle.bench.proofs.TableSteps.{all-filled}

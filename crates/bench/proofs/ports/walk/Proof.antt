@@ -6,8 +6,8 @@ use mathlib.Core.List.{[]}
 use Rattle.agreement.specs.Call.{says}
 use Rattle.protocol.specs.Paths.{onward}
 use Rattle.bench.specs.State.{state}
-use Rattle.bench.specs.Answers.{hopIn}
-use Rattle.bench.specs.Steps.{protocolHop, Tables}
+use Rattle.bench.specs.Private.Answers.{hopIn}
+use Rattle.bench.specs.Private.Steps.{protocolHop, Tables}
 use Rattle.bench.proofs.PathSteps.{hop-leads, onward-here, onward-stops, onward-more, onward-last}
 use Rattle.bench.proofs.ports.walk.Statement.{statement}
 use Rattle.bench.proofs.ports.walk.Tie as tie

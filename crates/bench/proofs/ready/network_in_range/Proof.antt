@@ -1,6 +1,6 @@
 -- `ready::network_in_range` meets its contract. A bench in range has at most 32 views. Assumes nothing.
 use mathlib.Core.Path.{sym, _∙_}
-use Rattle.bench.specs.Ranges.{networkInRange}
+use Rattle.bench.specs.Ranges.{partsInRange}
 use Rattle.bench.proofs.EntryChecks.{bench-counted}
 use Rattle.bench.proofs.ready.network_in_range.Statement.{statement}
 use Rattle.bench.proofs.ready.network_in_range.Tie as tie
@@ -18,7 +18,7 @@ both-requires : tie.Need-both-requires
 both-requires c κs = tt
 
 returns : tie.Need-returns
-unfolding networkInRange
+unfolding partsInRange
 returns c =
     c .both .ensures
     ∙ rw (
@@ -28,7 +28,7 @@ returns c =
     )
 
 returns-2 : tie.Need-returns-2
-unfolding networkInRange
+unfolding partsInRange
 returns-2 c = rw (sym (c .before .bench-in-range .ensures) ∙ c .if1 .left)
 
 pub network-in-range-spec : {M : Type 1} → statement M

@@ -27,20 +27,20 @@ array-read-present c = search needs
 cast-present : tie.Need-cast-present
 cast-present c = search needs
 
-both-requires : tie.Need-both-requires
-both-requires c κs = tt
+numbers-used-up-requires : tie.Need-numbers-used-up-requires
+numbers-used-up-requires c κs = tt
 
 returns-3 : tie.Need-returns-3
 unfolding refuse checks changeChecks noSuchBridge noSuchView noNumberLeft
 returns-3 c = λ b bridges views view number. rw (bridges, views, view, number) (first
     (next (rw (lt-ltb _ _ (c .before .before .before .if1 .left)))
-    (next (rw (lt-ltb _ _ (c .before .before .if2 .left))) (here (sym (c .before .both .ensures) ∙ c .if3 .taken)))))
+    (next (rw (lt-ltb _ _ (c .before .before .if2 .left))) (here (sym (c .before .numbers-used-up .ensures) ∙ c .if3 .taken)))))
 
 returns-4 : tie.Need-returns-4
 unfolding refuse checks changeChecks noSuchBridge noSuchView noNumberLeft
 returns-4 c = λ b bridges views view number. rw (bridges, views, view, number) (first
     (next (rw (lt-ltb _ _ (c .before .before .before .if1 .left)))
-    (next (rw (lt-ltb _ _ (c .before .before .if2 .left))) (next (sym (c .before .both .ensures) ∙ c .if3 .left) none))))
+    (next (rw (lt-ltb _ _ (c .before .before .if2 .left))) (next (sym (c .before .numbers-used-up .ensures) ∙ c .if3 .left) none))))
 
 pub update-refusal-spec : {M : Type 1} → statement M
 update-refusal-spec =
@@ -52,6 +52,6 @@ update-refusal-spec =
     array-read-last
     array-read-present
     cast-present
-    both-requires
+    numbers-used-up-requires
     returns-3
     returns-4)

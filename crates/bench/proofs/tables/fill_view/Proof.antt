@@ -4,7 +4,7 @@ use native.Mathlib.Nat.{add-sub-cancel-left, le-add-right}
 use mathlib.Core.Path.{ap}
 use borrow.Author.Needs.{needs}
 use Rattle.distances.specs.Call.{Outcome}
-use Rattle.bench.specs.Steps.{filledView}
+use Rattle.bench.specs.Private.Steps.{filledView}
 use Rattle.bench.proofs.ViewReads.{block-scaled, block-there}
 use Rattle.bench.proofs.tables.fill_view.Statement.{statement}
 use Rattle.bench.proofs.tables.fill_view.Tie as tie

@@ -6,7 +6,7 @@ use mathlib.Core.Bool.{true, false}
 use mathlib.Core.Logic.{⊎-elim}
 use borrow.Author.Needs.{needs}
 use lib.ListN.{length, getD}
-use Rattle.bench.specs.Steps.{Tables}
+use Rattle.bench.specs.Private.Steps.{Tables}
 use Rattle.bench.proofs.TableSteps.{below-or}
 use Rattle.bench.proofs.tables.need_views.Statement.{statement}
 use Rattle.bench.proofs.tables.need_views.Tie as tie

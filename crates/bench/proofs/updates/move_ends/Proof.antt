@@ -7,8 +7,8 @@ use lib.ListN.{length, getD, length-set}
 use native.Mathlib.Nat.{le-antisymm}
 use Rattle.agreement.specs.Call.{viewData}
 use Rattle.agreement.proofs.BetweenLaws.{EndExists, end-listed}
-use Rattle.bench.specs.Changes.{ends, movedEnds}
-use Rattle.bench.specs.Chains.{IsNext}
+use Rattle.bench.specs.Private.Changes.{ends, movedEnds}
+use Rattle.bench.specs.Private.Chains.{IsNext}
 use Rattle.bench.proofs.ChangeSteps.{length-mapped}
 use Rattle.bench.proofs.ChoiceReads.{end-low, bridge-fits, ends-fit, other-there, record-fits}
 use Rattle.bench.proofs.ChainLaws.{next-own, first-there, next-there, first-fits, end-fits, fewer-then}

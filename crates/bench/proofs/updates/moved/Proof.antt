@@ -1,7 +1,7 @@
 -- `updates::moved` meets its contract. The parts that are lent are the view's costs and distances. Assumes nothing.
 use Prim.Native.Nat.{_<_}
 use native.Mathlib.Nat.{le-add-right, lt-of-lt-of-le}
-use Rattle.bench.specs.Steps.{Ready}
+use Rattle.bench.specs.Private.Steps.{Ready}
 use Rattle.bench.proofs.QueueRanges.{network-told}
 use Rattle.bench.proofs.ChoiceReads.{costs-fit, block-fits}
 use Rattle.bench.proofs.ViewReads.{view-byte, row-past, row-scaled, row-there, block-past, block-scaled, block-there, number-fits, number-next}

@@ -1,5 +1,6 @@
 -- `network::bench_net_port` meets its contract. A list that holds no bench or is too short is refused first; else the call's own
 -- contract, over the bench that was read, gives the outcome. Assumes nothing.
+use mathlib.Core.List.{[]}
 use Rattle.exports_network.specs.Network.{netPortReply}
 use Rattle.encoding.specs.Replies.{withValue}
 use borrow.Author.Tests.{lt-leb, le-leb}
@@ -40,14 +41,14 @@ slice-write-out c = search needs
 
 returns-3 : tie.Need-returns-3
 unfolding netPortReply withValue
-returns-3 c = rw (passed (c .before .before .before .before .before .before .before .holds .ensures) (c .before .before .before .before .before .before .if1 .left), le-leb _ _ (c .before .before .before .before .before .if2 .left), ← c .before .before .before .before .load .ensures, ← c .before .before .before .port .ensures, c .before .found .given .1)
+returns-3 c = rw (passed (c .before .before .before .before .before .before .before .holds .ensures) (c .before .before .before .before .before .before .if1 .left), le-leb _ _ (c .before .before .before .before .before .if2 .left), ← c .before .before .before .before .load .ensures, ← c .before .before .before .port .ensures [], c .before .found .given .1)
 
 same-length : tie.Need-same-length
 same-length c = search needs
 
 returns-4 : tie.Need-returns-4
 unfolding netPortReply withValue
-returns-4 c = rw (passed (c .before .before .before .before .before .before .before .before .holds .ensures) (c .before .before .before .before .before .before .before .if1 .left), le-leb _ _ (c .before .before .before .before .before .before .if2 .left), ← c .before .before .before .before .before .load .ensures, ← c .before .before .before .before .port .ensures, c .before .before .found2 .given .1, ← c .link-number .ensures)
+returns-4 c = rw (passed (c .before .before .before .before .before .before .before .before .holds .ensures) (c .before .before .before .before .before .before .before .if1 .left), le-leb _ _ (c .before .before .before .before .before .before .if2 .left), ← c .before .before .before .before .before .load .ensures, ← c .before .before .before .before .port .ensures [], c .before .before .found2 .given .1, ← c .link-number .ensures)
 
 pub bench-net-port-spec : {M : Type 1} → statement M
 bench-net-port-spec =

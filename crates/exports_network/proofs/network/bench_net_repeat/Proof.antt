@@ -1,10 +1,12 @@
 -- `network::bench_net_repeat` meets its contract. A list that holds no bench or is too short is refused first; else the call's
 -- own contract, over the bench that was read, gives the outcome. Assumes nothing.
 use Rattle.exports_network.specs.Network.{netRepeatReply}
+use Rattle.encoding.specs.Replies.{withValue}
 use borrow.Author.Tests.{lt-leb, le-leb}
 use borrow.Author.Needs.{needs}
 use Rattle.encoding.proofs.Entry.{passed, failed}
 use Rattle.exports_network.proofs.Room.{room}
+use Rattle.exports_network.proofs.Refusals.{refused-by}
 use Rattle.exports_network.proofs.network.bench_net_repeat.Statement.{statement}
 use Rattle.exports_network.proofs.network.bench_net_repeat.Tie as tie
 
@@ -15,14 +17,14 @@ same-length : tie.Need-same-length
 same-length c = search needs
 
 returns : tie.Need-returns
-unfolding netRepeatReply
+unfolding netRepeatReply withValue
 returns c = rw (failed (c .before .holds .ensures) (c .if1 .taken))
 
 same-length-2 : tie.Need-same-length-2
 same-length-2 c = search needs
 
 returns-2 : tie.Need-returns-2
-unfolding netRepeatReply
+unfolding netRepeatReply withValue
 returns-2 c = rw (passed (c .before .before .holds .ensures) (c .before .if1 .left), lt-leb _ _ (c .if2 .taken))
 
 load-requires : tie.Need-load-requires
@@ -32,7 +34,7 @@ repeat-requires : tie.Need-repeat-requires
 repeat-requires c κs = search needs
 
 store-delivery-requires : tie.Need-store-delivery-requires
-store-delivery-requires c κs = (room 388 _ _ (c .before .before .before .before .before .before .before .before .before .before .before .before .before .holds .ensures) (c .before .before .before .before .before .before .before .before .before .before .before .before .if1 .left), c .before .before .before .before .before .before .before .before .before .before .before .if2 .left)
+store-delivery-requires c κs = ((room 388 _ _ (c .before .before .before .before .before .before .before .before .before .before .before .before .before .holds .ensures) (c .before .before .before .before .before .before .before .before .before .before .before .before .if1 .left), c .before .before .before .before .before .before .before .before .before .before .before .if2 .left), refused-by _ _ _ (c .before .before .before .before .before .before .repeat .ensures))
 
 same-length-3 : tie.Need-same-length-3
 same-length-3 c = search needs
@@ -47,7 +49,7 @@ same-length-6 : tie.Need-same-length-6
 same-length-6 c = search needs
 
 returns-3 : tie.Need-returns-3
-unfolding netRepeatReply
+unfolding netRepeatReply withValue
 returns-3 c = rw (passed (c .before .before .before .before .before .before .before .before .before .before .before .before .before .before .before .before .before .before .holds .ensures) (c .before .before .before .before .before .before .before .before .before .before .before .before .before .before .before .before .before .if1 .left), le-leb _ _ (c .before .before .before .before .before .before .before .before .before .before .before .before .before .before .before .before .if2 .left), ← c .before .before .before .before .before .before .before .before .before .before .before .before .before .before .load .ensures, ← c .before .before .before .before .before .before .before .before .before .before .before .repeat .ensures, c .before .before .before .before .store-delivery .ensures .0, c .before .before .before .before .store-delivery .ensures .1, c .before .before .before .before .store-delivery .ensures .2)
 
 pub bench-net-repeat-spec : {M : Type 1} → statement M

@@ -1,7 +1,10 @@
 -- `network::bench_net_report` meets its contract. A list that holds no bench or is too short is refused first; else the call's
 -- own contract, over the bench that was read, gives the outcome. Assumes nothing.
 use mathlib.Core.Path.{ap}
-use Rattle.exports_network.specs.Network.{reportReply, netReportReply}
+use mathlib.Core.List.{[], _∷_}
+use Rattle.bench.specs.Contracts.{ReportOutcome}
+use Rattle.encoding.specs.Replies.{callOutcome}
+use Rattle.exports_network.specs.Network.{netReportReply}
 use borrow.Author.Needs.{needs}
 use Rattle.encoding.proofs.Entry.{passed, failed}
 use Rattle.exports_network.proofs.Room.{room}
@@ -29,8 +32,9 @@ same-length c = search needs
 
 returns-2 : tie.Need-returns-2
 unfolding netReportReply
-returns-2 c = rw (passed (c .before .before .before .before .before .before .before .holds .ensures) (c .before .before .before .before .before .before .if1 .left), ← c .before .before .before .before .before .load .ensures, c .number-of .ensures)
-    (ap reportReply (c .before .before .before .report .ensures .0))
+returns-2 c =
+    rw (passed (c .before .before .before .before .before .before .before .holds .ensures) (c .before .before .before .before .before .before .if1 .left), ← c .before .before .before .before .before .load .ensures, c .number-of .ensures)
+    (ap (λ (o : ReportOutcome). callOutcome (o .reply .number) (o .rows ∷ [])) (c .before .before .before .report .ensures []))
 
 pub bench-net-report-spec : {M : Type 1} → statement M
 bench-net-report-spec =

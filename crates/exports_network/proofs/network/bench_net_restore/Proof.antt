@@ -1,5 +1,6 @@
 -- `network::bench_net_restore` meets its contract. A list that holds no bench or is too short is refused first; else the call's
 -- own contract, over the bench that was read, gives the outcome. Assumes nothing.
+use mathlib.Core.List.{[]}
 use Rattle.exports_network.specs.Network.{netRestoreReply}
 use borrow.Author.Needs.{needs}
 use Rattle.encoding.proofs.Entry.{passed, failed}
@@ -31,7 +32,7 @@ same-length-2 c = search needs
 
 returns-2 : tie.Need-returns-2
 unfolding netRestoreReply
-returns-2 c = rw (passed (c .before .before .before .before .before .before .before .before .holds .ensures) (c .before .before .before .before .before .before .before .if1 .left), ← c .before .before .before .before .before .load .ensures, ← c .before .before .before .before .restore .ensures .0, c .before .before .store-change .ensures .0, c .before .before .store-change .ensures .1)
+returns-2 c = rw (passed (c .before .before .before .before .before .before .before .before .holds .ensures) (c .before .before .before .before .before .before .before .if1 .left), ← c .before .before .before .before .before .load .ensures, ← c .before .before .before .before .restore .ensures [] [] [] [], c .before .before .store-change .ensures .0, c .before .before .store-change .ensures .1)
 
 pub bench-net-restore-spec : {M : Type 1} → statement M
 bench-net-restore-spec =

@@ -4,10 +4,12 @@
 use Rattle.exports_network.specs.Network.{netDeliverReply}
 use Rattle.exports_network.specs.SliceCalls.{followed, sliceDeliverReply}
 use lib.ListN.{take-append-drop}
+use Rattle.encoding.specs.Replies.{withValue}
 use borrow.Author.Tests.{lt-leb, le-leb}
 use borrow.Author.Needs.{needs}
 use Rattle.encoding.proofs.Entry.{passed, failed}
 use Rattle.exports_network.proofs.Room.{room}
+use Rattle.exports_network.proofs.Refusals.{refused-by}
 use Rattle.exports_network.proofs.slices.bench_slice_deliver.Statement.{statement}
 use Rattle.exports_network.proofs.slices.bench_slice_deliver.Tie as tie
 
@@ -22,14 +24,14 @@ same-length : tie.Need-same-length
 same-length c = search needs
 
 returns-2 : tie.Need-returns-2
-unfolding sliceDeliverReply netDeliverReply followed
+unfolding sliceDeliverReply netDeliverReply withValue followed
 returns-2 c = rw (le-leb _ _ (c .before .before .before .if1 .left), failed (c .before .holds .ensures) (c .if2 .taken), take-append-drop 320 (c .before .before .before .before .before .before .before .before .before .before .args .messages .now))
 
 same-length-2 : tie.Need-same-length-2
 same-length-2 c = search needs
 
 returns-3 : tie.Need-returns-3
-unfolding sliceDeliverReply netDeliverReply followed
+unfolding sliceDeliverReply netDeliverReply withValue followed
 returns-3 c = rw (le-leb _ _ (c .before .before .before .before .if1 .left), passed (c .before .before .holds .ensures) (c .before .if2 .left), lt-leb _ _ (c .if3 .taken), take-append-drop 320 (c .before .before .before .before .before .before .before .before .before .before .before .args .messages .now))
 
 load-requires : tie.Need-load-requires
@@ -45,7 +47,7 @@ put-array-requires : tie.Need-put-array-requires
 put-array-requires c κs = search needs
 
 store-delivery-requires : tie.Need-store-delivery-requires
-store-delivery-requires c κs = (room 388 _ _ (c .before .before .before .before .before .before .before .before .before .before .before .before .before .before .before .before .before .before .before .before .before .holds .ensures) (c .before .before .before .before .before .before .before .before .before .before .before .before .before .before .before .before .before .before .before .before .if2 .left), c .before .before .before .before .before .before .before .before .before .before .before .before .before .before .before .before .before .before .before .if3 .left)
+store-delivery-requires c κs = ((room 388 _ _ (c .before .before .before .before .before .before .before .before .before .before .before .before .before .before .before .before .before .before .before .before .before .holds .ensures) (c .before .before .before .before .before .before .before .before .before .before .before .before .before .before .before .before .before .before .before .before .if2 .left), c .before .before .before .before .before .before .before .before .before .before .before .before .before .before .before .before .before .before .before .if3 .left), refused-by _ _ _ (c .before .before .before .before .before .before .before .before .before .before .before .before .deliver .ensures))
 
 same-length-3 : tie.Need-same-length-3
 same-length-3 c = search needs
@@ -63,7 +65,7 @@ same-length-7 : tie.Need-same-length-7
 same-length-7 c = search needs
 
 returns-4 : tie.Need-returns-4
-unfolding sliceDeliverReply netDeliverReply followed
+unfolding sliceDeliverReply netDeliverReply withValue followed
 returns-4 c = rw (le-leb _ _ (c .before .before .before .before .before .before .before .before .before .before .before .before .before .before .before .before .before .before .before .before .before .before .before .before .before .before .before .before .if1 .left), passed (c .before .before .before .before .before .before .before .before .before .before .before .before .before .before .before .before .before .before .before .before .before .before .before .before .before .before .holds .ensures) (c .before .before .before .before .before .before .before .before .before .before .before .before .before .before .before .before .before .before .before .before .before .before .before .before .before .if2 .left), le-leb _ _ (c .before .before .before .before .before .before .before .before .before .before .before .before .before .before .before .before .before .before .before .before .before .before .before .before .if3 .left), ← c .before .before .before .before .before .before .before .before .before .before .before .before .before .before .before .before .before .before .array-of .ensures, ← c .before .before .before .before .before .before .before .before .before .before .before .before .before .before .before .before .before .before .before .before .before .before .load .ensures, ← c .before .before .before .before .before .before .before .before .before .before .before .before .before .before .before .before .before .deliver .ensures, c .before .before .before .before .before .before .before .before .before .before .put-array .ensures, c .before .before .before .before .store-delivery .ensures .0, c .before .before .before .before .store-delivery .ensures .1, c .before .before .before .before .store-delivery .ensures .2)
 
 pub bench-slice-deliver-spec : {M : Type 1} → statement M

@@ -1,6 +1,7 @@
 -- `slices::bench_slice_send` meets its contract. Fewer than 320 numbers of messages, and a list that holds no bench or is too
 -- short, are refused first; else the call's own contract, over the bench and the messages that were read, gives the outcome. Assumes
 -- nothing.
+use mathlib.Core.List.{[]}
 use Rattle.exports_network.specs.Network.{netSendReply}
 use Rattle.exports_network.specs.SliceCalls.{followed, sliceSendReply}
 use lib.ListN.{take-append-drop}
@@ -48,7 +49,7 @@ same-length-3 c = search needs
 
 returns-3 : tie.Need-returns-3
 unfolding sliceSendReply netSendReply followed
-returns-3 c = rw (le-leb _ _ (c .before .before .before .before .before .before .before .before .before .before .before .before .before .before .before .before .before .before .if1 .left), passed (c .before .before .before .before .before .before .before .before .before .before .before .before .before .before .before .before .holds .ensures) (c .before .before .before .before .before .before .before .before .before .before .before .before .before .before .before .if2 .left), ← c .before .before .before .before .before .before .before .before .before .before .before .array-of .ensures, ← c .before .before .before .before .before .before .before .before .before .before .before .before .before .load .ensures, ← c .before .before .before .before .before .before .before .before .before .before .send .ensures .0, c .before .before .before .before .before .before .before .put-array .ensures, c .before .before .store-change .ensures .0, c .before .before .store-change .ensures .1)
+returns-3 c = rw (le-leb _ _ (c .before .before .before .before .before .before .before .before .before .before .before .before .before .before .before .before .before .before .if1 .left), passed (c .before .before .before .before .before .before .before .before .before .before .before .before .before .before .before .before .holds .ensures) (c .before .before .before .before .before .before .before .before .before .before .before .before .before .before .before .if2 .left), ← c .before .before .before .before .before .before .before .before .before .before .before .array-of .ensures, ← c .before .before .before .before .before .before .before .before .before .before .before .before .before .load .ensures, ← c .before .before .before .before .before .before .before .before .before .before .send .ensures [] [] [], c .before .before .before .before .before .before .before .put-array .ensures, c .before .before .store-change .ensures .0, c .before .before .store-change .ensures .1)
 
 pub bench-slice-send-spec : {M : Type 1} → statement M
 bench-slice-send-spec =

@@ -42,15 +42,16 @@ use denote.Signature.{plain}
 use Rattle.bench.specs.declared.Bench.{Bench}
 use Rattle.bench.specs.declared.DeliveryResult.{DeliveryResult}
 use Rattle.bench.specs.State.{state}
-use Rattle.bench.specs.Deliveries.{reactionResponse, deliveryOutcome, deliverOf}
 use Rattle.bench.proofs.Bench as B
 use Rattle.bench.proofs.Bench.Laws as B′
 use Rattle.bench.proofs.DeliveryResult as R
 use Rattle.bench.proofs.DeliveryResult.Laws as R′
+use Rattle.bench.specs.Contracts.{reactionResponse}
 use Rattle.messages.specs.declared.Message.{Message}
 use Rattle.messages.specs.declared.decisions.Decided.{Decided}
 use Rattle.messages.specs.Slices.{flight}
 use Rattle.messages.specs.Steps.{took, shifted, shiftedUp}
+use Rattle.messages.proofs.Told.{Delivered}
 use Rattle.messages.proofs.Message as T
 use Rattle.messages.proofs.decisions.Decided as D
 use Rattle.messages.proofs.decisions.Decided.Laws as D′
@@ -92,7 +93,7 @@ stayed = (
 -- what `decide_deliver` ensures of its result and of the limit tables
 abbrev Delivers : Bench → List ℕ → List ℕ → List ℕ → List ℕ → ℕ → DeliveryResult → List ℕ → List ℕ → List ℕ → Type 0
 Delivers h costs sent held m p r ss hs zs =
-    deliveryOutcome (reactionResponse (r .reply)) (r .bench) ss hs zs ≡ deliverOf (state h costs sent held m) p
+    Delivered (state h costs sent held m) p (reactionResponse (r .reply)) (r .bench) ss hs zs
 
 abbrev Decides : Bench → List ℕ → List ℕ → List ℕ → List ℕ → ℕ → ℕ → Decided → List ℕ → List ℕ → Type 0
 Decides h costs sent held m n p d ss hs =
@@ -172,8 +173,8 @@ module _ {M : Type 1} (𝓤 : URA M) (H : Heap 𝓤) (A : Atoms 𝓤) (W : Given
       → Decides h (c .now) (s .now) (l .now) (took (length (x .now)) ns) (length (x .now)) p d ss hs → zs ≡ shiftedUp (d .from) (d .past) (x .now)
       → Delivers h (c .now) (s .now) (l .now) (flight (x .now)) p (d .delivery) ss hs (flight zs)
   done-as ns d ss hs zs e (g, (order, (low, few))) m =
-      ap (λ (y : List ℕ). deliveryOutcome (reactionResponse (d .delivery .reply)) (d .delivery .bench) ss hs y) (ap flight m ∙ moved-flight (x .now) (d .from) (d .past) order few)
-      ∙ subst (λ (y : List ℕ). Delivers h (c .now) (s .now) (l .now) y p (d .delivery) ss hs (shifted (d .from) (d .past) y)) e g
+      subst (λ (y : List ℕ). Delivers h (c .now) (s .now) (l .now) (flight (x .now)) p (d .delivery) ss hs y) (sym (ap flight m ∙ moved-flight (x .now) (d .from) (d .past) order few))
+      (subst (λ (y : List ℕ). Delivers h (c .now) (s .now) (l .now) y p (d .delivery) ss hs (shifted (d .from) (d .past) y)) e g)
 
   exits :
       (d : Decided) (ss hs : List ℕ) (zs : List Message) → Is R.the-row (d .delivery) (R′.lowered (d .delivery) ∷ [])

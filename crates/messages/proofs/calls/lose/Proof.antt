@@ -40,16 +40,17 @@ use denote.Triple.Walked.{Stays, stay-none, gave-slice, walkOf, goes-none, goes-
 use denote.Exit.{yes}
 use denote.Signature.{plain}
 use Rattle.bench.specs.declared.Bench.{Bench}
-use Rattle.bench.specs.Changes.{number, NoZero}
-use Rattle.bench.specs.Queue.{queueOutcome, loseOf}
 use Rattle.bench.proofs.Bench as B
 use Rattle.bench.proofs.Bench.Laws as B′
 use Rattle.bench.proofs.Changed as R
 use Rattle.bench.proofs.Changed.Laws as R′
+use Rattle.protocol.specs.Calls.{lose}
+use Rattle.bench.specs.Contracts.{doneResponse}
 use Rattle.messages.specs.declared.Message.{Message}
 use Rattle.messages.specs.declared.decisions.Decision.{Decision}
 use Rattle.messages.specs.Slices.{flight}
 use Rattle.messages.specs.Steps.{took, shifted, shiftedUp}
+use Rattle.messages.proofs.Told.{Queued}
 use Rattle.messages.proofs.Message as T
 use Rattle.messages.proofs.decisions.Decision as D
 use Rattle.messages.proofs.decisions.Decision.Laws as D′
@@ -83,7 +84,7 @@ stayed = (stay-none (λ _. B.the-row) yes, (gave-slice (0 ∷ []) tt (plain (λ 
 -- what `decide_lose` ensures of d
 abbrev Decides : Bench → List ℕ → ℕ → ℕ → Decision → Type 0
 Decides h ns n p d =
-    ((queueOutcome (number (d .changed .reply)) (d .changed .bench) (shifted (d .from) (d .past) (took n ns)) ≡ loseOf h (took n ns) p) × NoZero (d .changed .reply))
+    Queued (lose p) h (took n ns) (doneResponse (d .changed .reply)) (d .changed .bench) (shifted (d .from) (d .past) (took n ns))
     × ((d .from ≤ d .past) × ((d .past ≤ n - 1) × (d .past ≤ 63)))
 
 -- a decision's answer, where the decision stands
@@ -133,19 +134,14 @@ module _ {M : Type 1} (𝓤 : URA M) (H : Heap 𝓤) (A : Atoms 𝓤) (W : Given
   -- what the callees say, as the contract has it
   lost :
       (ns : List ℕ) (d : Decision) (zs : List Message) → took (length ys) ns ≡ flight ys → Decides h ns (length ys) p d → zs ≡ shiftedUp (d .from) (d .past) ys
-      → (queueOutcome (number (d .changed .reply)) (d .changed .bench) (flight zs) ≡ loseOf h (flight ys) p) × NoZero (d .changed .reply)
-  lost ns d zs e ((g, above), (order, (low, few))) m = (
-    ap (λ (l : List Message). queueOutcome (number (d .changed .reply)) (d .changed .bench) (flight l)) m
-        ∙ ap (λ (l : List ℕ). queueOutcome (number (d .changed .reply)) (d .changed .bench) l) (moved-flight ys (d .from) (d .past) order few)
-        ∙ ap (λ (l : List ℕ). queueOutcome (number (d .changed .reply)) (d .changed .bench) (shifted (d .from) (d .past) l)) (sym e)
-        ∙ g
-        ∙ ap (λ (l : List ℕ). loseOf h l p) e,
-    above,
-  )
+      → Queued (lose p) h (flight ys) (doneResponse (d .changed .reply)) (d .changed .bench) (flight zs)
+  lost ns d zs e (g, (order, (low, few))) m =
+      subst (λ (l : List ℕ). Queued (lose p) h (flight ys) (doneResponse (d .changed .reply)) (d .changed .bench) l) (sym (ap flight m ∙ moved-flight ys (d .from) (d .past) order few))
+      (subst (λ (l : List ℕ). Queued (lose p) h l (doneResponse (d .changed .reply)) (d .changed .bench) (shifted (d .from) (d .past) l)) e g)
 
   exits :
       (d : Decision) (zs : List Message) → Is R.the-row (d .changed) (R′.lowered (d .changed) ∷ [])
-      → (queueOutcome (number (d .changed .reply)) (d .changed .bench) (flight zs) ≡ loseOf h (flight ys) p) × NoZero (d .changed .reply) → rest 64 zs ≡ rest 64 ys → length zs ≡ length ys
+      → Queued (lose p) h (flight ys) (doneResponse (d .changed .reply)) (d .changed .bench) (flight zs) → rest 64 zs ≡ rest 64 ys → length zs ≡ length ys
       → ent 𝓤 (sep 𝓤 (sem 𝓤 H A (finally T.the-row γ zs)) (A .lft κ q)) (Post (R′.lowered (d .changed)))
   exits d zs is e same l =
       qed W (‵ (finally T.the-row γ zs) ∷ ‵ (flft κ q) ∷ []) ∵

@@ -40,14 +40,15 @@ use denote.Signature.{plain}
 use Rattle.bench.specs.declared.Bench.{Bench}
 use Rattle.bench.specs.declared.DeliveryResult.{DeliveryResult}
 use Rattle.bench.specs.State.{state}
-use Rattle.bench.specs.Deliveries.{reactionResponse, deliveryOutcome, repeatOf}
 use Rattle.bench.proofs.Bench as B
 use Rattle.bench.proofs.Bench.Laws as B′
 use Rattle.bench.proofs.DeliveryResult as R
 use Rattle.bench.proofs.DeliveryResult.Laws as R′
+use Rattle.bench.specs.Contracts.{reactionResponse}
 use Rattle.messages.specs.declared.Message.{Message}
 use Rattle.messages.specs.Slices.{flight}
 use Rattle.messages.specs.Steps.{took}
+use Rattle.messages.proofs.Told.{Repeated}
 use Rattle.messages.proofs.Message as T
 use Rattle.messages.proofs.LocalNumbers.{the-numbers}
 use Rattle.messages.proofs.LocalArray as array
@@ -79,7 +80,7 @@ stayed = (
 -- what `decide_repeat` ensures of its result and of the limit tables
 abbrev Repeats : Bench → List ℕ → List ℕ → List ℕ → List ℕ → ℕ → DeliveryResult → List ℕ → List ℕ → Type 0
 Repeats h costs sent held m p r ss hs =
-    deliveryOutcome (reactionResponse (r .reply)) (r .bench) ss hs m ≡ repeatOf (state h costs sent held m) p
+    Repeated (state h costs sent held m) p (reactionResponse (r .reply)) (r .bench) ss hs
 
 -- the last values of `decide_repeat`'s parameters: those of the limit tables are lists
 abbrev Lasting : Type 0

@@ -44,16 +44,17 @@ use denote.Triple.Walked.{says, Stays, stay-none, gave-slice, walkOf, goes-none,
 use denote.Exit.{yes}
 use denote.Signature.{plain}
 use Rattle.bench.specs.declared.Bench.{Bench}
-use Rattle.bench.specs.Changes.{number, NoZero}
-use Rattle.bench.specs.Queue.{queueOutcome, sendOf}
 use Rattle.bench.proofs.Bench as B
 use Rattle.bench.proofs.Bench.Laws as B′
 use Rattle.bench.proofs.Changed as R
 use Rattle.bench.proofs.Changed.Laws as R′
+use Rattle.protocol.specs.Calls.{send}
+use Rattle.bench.specs.Contracts.{doneResponse}
 use Rattle.messages.specs.declared.Message.{Message}
 use Rattle.messages.specs.declared.decisions.Decision.{Decision}
 use Rattle.messages.specs.Slices.{flight}
 use Rattle.messages.specs.Steps.{took, putFrom}
+use Rattle.messages.proofs.Told.{Queued}
 use Rattle.messages.proofs.Message as T
 use Rattle.messages.proofs.decisions.Decision as D
 use Rattle.messages.proofs.decisions.Decision.Laws as D′
@@ -89,7 +90,7 @@ stayed = (stay-none (λ _. B.the-row) yes, (gave-slice (0 ∷ []) tt (plain (λ 
 -- what `decide_send` ensures of d and of the numbers, ns before and ms after
 abbrev Decides : Bench → List ℕ → ℕ → ℕ → ℕ → Decision → List ℕ → Type 0
 Decides h ns n y k d ms =
-    ((queueOutcome (number (d .changed .reply)) (d .changed .bench) (took n ms) ≡ sendOf h (took n ns) y k) × NoZero (d .changed .reply))
+    Queued (send y k) h (took n ns) (doneResponse (d .changed .reply)) (d .changed .bench) (took n ms)
     × ((d .from ≤ d .past)
     × ((d .past ≤ min n 64) × (took n ms ≡ sets (took n ns) (5 * d .from) (take (5 * (d .past - d .from)) (rest (5 * d .from) ms)))))
 
@@ -160,19 +161,17 @@ module _ {M : Type 1} (𝓤 : URA M) (H : Heap 𝓤) (A : Atoms 𝓤) (W : Given
   -- what the callees say, as the contract has it
   sent :
       (ns : List ℕ) (d : Decision) (ms : List ℕ) (zs : List Message) → took (length ys) ns ≡ flight ys → Decides h ns (length ys) y k d ms → length ms ≡ 320 → zs ≡ putFrom ms (d .from) (d .past) ys
-      → (queueOutcome (number (d .changed .reply)) (d .changed .bench) (flight zs) ≡ sendOf h (flight ys) y k) × NoZero (d .changed .reply)
-  sent ns d ms zs e ((g, above), (order, (low, f))) n m = (
-    ap (λ (l : List ℕ). queueOutcome (number (d .changed .reply)) (d .changed .bench) l)
-        (ap flight m ∙ put-flight ys ms (d .from) (d .past) order low (omega (arith, low, n))
-        ∙ ap (λ (l : List ℕ). sets l (5 * d .from) (take (5 * (d .past - d .from)) (rest (5 * d .from) ms))) (sym e) ∙ sym f)
-        ∙ g
-        ∙ ap (λ (l : List ℕ). sendOf h l y k) e,
-    above,
-  )
+      → Queued (send y k) h (flight ys) (doneResponse (d .changed .reply)) (d .changed .bench) (flight zs)
+  sent ns d ms zs e (g, (order, (low, f))) n m =
+      let after : took (length ys) ms ≡ flight zs =
+      sym (ap flight m ∙ put-flight ys ms (d .from) (d .past) order low (omega (arith, low, n))
+      ∙ ap (λ (l : List ℕ). sets l (5 * d .from) (take (5 * (d .past - d .from)) (rest (5 * d .from) ms))) (sym e) ∙ sym f) in
+      subst (λ (l : List ℕ). Queued (send y k) h (flight ys) (doneResponse (d .changed .reply)) (d .changed .bench) l) after
+      (subst (λ (l : List ℕ). Queued (send y k) h l (doneResponse (d .changed .reply)) (d .changed .bench) (took (length ys) ms)) e g)
 
   exits :
       (d : Decision) (zs : List Message) → Is R.the-row (d .changed) (R′.lowered (d .changed) ∷ [])
-      → (queueOutcome (number (d .changed .reply)) (d .changed .bench) (flight zs) ≡ sendOf h (flight ys) y k) × NoZero (d .changed .reply) → rest 64 zs ≡ rest 64 ys → length zs ≡ length ys
+      → Queued (send y k) h (flight ys) (doneResponse (d .changed .reply)) (d .changed .bench) (flight zs) → rest 64 zs ≡ rest 64 ys → length zs ≡ length ys
       → ent 𝓤 (sep 𝓤 (sem 𝓤 H A (finally T.the-row γ zs)) (A .lft κ q)) (Post (R′.lowered (d .changed)))
   exits d zs is e same n =
       qed W (‵ (finally T.the-row γ zs) ∷ ‵ (flft κ q) ∷ []) ∵

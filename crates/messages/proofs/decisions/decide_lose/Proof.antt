@@ -26,14 +26,10 @@ lose-requires : tie.Need-lose-requires
 lose-requires c κs = search needs
 
 returns : tie.Need-returns
-returns c =
-    let h = lose-decided _ _ _ (c .before .before .before .before .room .ensures) _ _ _ _ _ (c .before .before .lose .ensures .0) (c .if1 .taken) in
-    ((h .0, c .before .before .lose .ensures .1), h .1)
+returns c = lose-decided _ _ _ (c .before .before .before .before .room .ensures) _ _ _ _ _ (c .before .before .lose .ensures) (c .if1 .taken)
 
 returns-2 : tie.Need-returns-2
-returns-2 c =
-    let h = lose-refused _ _ _ (c .before .before .before .before .room .ensures) _ _ _ _ _ (c .before .before .lose .ensures .0) (c .if1 .left) in
-    ((h .0, c .before .before .lose .ensures .1), h .1)
+returns-2 c = lose-refused _ _ _ (c .before .before .before .before .room .ensures) _ _ _ _ _ (c .before .before .lose .ensures) (c .if1 .left)
 
 pub decide-lose-spec : {M : Type 1} → statement M
 decide-lose-spec =

@@ -23,17 +23,13 @@ same-length : tie.Need-same-length
 same-length c = search needs
 
 returns : tie.Need-returns
-returns c =
-    let h = send-decided _ _ _ (c .before .before .before .before .before .room .ensures) (c .before .before .before .before .before .before .before .pre) _ _ _ _ _ _ (c .before .before .before .send .ensures .0) (c .if1 .taken) in
-    ((h .0, c .before .before .before .send .ensures .1), h .1)
+returns c = send-decided _ _ _ (c .before .before .before .before .before .room .ensures) (c .before .before .before .before .before .before .before .pre) _ _ _ _ _ _ (c .before .before .before .send .ensures) (c .if1 .taken)
 
 same-length-2 : tie.Need-same-length-2
 same-length-2 c = search needs
 
 returns-2 : tie.Need-returns-2
-returns-2 c =
-    let h = send-refused _ _ _ (c .before .before .before .before .before .room .ensures) (c .before .before .before .before .before .before .before .pre) _ _ _ _ _ _ (c .before .before .before .send .ensures .0) (c .if1 .left) in
-    ((h .0, c .before .before .before .send .ensures .1), h .1)
+returns-2 c = send-refused _ _ _ (c .before .before .before .before .before .room .ensures) (c .before .before .before .before .before .before .before .pre) _ _ _ _ _ _ (c .before .before .before .send .ensures) (c .if1 .left)
 
 pub decide-send-spec : {M : Type 1} → statement M
 decide-send-spec =

@@ -2,7 +2,7 @@
 -- that each meets its contract. The local's messages are lent to the second as a `&mut`, for a lifetime that the walk makes
 -- (`LocalArray.antt`); the limit tables are given up for good to it (`gave-slice`).
 -- Assumes nothing.
-use mathlib.Core.Path.{_≡_, refl, sym, _∙_, ap}
+use mathlib.Core.Path.{_≡_, refl, subst}
 use Prim.Native.Nat.{ℕ, _<_, _^_}
 use mathlib.Core.List.{[], _∷_, List}
 use lib.Dec.{lit<}
@@ -45,13 +45,14 @@ use denote.Signature.{plain}
 use Rattle.bench.specs.declared.Bench.{Bench}
 use Rattle.bench.specs.declared.DeliveryResult.{DeliveryResult}
 use Rattle.bench.specs.State.{state}
-use Rattle.bench.specs.Deliveries.{reactionResponse, deliveryOutcome, deliverOf}
+use Rattle.bench.specs.Contracts.{reactionResponse}
 use Rattle.bench.proofs.Bench as B
 use Rattle.bench.proofs.Bench.Laws as B′
 use Rattle.bench.proofs.DeliveryResult as R
 use Rattle.bench.proofs.DeliveryResult.Laws as R′
 use Rattle.messages.specs.declared.Message.{Message}
 use Rattle.messages.specs.Slices.{flight}
+use Rattle.messages.proofs.Told.{Delivered}
 use Rattle.messages.proofs.Message as T
 use Rattle.messages.proofs.plain.DeliveredNumbers as P
 use Rattle.messages.proofs.plain.DeliveredNumbers.Laws as P′
@@ -89,7 +90,7 @@ stayed = (
 
 -- what is said of the answer r, of the limit tables' last lists and of the messages' numbers, m before and z after
 abbrev Delivers : Bench → List ℕ → List ℕ → List ℕ → List ℕ → ℕ → DeliveryResult → List ℕ → List ℕ → List ℕ → Type 0
-Delivers h costs sent held m p r ss es z = deliveryOutcome (reactionResponse (r .reply)) (r .bench) ss es z ≡ deliverOf (state h costs sent held m) p
+Delivers h costs sent held m p r ss es z = Delivered (state h costs sent held m) p (reactionResponse (r .reply)) (r .bench) ss es z
 
 -- the last values of `calls::deliver`'s parameters: those of the limit tables and of the messages are lists
 abbrev Lasting : Type 0
@@ -179,7 +180,8 @@ module _ {M : Type 1} (𝓤 : URA M) (H : Heap 𝓤) (A : Atoms 𝓤) (W : Given
       (ys zs : List Message) (x : Answer) (ms : List ℕ) → flight ys ≡ ns → flight zs ≡ ms → Delivers h (c .now) (s .now) (e .now) (flight ys) p (x .0) (x .1 .0) (x .1 .1) (flight zs)
       → Delivers h (c .now) (s .now) (e .now) ns p (x .0) (x .1 .0) (x .1 .1) ms
   done-as ys zs x ms before after f =
-      ap (λ (y : List ℕ). deliveryOutcome (reactionResponse (x .0 .reply)) (x .0 .bench) (x .1 .0) (x .1 .1) y) (sym after) ∙ f ∙ ap (λ (y : List ℕ). deliverOf (state h (c .now) (s .now) (e .now) y) p) before
+      subst (λ (y : List ℕ). Delivers h (c .now) (s .now) (e .now) ns p (x .0) (x .1 .0) (x .1 .1) y) after
+      (subst (λ (y : List ℕ). Delivers h (c .now) (s .now) (e .now) y p (x .0) (x .1 .0) (x .1 .1) (flight zs)) before f)
 
   exits :
       (v : Val) (x : Answer) (ms : List ℕ) → Delivers h (c .now) (s .now) (e .now) ns p (x .0) (x .1 .0) (x .1 .1) ms → limits.SameLengths 𝓤 H A κs qs c s e (x .1 .0) (x .1 .1)

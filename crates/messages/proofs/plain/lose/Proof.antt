@@ -1,7 +1,7 @@
 -- `messages::plain::lose` meets its contract: a walk of its MIR. All that it knows of `messages_in`, `calls::lose` and `numbers_from` is that
 -- each meets its contract. The local's messages are lent to the second as a `&mut`, for a lifetime that the walk makes (`LocalArray.antt`).
 -- Assumes nothing.
-use mathlib.Core.Path.{_≡_, refl, sym, _∙_, ap}
+use mathlib.Core.Path.{_≡_, refl, subst}
 use Prim.Native.Nat.{ℕ, _<_, _^_}
 use mathlib.Core.List.{[], _∷_, List}
 use lib.Dec.{lit<}
@@ -42,14 +42,15 @@ use denote.Triple.Walked.{says, Stays, stay-none, walkOf, goes-none, Walks, ends
 use denote.Exit.{yes}
 use Rattle.bench.specs.declared.Bench.{Bench}
 use Rattle.bench.specs.declared.Changed.{Changed}
-use Rattle.bench.specs.Changes.{number, NoZero}
-use Rattle.bench.specs.Queue.{queueOutcome, loseOf}
 use Rattle.bench.proofs.Bench as B
 use Rattle.bench.proofs.Bench.Laws as B′
 use Rattle.bench.proofs.Changed as R
 use Rattle.bench.proofs.Changed.Laws as R′
+use Rattle.protocol.specs.Calls.{lose}
+use Rattle.bench.specs.Contracts.{doneResponse}
 use Rattle.messages.specs.declared.Message.{Message}
 use Rattle.messages.specs.Slices.{flight}
+use Rattle.messages.proofs.Told.{Queued}
 use Rattle.messages.proofs.Message as T
 use Rattle.messages.proofs.plain.ChangedNumbers as P
 use Rattle.messages.proofs.plain.ChangedNumbers.Laws as P′
@@ -79,7 +80,7 @@ stayed = (stay-none (λ _. B.the-row) yes, (stay-none (λ _. Numbers) yes, (stay
 
 -- what is said of the answer r and of the numbers, ns before and ms after
 abbrev Loses : Bench → List ℕ → ℕ → Changed → List ℕ → Type 0
-Loses h ns p r ms = (queueOutcome (number (r .reply)) (r .bench) ms ≡ loseOf h ns p) × NoZero (r .reply)
+Loses h ns p r ms = Queued (lose p) h ns (doneResponse (r .reply)) (r .bench) ms
 
 -- what is known once `calls::lose` has returned w
 abbrev Lost : Bench → List Message → ℕ → Val → Changed → List Message → Type 0
@@ -136,7 +137,7 @@ module _ {M : Type 1} (𝓤 : URA M) (H : Heap 𝓤) (A : Atoms 𝓤) (W : Given
 
   -- what the callees say, as the contract has it
   lost : (ys zs : List Message) (r : Changed) (ms : List ℕ) → flight ys ≡ ns → flight zs ≡ ms → Loses h (flight ys) p r (flight zs) → Loses h ns p r ms
-  lost ys zs r ms before after (e, above) = (ap (λ (l : List ℕ). queueOutcome (number (r .reply)) (r .bench) l) (sym after) ∙ e ∙ ap (λ (l : List ℕ). loseOf h l p) before, above)
+  lost ys zs r ms before after e = subst (λ (l : List ℕ). Loses h ns p r l) after (subst (λ (l : List ℕ). Loses h l p r (flight zs)) before e)
 
   exits : (r : Changed) (ms : List ℕ) (v : Val) → Is P.the-row (record { changed = r; numbers = ms }) (v ∷ []) → Loses h ns p r ms → ent 𝓤 (emp 𝓤) (Post v)
   exits r ms v is e =

@@ -44,13 +44,14 @@ use denote.Signature.{plain}
 use Rattle.bench.specs.declared.Bench.{Bench}
 use Rattle.bench.specs.declared.DeliveryResult.{DeliveryResult}
 use Rattle.bench.specs.State.{state}
-use Rattle.bench.specs.Deliveries.{reactionResponse, deliveryOutcome, repeatOf}
 use Rattle.bench.proofs.Bench as B
 use Rattle.bench.proofs.Bench.Laws as B′
 use Rattle.bench.proofs.DeliveryResult as R
 use Rattle.bench.proofs.DeliveryResult.Laws as R′
+use Rattle.bench.specs.Contracts.{reactionResponse}
 use Rattle.messages.specs.declared.Message.{Message}
 use Rattle.messages.specs.Slices.{flight}
+use Rattle.messages.proofs.Told.{Repeated}
 use Rattle.messages.proofs.Message as T
 use Rattle.messages.proofs.LocalNumbers.{Numbers, the-numbers}
 use Rattle.messages.proofs.LocalArray as array
@@ -83,7 +84,7 @@ stayed = (
 
 -- what is said of the answer r and of the limit tables' last lists, where the messages' numbers are m
 abbrev Repeats : Bench → List ℕ → List ℕ → List ℕ → List ℕ → ℕ → DeliveryResult → List ℕ → List ℕ → Type 0
-Repeats h costs sent held m p r ss es = deliveryOutcome (reactionResponse (r .reply)) (r .bench) ss es m ≡ repeatOf (state h costs sent held m) p
+Repeats h costs sent held m p r ss es = Repeated (state h costs sent held m) p (reactionResponse (r .reply)) (r .bench) ss es
 
 -- the last values of `calls::repeat`'s parameters: those of the limit tables are lists
 abbrev Lasting : Type 0
@@ -139,15 +140,15 @@ module _ {M : Type 1} (𝓤 : URA M) (H : Heap 𝓤) (A : Atoms 𝓤) (W : Given
     )
 
     -- what is known once it has returned w
-    abbrev Repeated : Val → Answer → Type 0
-    Repeated w x = Repeats h (c .now) (s .now) (e .now) (flight ys) p (x .0) (x .1 .0) (x .1 .1) × (limits.SameLengths 𝓤 H A κs qs c s e (x .1 .0) (x .1 .1) × Is R.the-row (x .0) (w ∷ []))
+    abbrev Known : Val → Answer → Type 0
+    Known w x = Repeats h (c .now) (s .now) (e .now) (flight ys) p (x .0) (x .1 .0) (x .1 .1) × (limits.SameLengths 𝓤 H A κs qs c s e (x .1 .0) (x .1 .1) × Is R.the-row (x .0) (w ∷ []))
 
     abbrev Left : Answer → Item 𝓤
     Left x = Toks ⊛ LastLists (x .1 .0) (x .1 .1)
 
     leaves :
         (ν : ℕ) (δ : GName) (w : Val) →
-        ent 𝓤 (Repeat 𝓤 H A mem run .post (to-repeat ν δ) w) (H .⇛ (ex 𝓤 (λ (x : Answer). guard 𝓤 (Repeated w x) (sep 𝓤 (A .lft (ν ∷ []) fullShare) (mean 𝓤 H A (Left x))))))
+        ent 𝓤 (Repeat 𝓤 H A mem run .post (to-repeat ν δ) w) (H .⇛ (ex 𝓤 (λ (x : Answer). guard 𝓤 (Known w x) (sep 𝓤 (A .lft (ν ∷ []) fullShare) (mean 𝓤 H A (Left x))))))
     leaves ν δ w =
         qed W (raw (Repeat 𝓤 H A mem run .post (to-repeat ν δ) w) ∷ []) ∵ updating ! $
         use1 W (later (some (λ (r : DeliveryResult). (limits.AllToks 𝓤 H A κs qs c s e (ν ∷ []) fullShare ⊛ ‵ (R.the-row .own r (w ∷ []))) ⊛ raw (ensured 𝓤 H A called.ended (called.clauses 𝓤 H A mem run) (limits.with-last 𝓤 H A κs qs c s e (ν ∷ [])) (args δ) tt r)))) (id⊢ 𝓤 _) $ await ! tt $ pick ! (λ r.
@@ -159,7 +160,7 @@ module _ {M : Type 1} (𝓤 : URA M) (H : Heap 𝓤) (A : Atoms 𝓤) (W : Given
         -- [LastLists; the tokens and the result]
         move ! (1 ∷ []) $ split ! $ move ! (1 ∷ []) $ facts ! R.the-row (Is R.the-row) (shows 𝓤 H A R.the-row) r (w ∷ []) (λ is.
         use1 W (‵ (flft (ν ∷ []) fullShare) ⊛ Toks) (limits.tokens 𝓤 H A κs qs c s e W (ν ∷ []) fullShare) $ split ! $ move ! (1 ∷ 2 ∷ []) $ join ! $ at-once ! $
-        show ! (λ (x : Answer). guard 𝓤 (Repeated w x) (sep 𝓤 (A .lft (ν ∷ []) fullShare) (mean 𝓤 H A (Left x)))) (r, (ws .1 .1 .0, ws .1 .1 .1 .0)) $ check ! (f, (n, is)) $ move ! (1 ∷ 0 ∷ []) $ done !)))))
+        show ! (λ (x : Answer). guard 𝓤 (Known w x) (sep 𝓤 (A .lft (ν ∷ []) fullShare) (mean 𝓤 H A (Left x)))) (r, (ws .1 .1 .0, ws .1 .1 .1 .0)) $ check ! (f, (n, is)) $ move ! (1 ∷ 0 ∷ []) $ done !)))))
 
   exits :
       (w : Val) (x : Answer) → Repeats h (c .now) (s .now) (e .now) ns p (x .0) (x .1 .0) (x .1 .1) → limits.SameLengths 𝓤 H A κs qs c s e (x .1 .0) (x .1 .1) → Is R.the-row (x .0) (w ∷ [])
@@ -205,8 +206,8 @@ module _ {M : Type 1} (𝓤 : URA M) (H : Heap 𝓤) (A : Atoms 𝓤) (W : Given
         -- [what is asked; Kept; the lender's part; _14; …]
         calls-at ! fm (Repeat 𝓤 H A mem run) known-repeat (to-repeat l₇ ys ν δ)
         (and-then ! (load ! (from ! (stop !)) (look ! 28 refl)) (and-then ! (load ! (from ! (stop !)) (look ! 26 refl)) (and-then ! (load ! (from ! (stop !)) (look ! 11 refl)) (and-then ! (load ! (from ! (stop !)) (look ! 7 refl)) (and-then ! (load ! (from ! (stop !)) (look ! 3 refl)) (and-then ! (load ! (from ! (stop !)) (look ! 18 refl)) (no-more !))))))) (λ w.
-        move ! (0 ∷ 2 ∷ []) $ use2 W (later (some (λ (x : Answer). given (Repeated l₇ ys w x) (‵ (rowOf T.the-row 64 ys l₇) ⊛ Left l₇ ys x))))
-        (array.back-read messages 𝓤 H A W l₇ ν (Repeat 𝓤 H A mem run .post (to-repeat l₇ ys ν δ) w) ys (Repeated l₇ ys w) (Left l₇ ys) (leaves l₇ ys ν δ w)) $ await ! tt $ pick ! (λ x. learn ! (λ f. split ! $
+        move ! (0 ∷ 2 ∷ []) $ use2 W (later (some (λ (x : Answer). given (Known l₇ ys w x) (‵ (rowOf T.the-row 64 ys l₇) ⊛ Left l₇ ys x))))
+        (array.back-read messages 𝓤 H A W l₇ ν (Repeat 𝓤 H A mem run .post (to-repeat l₇ ys ν δ) w) ys (Known l₇ ys w) (Left l₇ ys) (leaves l₇ ys ν δ w)) $ await ! tt $ pick ! (λ x. learn ! (λ f. split ! $
         use1 W (some (λ (u : Val). given (Is Messages ys (u ∷ [])) (‵ (fat fullShare (arrayTy T.the-row 64) l₇ 0 u)))) (array.whole messages 𝓤 H A W l₇ ys z) $ pick ! (λ u. learn ! (λ _. move ! (1 ∷ []) $ split ! $ move ! (0 ∷ 1 ∷ 3 ∷ 2 ∷ []) $
         -- [Toks; LastLists; Kept; _7; _14; …; _13; …; and so on to _8; …; (_7's right to be freed); _6; …]
         land ! (from ! (stop !)) (init ! 31 refl (LL.lawful R.the-type R′.the-laws 𝓤 H A W .typed (x .0) _ (f .1 .1) .0)) $

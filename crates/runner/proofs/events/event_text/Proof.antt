@@ -4,7 +4,6 @@ use Rattle.runner.specs.Events.{eventText}
 use Rattle.bench.specs.Batches.{answerSize}
 use Rattle.distances.proofs.Booleans.{true-both}
 use borrow.Author.Tests.{le-leb}
-use native.Mathlib.Omega.{arith}
 use borrow.Author.Needs.{needs}
 use Rattle.runner.proofs.events.event_text.Statement.{statement}
 use Rattle.runner.proofs.events.event_text.Tie as tie

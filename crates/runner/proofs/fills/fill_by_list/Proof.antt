@@ -4,7 +4,7 @@ use Rattle.runner.proofs.ListTexts.{whole-length}
 use Rattle.plan.proofs.EventLaws.{listed}
 use Rattle.messages.specs.Slices.{numbersIn}
 use lib.Seq.{length-take-le}
-use lib.ListN.{length, replicate, length-replicate}
+use lib.ListN.{replicate, length-replicate}
 use borrow.Author.Needs.{needs}
 use mathlib.Core.Path.{sym, _∙_}
 use native.Mathlib.Omega.{arith}

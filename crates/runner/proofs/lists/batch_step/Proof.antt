@@ -2,7 +2,6 @@
 use Rattle.runner.proofs.ListTexts.{ended-none, ended-refused, above}
 use Rattle.runner.specs.Lists.{batchStep}
 use Rattle.text.proofs.Puts.{same-length as put-length}
-use lib.ListN.{length}
 use mathlib.Core.Path.{refl, sym, _∙_}
 use native.Mathlib.Nat.{zero-add}
 use native.Mathlib.Omega.{arith}

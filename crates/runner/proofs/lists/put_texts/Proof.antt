@@ -2,12 +2,11 @@
 use Rattle.runner.proofs.ListTexts.{lent-size, lent-room}
 use Rattle.bench.proofs.ChangeSteps.{length-mapped}
 use mathlib.Core.Path.{_≡_}
-use Prim.Native.Nat.{ℕ}
 use Rattle.runner.proofs.ListTexts.{Telling, telling-none, telling-next, telling-skip, telling-fits, telling-all}
 use Rattle.text.proofs.Puts.{same-length as put-length}
 use lib.Seq.{getD-take, length-take-le}
 use lib.ListN.{take, length}
-use mathlib.Core.Path.{sym, _∙_}
+use mathlib.Core.Path.{sym}
 use mathlib.Core.Logic.{⊎-elim}
 use native.Mathlib.Omega.{arith}
 use Prim.Native.Nat.{_-_}

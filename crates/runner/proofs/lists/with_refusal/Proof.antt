@@ -1,6 +1,5 @@
 -- `lists::with_refusal` meets its contract. Assumes nothing.
 use Rattle.runner.proofs.ListTexts.{refused-room, refused-few, refused-behind}
-use Rattle.text.proofs.Laws.{length-refusedText}
 use mathlib.Core.Path.{refl}
 use native.Mathlib.Omega.{arith}
 use borrow.Author.Needs.{needs}

@@ -1,5 +1,6 @@
 -- `setup::fresh_with_view` meets its contract: fresh with the first view, else as it is. Assumes nothing.
 use borrow.Author.Needs.{needs}
+use Rattle.bench.specs.State.{state}
 use Rattle.runner.proofs.ViewSteps.{opens, stays}
 use Rattle.runner.proofs.setup.fresh_with_view.Statement.{statement}
 use Rattle.runner.proofs.setup.fresh_with_view.Tie as tie
@@ -14,10 +15,10 @@ same-length-2 : tie.Need-same-length-2
 same-length-2 c = search needs
 
 returns : tie.Need-returns
-returns c = opens _ _ _ _ (c .before .before .before .before .before .before .before .before .if1 .taken) (c .before .before .before .before .before .fresh .ensures .0) (c .before .before .before .before .before .before .before .before .before .before .before .before .before .pre)
+returns c = λ messages. opens (state _ _ _ _ messages) (c .before .before .before .before .before .before .before .before .if1 .taken) (c .before .before .before .before .before .fresh .result .reply) (c .before .before .before .before .before .fresh .ensures messages) (c .before .before .before .before .before .before .before .before .before .before .before .before .before .pre messages)
 
 returns-2 : tie.Need-returns-2
-returns-2 c = stays _ _ _ _ (c .if1 .left)
+returns-2 c = λ messages. stays (state _ _ _ _ messages) (c .if1 .left)
 
 pub fresh-with-view-spec : {M : Type 1} → statement M
 fresh-with-view-spec =

@@ -1,30 +1,21 @@
--- What deliver and repeat answer, and make of the bench, the limit tables and the messages. Assumes nothing.
+-- What deliver and repeat answer, and make of the bench, the limit tables and the messages, number by number. Assumes nothing.
 use Prim.Native.Nat.{ℕ, _-_}
-use mathlib.Core.Bool.{Bool, _&&_}
-use mathlib.Core.List.{List, []}
+use mathlib.Core.List.{List}
 use lib.ListN.{getD, set}
 use Rattle.agreement.specs.Record.{freshRecord}
 use Rattle.agreement.specs.Offer.{opposite}
-use Rattle.agreement.specs.Call.{Response, says, deliverOutcome}
+use Rattle.agreement.specs.Call.{Response, deliverOutcome}
 use Rattle.agreement.specs.declared.Agreement.{Agreement}
 use Rattle.agreement.specs.declared.Answer.{Answer}
 use Rattle.agreement.specs.declared.EndRecord.{EndRecord}
 use Rattle.protocol.specs.Net.{sender}
 use Rattle.protocol.specs.Calls.{deliver, repeat}
-use Rattle.bench.specs.State.{State, network, lentView, messageFrom}
-use Rattle.bench.specs.Ranges.{messagesInRange}
-use Rattle.bench.specs.Changes.{refusalOf, orRefused, stateInRange}
-use Rattle.bench.specs.Queue.{withCount, takenOut}
+use Rattle.bench.specs.State.{State, network, messageFrom}
+use Rattle.bench.specs.Private.Views.{lentView}
+use Rattle.bench.specs.Ranges.{stateInRange}
+use Rattle.bench.specs.Contracts.{refusedBy, refusalOf, orRefused}
+use Rattle.bench.specs.Private.Queue.{withCount, takenOut}
 use Rattle.bench.specs.declared.Bench.{Bench}
-use Rattle.bench.specs.declared.Reaction.{Reaction}
-
--- the reply as document 01 has it: the number, and the answer where the call is accepted
-abbrev pub refusedBy : {A : Type 0} → ℕ → Response A
-refusedBy k = record { number = k; value = [] }
-
-abbrev pub reactionResponse : Reaction → Response Answer
-reactionResponse (Reaction.Refused k) = refusedBy k
-reactionResponse (Reaction.Answered a) = says a
 
 -- a bench, the limit tables and the messages after a call
 pub record DeliveryOutcome : Type 0 where
@@ -71,19 +62,15 @@ arrivalEnd m p = opposite (sender (messageFrom m p))
 abbrev pub received : State → ℕ → DeliveryOutcome
 received s p = deliveryAt s (arrivalEnd (s .messages) p) (messageFrom (s .messages) p .agreement)
 
--- what a delivery is handed, in range
-abbrev pub deliveryReady : State → Bool
-deliveryReady s = stateInRange s && messagesInRange (s .bench) (s .messages)
-
 abbrev pub deliveryRefused : State → ℕ → DeliveryOutcome
 deliveryRefused s k = deliveryOutcome (refusedBy k) (s .bench) (s .sent) (s .held) (s .messages)
 
 unfoldable pub repeatOf : State → ℕ → DeliveryOutcome
-repeatOf s p = orRefused (refusalOf (deliveryReady s) (network s) (repeat p)) (deliveryRefused s) (received s p)
+repeatOf s p = orRefused (refusalOf (stateInRange s) (network s) (repeat p)) (deliveryRefused s) (received s p)
 
 unfoldable pub deliverOf : State → ℕ → DeliveryOutcome
 deliverOf s p =
     let r : DeliveryOutcome = received s p in
     let count : ℕ = s .bench .messages in
-    orRefused (refusalOf (deliveryReady s) (network s) (deliver p)) (deliveryRefused s)
+    orRefused (refusalOf (stateInRange s) (network s) (deliver p)) (deliveryRefused s)
     (deliveryOutcome (r .reply) (withCount (r .bench) (count - 1)) (r .sent) (r .held) (takenOut count p (s .messages)))

@@ -1,5 +1,4 @@
--- What the private calls are handed of a bench, and what they leave of it, said without the bench. No public contract cites this file. Assumes
--- nothing.
+-- What the private calls are handed of a bench, and what they leave of it, said without the bench. Assumes nothing.
 use Prim.Native.Nat.{ℕ, _*_, _<_}
 use mathlib.Core.Path.{_≡_}
 use mathlib.Core.Bool.{Bool, true, false, cond, _&&_}
@@ -14,10 +13,12 @@ use Rattle.agreement.specs.declared.Answer.{Answer}
 use Rattle.agreement.specs.declared.EndRecord.{EndRecord}
 use Rattle.distances.specs.View.{graphOf}
 use Rattle.protocol.specs.Calls.{endOf}
-use Rattle.bench.specs.State.{State, state, lentView, messageFrom}
-use Rattle.bench.specs.Changes.{ChangeOutcome, changeOutcome, ends, movedEnds, movedBench, benchWithCut}
-use Rattle.bench.specs.Queue.{withCount}
-use Rattle.bench.specs.Deliveries.{arrivalEnd, refusedBy, benchWithRecords}
+use Rattle.bench.specs.State.{State, state, messageFrom}
+use Rattle.bench.specs.Private.Views.{lentView}
+use Rattle.bench.specs.Private.Changes.{ChangeOutcome, changeOutcome, ends, movedEnds, movedBench, benchWithCut}
+use Rattle.bench.specs.Private.Queue.{withCount}
+use Rattle.bench.specs.Private.Deliveries.{arrivalEnd, benchWithRecords}
+use Rattle.bench.specs.Contracts.{refusedBy}
 use Rattle.bench.specs.declared.Bench.{Bench}
 use Rattle.bench.specs.declared.Disposition.the-variants.{Complete, Refused}
 use Rattle.bench.specs.declared.effects.Effect.{Effect}
@@ -30,7 +31,11 @@ use Rattle.bench.specs.declared.Event.{Event}
 use Rattle.bench.specs.declared.Event.the-variants.{Update, Send, Deliver, Repeat, Lose, Cut, Restore, Report, Path}
 use Rattle.agreement.specs.Sizes.{mostEnds}
 
--- a send or a loss: its number, the bench, what becomes of it
+-- a send or a loss: its reply, its number, the bench, what becomes of it
+abbrev pub queueChangeResponse : QueueChange → Response (Unit {0})
+queueChangeResponse (QueueChange.Refused k) = refusedBy k
+queueChangeResponse (QueueChange.Length n) = says tt
+
 abbrev pub queueChangeNumber : QueueChange → ℕ
 queueChangeNumber (QueueChange.Refused k) = k
 queueChangeNumber (QueueChange.Length n) = 0
@@ -126,6 +131,11 @@ abbrev pub updatingTo : Updating → State → ℕ → ℕ → ChangeOutcome
 updatingTo (Updating.Refused k) s y t = changeOutcome k (s .bench) (s .sent) (s .held)
 updatingTo Updating.Stays s y t = changeOutcome 0 (s .bench) (s .sent) (s .held)
 updatingTo Updating.Moves s y t = movedTo s y t
+
+abbrev pub updatingResponse : Updating → Response (Unit {0})
+updatingResponse (Updating.Refused k) = refusedBy k
+updatingResponse Updating.Stays = says tt
+updatingResponse Updating.Moves = says tt
 
 abbrev pub updatingNumber : Updating → ℕ
 updatingNumber (Updating.Refused k) = k

@@ -1,22 +1,17 @@
 -- Messages in flight as lent numbers, five a message: what send and lose make of them. Assumes nothing.
 use Prim.Native.Nat.{ℕ, _+_, _*_, _-_}
 use mathlib.Core.Bool.{_&&_}
-use mathlib.Core.List.{List, [], _∷_}
+use mathlib.Core.List.{List}
 use lib.ListN.{getD}
 use lib.Seq.{sets}
 use lib.Dec.{leb, ltb}
 use Rattle.distances.specs.Table.{rewritten}
-use Rattle.protocol.specs.Net.{Message}
 use Rattle.protocol.specs.Calls.{send, lose, messageOf}
-use Rattle.bench.specs.State.{networkOf}
+use Rattle.bench.specs.State.{numbersOf}
+use Rattle.bench.specs.Private.Views.{networkOf}
 use Rattle.bench.specs.Ranges.{benchInRange, messagesInRange}
-use Rattle.bench.specs.Changes.{refusalOf, orRefused}
+use Rattle.bench.specs.Contracts.{refusalOf, orRefused}
 use Rattle.bench.specs.declared.Bench.{Bench}
-
--- a message's five numbers
-abbrev pub numbersOf : Message → List ℕ
-numbersOf m =
-    m .link ∷ m .direction ∷ m .agreement .view ∷ m .agreement .number ∷ m .agreement .discarded ∷ []
 
 -- the bench with another count of messages in flight
 abbrev pub withCount : Bench → ℕ → Bench

@@ -1,32 +1,18 @@
--- What update, cut, restore and fresh make of a bench and of the lent tables. Assumes nothing.
-use Prim.Native.Nat.{ℕ, zero, suc, _+_, _*_, _<_}
-use mathlib.Core.Bool.{Bool, true, false, cond, _&&_, not}
-use mathlib.Core.List.{List, [], _∷_}
-use lib.ListN.{length, getD, set, replicate}
+-- What update, cut, restore and fresh make of a bench and of the lent tables, number by number. Assumes nothing.
+use Prim.Native.Nat.{ℕ, zero, suc, _+_, _*_}
+use mathlib.Core.Bool.{Bool, true, false, cond}
+use mathlib.Core.List.{List, []}
+use lib.ListN.{getD, set}
 use lib.Dec.{eqb}
 use Rattle.agreement.specs.Record.{freshRecord}
 use Rattle.agreement.specs.Call.{ViewData, updateOutcome, freshOutcome}
 use Rattle.agreement.specs.declared.EndRecord.{EndRecord}
-use Rattle.protocol.specs.Net.{Network}
-use Rattle.protocol.specs.Calls.{Call, change, update, cut, restore, refusal, checks}
-use Rattle.bench.specs.State.{State, network, networkOf, lentView}
-use Rattle.bench.specs.Ranges.{graphInRange, benchInRange, costsInRange, limitsLong, networkInRange}
+use Rattle.protocol.specs.Calls.{change, update, cut, restore}
+use Rattle.bench.specs.State.{State, network}
+use Rattle.bench.specs.Private.Views.{networkOf, lentView}
+use Rattle.bench.specs.Ranges.{benchInRange, networkInRange}
+use Rattle.bench.specs.Contracts.{refusalOf, orRefused}
 use Rattle.bench.specs.declared.Bench.{Bench}
-use Rattle.bench.specs.declared.Reply.{Reply}
-
--- each reply's number in document 01, 0 where nothing is refused
-abbrev pub number : Reply → ℕ
-number (Reply.Refused k) = k
-number Reply.Done = 0
-
--- no refusal has the number 0: beside `number`, which is 0 for both, this rules out Refused(0) where a call is done
-abbrev pub NoZero : Reply → Type 0
-NoZero (Reply.Refused k) = 0 < k
-NoZero Reply.Done = Unit {0}
-
--- 17 first, then the table's checks of the call
-unfoldable pub refusalOf : Bool → Network → Call → ℕ
-refusalOf ready n c = refusal (record { when = not ready; number = 17 } ∷ checks n c)
 
 -- a bench after a call that is lent nothing it may write
 pub record BenchOutcome : Type 0 where
@@ -35,10 +21,6 @@ pub record BenchOutcome : Type 0 where
 
 abbrev pub benchOutcome : ℕ → Bench → BenchOutcome
 benchOutcome reply bench = record { reply = reply; bench = bench }
-
--- what is done, or what a refusal by this number leaves
-abbrev pub orRefused : {A : Type 0} → ℕ → (ℕ → A) → A → A
-orRefused k refused done = cond (eqb k 0) done (refused k)
 
 -- Cut and restore
 abbrev pub benchWithCut : Bench → ℕ → Bool → Bench
@@ -125,14 +107,10 @@ movedBench b y t x =
     (x .sent)
     (x .held)
 
--- what most calls are handed, in range
-abbrev pub stateInRange : State → Bool
-stateInRange s = networkInRange (s .bench) (s .costs) (length (s .sent)) (length (s .held))
-
 unfoldable pub updateOf : State → ℕ → ℕ → ChangeOutcome
 updateOf s y t =
     let b : Bench = s .bench in
-    orRefused (refusalOf (stateInRange s) (network s) (change (update y t))) (λ k. changeOutcome k b (s .sent) (s .held))
+    orRefused (refusalOf (networkInRange s) (network s) (change (update y t))) (λ k. changeOutcome k b (s .sent) (s .held))
     (cond (eqb (getD (b .view) y 0) t) (changeOutcome 0 b (s .sent) (s .held))
     (movedBench b y t
     (movedEnds (lentView b (s .costs) t) (b .views) y t (2 * b .links) (ends (b .records) (s .sent) (s .held)))))
@@ -152,25 +130,3 @@ startedEnds v (suc e) x =
     let before : LimitTables = startedEnds v e x in
     let o = freshOutcome v e (before .sent) (before .held) in
     limitTables (o .sent) (o .held)
-
-abbrev pub freshBench : Bench → Bench
-freshBench b =
-    record {
-      bridges = b .bridges;
-      links = b .links;
-      views = b .views;
-      messages = 0;
-      ends = b .ends;
-      view = replicate 16 0;
-      number = replicate 16 1;
-      records = replicate 64 freshRecord;
-      cut = replicate 32 false;
-    }
-
--- A fresh network: of the bench handed in only the counts and the ends are read
-unfoldable pub freshOf : Bench → List ℕ → List ℕ → List ℕ → ChangeOutcome
-freshOf b costs sent held =
-    let x : LimitTables = startedEnds (lentView b costs 0) (2 * b .links) (limitTables sent held) in
-    cond (graphInRange b && (costsInRange b costs && limitsLong (length sent) (length held)))
-    (changeOutcome 0 (freshBench b) (x .sent) (x .held))
-    (changeOutcome 17 b sent held)

@@ -1,4 +1,4 @@
--- What the private functions assume, and answers of theirs. No public contract cites this file. Assumes nothing.
+-- What the private functions assume, and answers of theirs. Assumes nothing.
 use Prim.Native.Nat.{ℕ, _+_, _*_, _<_, _≤_}
 use mathlib.Core.Path.{_≡_}
 use mathlib.Core.Bool.{Bool, true, false, cond}
@@ -11,18 +11,20 @@ use Rattle.distances.specs.Call.{distancesOf}
 use Rattle.agreement.specs.Call.{ViewData, lentGraph}
 use Rattle.agreement.specs.Choice.{choiceBelow}
 use Rattle.agreement.specs.declared.Choice.{Choice}
-use Rattle.bench.specs.State.{State, network, lentView, part, distanceTable}
-use Rattle.bench.specs.Ranges.{networkInRange}
+use Rattle.bench.specs.State.{State, network, part}
+use Rattle.bench.specs.Private.Views.{lentView, distanceTable}
+use Rattle.bench.specs.Ranges.{partsInRange}
 use Rattle.protocol.specs.Calls.{report}
-use Rattle.bench.specs.Changes.{refusalOf, stateInRange}
-use Rattle.bench.specs.Answers.{reported}
+use Rattle.bench.specs.Contracts.{refusalOf}
+use Rattle.bench.specs.Ranges.{networkInRange}
+use Rattle.bench.specs.Private.Answers.{reported}
 use Rattle.bench.specs.Batches.{Batch}
-use Rattle.bench.specs.Deliveries.{deliveryReady}
+use Rattle.bench.specs.Ranges.{stateInRange}
 use Rattle.protocol.specs.Ports.{Hop, stays, crosses}
 use Rattle.bench.specs.declared.Bench.{Bench}
 use Rattle.bench.specs.declared.effects.EventResult.{EventResult}
 use Rattle.bench.specs.declared.effects.Effect.the-variants.{Same}
-use Rattle.bench.specs.Effects.{eventResult}
+use Rattle.bench.specs.Private.Effects.{eventResult}
 use Rattle.bench.specs.declared.Disposition.{Disposition}
 use Rattle.bench.specs.declared.Hop as code
 use Rattle.bench.specs.Sizes.{costNumbers}
@@ -39,7 +41,7 @@ pub record Ready (b : Bench) (costs : List ℕ) : Type 0 where
 
 -- and a call that asks for ports
 pub record PortsReady (b : Bench) (costs sent held : List ℕ) : Type 0 where
-  pub inRange : networkInRange b costs (length sent) (length held) ≡ true
+  pub inRange : partsInRange b costs (length sent) (length held) ≡ true
   pub ready : Ready b costs
   pub sentLong : limitNumbers ≤ length sent
   pub heldLong : limitNumbers ≤ length held
@@ -86,7 +88,7 @@ protocolHop (code.Hop.Crosses l z) = crosses l z
 -- a report among events: its number, and the rows at the head of the lent numbers
 abbrev pub ReportsTo : State → ℕ → List ℕ → EventResult → List ℕ → Type 0
 ReportsTo s d answers r after =
-    let k : ℕ = refusalOf (stateInRange s) (network s) (report d) in
+    let k : ℕ = refusalOf (networkInRange s) (network s) (report d) in
     (r ≡ eventResult k (2 * s .bench .bridges) Same)
     × (after ≡ cond (eqb k 0) (reported s d (s .bench .bridges) answers) answers)
 
@@ -97,4 +99,4 @@ pub record BatchLeft (b : Batch) (answers : List ℕ) (count : ℕ) (how : Dispo
   pub state : s ≡ b .state
   pub counted : answered ≡ length (b .answers)
   pub rest : after ≡ b .answers ++ drop answered answers
-  pub ready : deliveryReady s ≡ true
+  pub ready : stateInRange s ≡ true

@@ -1,4 +1,4 @@
--- The ends of each bridge one behind the other, for private functions. No public contract cites this file. Assumes nothing.
+-- The ends of each bridge one behind the other. Assumes nothing.
 use Prim.Native.Nat.{ℕ, suc, _+_, _*_, _<_, _≤_}
 use mathlib.Core.Path.{_≡_}
 use mathlib.Core.List.{List}

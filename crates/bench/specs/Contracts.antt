@@ -93,7 +93,7 @@ outcomeOf s c value = outcome (replyTo (readyFor s c) (network s) c (value (netw
 abbrev pub RefusedChangesNothing : Type 0
 RefusedChangesNothing = (s : State) (c : Call) → (refusalOf (readyFor s c) (network s) c ≡ 0 → ⊥) → leftBy s c ≡ s
 
--- and so does asking
+-- and asking changes nothing
 abbrev pub AskingChangesNothing : Type 0
 AskingChangesNothing = (s : State) (b d : ℕ) → (leftBy s (port b d) ≡ s) × (leftBy s (report d) ≡ s) × (leftBy s (path b d) ≡ s)
 

@@ -8,7 +8,7 @@ use borrow.Author.Tests.{lt-ltb}
 use Rattle.distances.specs.View.{Graph, Costs, NONE, InRange}
 use Rattle.distances.specs.Distance.{present}
 use Rattle.distances.proofs.Ranges.{each-end}
-use Rattle.distances.proofs.Joined.{present-cost, cost-present, present-same}
+use Rattle.distances.proofs.Joined.{present-cost, cost-present}
 use Rattle.agreement.specs.Offer.{linkOf, opposite, farBridge, offer}
 
 pub opposite-opposite : (e : ℕ) → opposite (opposite e) ≡ e
@@ -38,13 +38,3 @@ module _ (g : Graph) (c : Costs) (f : ℕ → ℕ → ℕ) (e d : ℕ) where
       go true true p = let cost : c (linkOf e) ≡ 0 → ⊥ = p refl in omega arith
       go true false p = h
       go false b p = h
-
--- an offer depends only on the link's cost and the distances of its two bridges
-pub offer-same :
-    (g : Graph) (c k : Costs) (f h : ℕ → ℕ → ℕ) (e d : ℕ) →
-    c (linkOf e) ≡ k (linkOf e) →
-    f (g .bridgeAt e) d ≡ h (g .bridgeAt e) d →
-    f (farBridge g e) d ≡ h (farBridge g e) d →
-    offer g c f e d ≡ offer g k h e d
-unfolding offer
-offer-same g c k f h e d cost near far = rw (present-same c k (linkOf e) cost, cost, near, far)

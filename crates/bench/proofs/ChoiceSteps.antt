@@ -35,7 +35,7 @@ use Rattle.bench.specs.Ranges.{networkInRange}
 use Rattle.bench.specs.Private.Answers.{found, portIn, reportedRow}
 use Rattle.bench.specs.Private.Steps.{PortsReady, IsFilled, choiceIn, AreChoices}
 use Rattle.bench.specs.declared.Bench.{Bench}
-use Rattle.bench.proofs.TieRanges.{LastingOf, lasting-told, lent-in-range, plan-in-range, part-at, getD-stored}
+use Rattle.bench.proofs.TieRanges.{LastingOf, lasting-told, few, lent-in-range, plan-in-range, part-at, getD-stored}
 use Rattle.bench.proofs.QueueRanges.{bench-told, network-bench, network-costs, network-told}
 use Rattle.bench.proofs.QueueCalls.{said-same}
 use Rattle.bench.proofs.PathSteps.{own-cell}
@@ -68,7 +68,7 @@ ports-told b costs sent held ok =
       ready = network-told b costs (length sent) (length held) ok;
       sentLong = long .0;
       heldLong = long .1;
-      costsMost = λ t l ht hl. plan-in-range b costs lasts .costs t ht .most l hl;
+      costsMost = λ t l ht hl. rw (part-at 32 t costs l (omega (arith, few b costs lasts))) at (plan-in-range b costs lasts .costs t ht .most l hl);
     }
 
 -- the view of a bridge, and the bridge at the other end o of a link

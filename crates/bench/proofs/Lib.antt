@@ -17,6 +17,7 @@ pub mod TieSteps
 pub mod TieStarted
 pub mod TableSteps
 pub mod TieFresh
+pub mod StateTells
 pub mod TieWhole
 pub mod CallSteps
 pub mod CallReads

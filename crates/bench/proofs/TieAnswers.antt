@@ -18,7 +18,7 @@ use Rattle.bench.specs.Private.Answers.{portIn, hopIn}
 use Rattle.bench.proofs.Represents.{Represents}
 use Rattle.protocol.proofs.Links.{across-below}
 use Rattle.protocol.proofs.Hops.{port-forwards, hop-crosses}
-use Rattle.bench.proofs.TieRanges.{StateReady, told, network-ready, few, plan-in-range, part-at, lent-distances}
+use Rattle.bench.proofs.TieRanges.{StateReady, told, network-ready, few, plan-in-range, lent-distances}
 use Rattle.bench.proofs.ChoiceSteps.{port-in}
 
 -- ---- hops that agree at the bridges that there are, and lead from one of them to another, make the same way
@@ -68,7 +68,7 @@ module _ (s : State) (n : Network) (r : Represents s n) where
         (port-cong (network s .plan .graph) _ _ _ _ _ _ graph-inside y d hy
         (record {
           distances = λ i hi. lent-distances (s .bench) (s .costs) (inside .lasting) viewOf is-view i d hi hd;
-          costs = λ l hl. part-at 32 viewOf (s .costs) l (omega (arith, small));
+          costs = λ l hl. refl;
           cut = λ l hl. sym (r .cut l hl);
           ends = λ e he. sym (r .ends e he);
           sent = λ e he. sym (r .sent e d he hd);

@@ -1,8 +1,8 @@
 -- What the entry check of a whole state tells, part by part, and that the parts together pass it. A lent view's offers are the plan's.
 -- Assumes nothing.
-use Prim.Native.Nat.{ℕ, _+_, _*_, _/_, _≤_, _<_}
+use Prim.Native.Nat.{ℕ, _+_, _*_, _≤_, _<_}
 use native.Mathlib.Omega.{arith}
-use mathlib.Core.Path.{_≡_, refl, sym, _∙_}
+use mathlib.Core.Path.{_≡_, refl, sym}
 use mathlib.Core.Bool.{Bool, true, false, cond}
 use mathlib.Core.List.{List}
 use borrow.Author.Tests.{leb-true, le-leb, ltb-true, lt-ltb, eqb-true, eqb-false}
@@ -15,13 +15,11 @@ use Rattle.distances.specs.Table.{cell, withPairs}
 use Rattle.distances.specs.Call.{inRange, graphPasses, costsPass, allBelow}
 use Rattle.distances.proofs.Booleans.{both-true, true-both}
 use Rattle.distances.proofs.Ranges.{allBelow-true, true-allBelow, counts, at-bridge, graph-in-range, costs-told, in-range-made}
-use Rattle.distances.proofs.Laws.{dist-cong}
 use Rattle.distances.proofs.Outcomes.{distances-accepted}
 use Rattle.distances.proofs.Tables.{withPairs-length, cell-withPairs}
 use Rattle.agreement.specs.Record.{freshRecord}
 use Rattle.agreement.specs.Ranges.{recordInRange}
 use Rattle.agreement.specs.Call.{lentInRange, lentOffer}
-use Rattle.agreement.proofs.Ends.{offer-same}
 use Rattle.agreement.proofs.Offers.{offer-is}
 use Rattle.agreement.proofs.InRange.{records-pass, records-told}
 use Rattle.protocol.specs.Net.{Network, PlanInRange, distanceIn, offerIn}
@@ -91,28 +89,19 @@ module _ (b : Bench) (costs : List ℕ) where
     pub are-bridges : (e : ℕ) → e < 2 * b .links → getD (b .ends) e 0 < b .bridges
     are-bridges = at-bridge _ _ _ (l .graph)
 
-    -- a link's cost in view t, in the view's row
-    pub cost-at : (t k : ℕ) → k < b .links → costsOf (part 32 t costs) k ≡ getD costs (32 * t + k) 0
-    cost-at t k h = part-at 32 t costs k (omega (arith, few))
-
     pub plan-in-range : PlanInRange (planIn b costs)
     plan-in-range =
         record {
           graph = graph-in-range _ _ _ (l .graph);
           least = l .viewsLeast;
           most = l .viewsMost;
-          costs = λ t low. record { most = λ k h. rw (cost-at t k h) at (costs-told _ _ (l .eachView t low) .1 k h) };
+          costs = λ t low. record { most = costs-told _ _ (l .eachView t low) .1 };
         }
 
     module _ (t : ℕ) (low : t < b .views) where
       -- a view, as layer 1 asks it
       pub view-in-range : inRange (b .bridges) (b .links) (b .ends) (part 32 t costs) 256 ≡ true
       view-in-range = in-range-made _ _ _ _ _ (l .graph) (l .eachView t low) (omega arith)
-
-      same :
-          (i j : ℕ) →
-          dist (graphOf (b .bridges) (b .links) (b .ends)) (costsOf (part 32 t costs)) i j ≡ distanceIn (planIn b costs) t i j
-      same i j = dist-cong (graphOf (b .bridges) (b .links) (b .ends)) _ _ (cost-at t) i j
 
       -- what layer 1 leaves in the view's table
       distances-are :
@@ -129,16 +118,14 @@ module _ (b : Bench) (costs : List ℕ) where
 
       -- its distances are the plan's
       pub lent-distances : (i j : ℕ) → i < b .bridges → j < b .bridges → cell (lentView b costs t .table) i j ≡ distanceIn (planIn b costs) t i j
-      lent-distances i j hi hj = rw distances-are (cell-withPairs (b .bridges) (replicate 256 0) _ i j (few .0) (omega arith) hi hj) ∙ same i j
+      lent-distances i j hi hj = rw distances-are (cell-withPairs (b .bridges) (replicate 256 0) _ i j (few .0) (omega arith) hi hj)
 
       pub lent-offer-in :
           (e d : ℕ) →
           e < 2 * b .links →
           d < b .bridges →
           lentOffer (lentView b costs t) e d ≡ offerIn (planIn b costs) t e d
-      lent-offer-in e d he hd =
-          offer-is (lentView b costs t) lent-in-range (λ i j hi hj. lent-distances i j hi hj ∙ sym (same i j)) e d he hd
-          ∙ offer-same (graphOf (b .bridges) (b .links) (b .ends)) _ _ _ _ e d (cost-at t (e / 2) (omega arith)) (same _ d) (same _ d)
+      lent-offer-in = offer-is (lentView b costs t) lent-in-range lent-distances
 
 -- ---- the whole check
 

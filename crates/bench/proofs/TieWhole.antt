@@ -1,6 +1,6 @@
 -- Demand 3 for whoever makes the calls one after the other: the network stands in the state after `fresh`, and after each call.
 -- Assumes nothing.
-use Prim.Native.Nat.{ℕ, _<_}
+use Prim.Native.Nat.{ℕ, _*_, _<_}
 use native.Mathlib.Omega.{arith}
 use mathlib.Core.Path.{_≡_, refl, sym, _∙_, ap, subst}
 use mathlib.Core.Bool.{Bool, true, false, cond}
@@ -9,11 +9,16 @@ use borrow.Author.Tests.{le-leb}
 use lib.ListN.{length}
 use Rattle.distances.proofs.Booleans.{true-both}
 use Rattle.agreement.specs.Call.{Response, says}
+use Rattle.agreement.specs.Record.{heldLimit}
+use Rattle.agreement.specs.declared.EndRecord.{EndRecord}
+use Rattle.protocol.specs.LimitViews.{Limits, viewsRun, freshViews}
 use Rattle.protocol.specs.Net.{Network, Plan, PlanInRange, fresh}
 use Rattle.protocol.specs.Calls.{Call, report, step, run}
 use Rattle.bench.specs.State.{State, network}
 use Rattle.bench.specs.Contracts.{Outcome, planReady, freshOf, leftBy}
 use Rattle.bench.specs.Whole.{runIn, Stands, Replies, Meets, WholeLists}
+use Rattle.protocol.proofs.Runs.{plan-run}
+use Rattle.protocol.proofs.LimitsKept.{limits-as-defined}
 use Rattle.protocol.proofs.Theorem.{demand3}
 use Rattle.bench.proofs.Represents.{Represents, own-represents}
 use Rattle.bench.proofs.TieRanges.{plan-in-range}
@@ -60,11 +65,29 @@ unfolding runIn run
 run-represents [] s n r = r
 run-represents (c ∷ cs) s n r = run-represents cs (leftBy s c) (step n c) (left-represents s n r c)
 
+held-same : (a b : EndRecord) (f g : ℕ → ℕ) (d : ℕ) → a ≡ b → f d ≡ g d → heldLimit a f d ≡ heldLimit b g d
+held-same a b f g d ends row = rw (ends, row)
+
+-- the limits that stand in a state are the network's
+limits-there :
+    (s : State) (n : Network) → Represents s n → (p : Plan) (cs : List Call) → n ≡ run (fresh p) cs →
+    (e d : ℕ) → e < 2 * p .graph .links → d < p .graph .bridges → Limits p (network s .records) e d (viewsRun (fresh p) e freshViews cs)
+unfolding fresh
+limits-there s n r p cs is e d he hd =
+    let limits = limits-as-defined p cs e d in
+    let same : network s .plan ≡ p = sym (r .plan) ∙ rw is (plan-run (fresh p) cs) in
+    let end : e < 2 * s .bench .links = rw (← same) at he in
+    let dest : d < s .bench .bridges = rw (← same) at hd in
+    record {
+      sent = sym (r .sent e d end dest) ∙ rw is (limits .sent);
+      held = held-same (network s .records .ends e) (n .records .ends e) (network s .records .held e) (n .records .held e) d (sym (r .ends e end)) (sym (r .held e d end dest)) ∙ rw is (limits .held);
+    }
+
 -- from any state in which a fresh network stands
-pub whole-from : (s : State) (p : Plan) → PlanInRange p → Represents s (fresh p) → (cs : List Call) → Meets s p cs
+pub whole-from : (s : State) (p : Plan) → PlanInRange p → Represents s (fresh p) → (cs : List Call) → Meets (runIn s cs) p cs
 whole-from s p ok fresh-there cs =
     let r = run-represents cs s (fresh p) fresh-there in
-    record { holds = demand3 p ok cs; stands = stands-in _ _ r; replies = replies _ _ r }
+    record { holds = demand3 p ok cs; stands = stands-in _ _ r; replies = replies _ _ r; limits = limits-there _ _ r p cs refl }
 
 seventeen : _≡_ {A = ℕ} 17 0 → ⊥
 seventeen e = omega arith
@@ -82,5 +105,5 @@ pub whole-lists : WholeLists
 whole-lists s done room cs =
     let ok = accepted-plan s done in
     let lasting = fresh-told (s .bench) (s .costs) (s .sent) (s .held) ok .lasting in
-    subst (λ (x : State). Meets x (network s .plan) cs) (ap (λ (o : Outcome (Unit {0})). o .state) (fresh-left s ok))
+    subst (λ (x : State). Meets (runIn x cs) (network s .plan) cs) (ap (λ (o : Outcome (Unit {0})). o .state) (fresh-left s ok))
     (whole-from (freshState s) (network s .plan) (plan-in-range (s .bench) (s .costs) lasting) (fresh-represents s ok room) cs)

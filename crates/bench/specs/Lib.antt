@@ -3,6 +3,7 @@ pub mod State
 pub mod Ranges
 pub mod Standing
 pub mod Contracts
+pub mod Demand2
 pub mod Whole
 pub mod Batches
 pub mod Private

@@ -2,7 +2,7 @@
 use Prim.Native.Nat.{ℕ, zero, suc, _+_, _*_}
 use mathlib.Core.List.{List, [], _∷_}
 use lib.ListN.{getD, take, drop}
-use Rattle.distances.specs.View.{graphOf}
+use Rattle.distances.specs.View.{graphOf, costsOf}
 use Rattle.agreement.specs.Call.{lentRecords}
 use Rattle.protocol.specs.Net.{Network, Message}
 use Rattle.bench.specs.declared.Bench.{Bench}
@@ -50,7 +50,7 @@ network s =
           record {
             graph = graphOf (s .bench .bridges) (s .bench .links) (s .bench .ends);
             views = s .bench .views;
-            costs = λ t l. getD (s .costs) (32 * t + l) 0;
+            costs = λ t. costsOf (part 32 t (s .costs));
           };
       view = λ b. getD (s .bench .view) b 0;
       number = λ b. getD (s .bench .number) b 0;

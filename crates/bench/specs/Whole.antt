@@ -1,6 +1,6 @@
 -- Demand 3 for whoever makes the calls one after the other: the network of Demand3 stands in the state that the calls leave, and every
 -- reply is about it. Assumes nothing.
-use Prim.Native.Nat.{ℕ, _<_, _≤_}
+use Prim.Native.Nat.{ℕ, _*_, _<_, _≤_}
 use mathlib.Core.Path.{_≡_}
 use mathlib.Core.List.{List, [], _∷_}
 use mathlib.Core.Bool.{_&&_}
@@ -11,6 +11,7 @@ use Rattle.protocol.specs.Net.{Network, Plan, fresh}
 use Rattle.protocol.specs.Calls.{Call, report, refuse, answerAt, run}
 use Rattle.protocol.specs.Ports.{ownDistance, forwardingPort}
 use Rattle.protocol.specs.Paths.{path}
+use Rattle.protocol.specs.LimitViews.{Limits, viewsRun, freshViews}
 use Rattle.protocol.specs.Demand3.{Holds}
 use Rattle.bench.specs.State.{State, network}
 use Rattle.bench.specs.Sizes.{flightNumbers}
@@ -37,15 +38,17 @@ pub record Replies (s : State) (n : Network) : Type 0 where
   pub ports : (y d : ℕ) → y < n .plan .graph .bridges → d < n .plan .graph .bridges → forwardingPort (network s) y d ≡ forwardingPort n y d
   pub paths : (y d : ℕ) → y < n .plan .graph .bridges → d < n .plan .graph .bridges → path (network s) y d ≡ path n y d
 
--- from state s, in which a fresh network of plan p stands, by the calls cs: demand 3 holds of them, and it speaks of the network that stands
--- in the state that they leave and that the replies are about
+-- of state s, in which the calls cs from a fresh network of plan p end: demand 3 holds of them, and it speaks of the network that stands in s
+-- and that the replies are about
 pub record Meets (s : State) (p : Plan) (cs : List Call) : Type 0 where
   pub holds : Holds p cs
-  pub stands : Stands (runIn s cs) (run (fresh p) cs)
-  pub replies : Replies (runIn s cs) (run (fresh p) cs)
+  pub stands : Stands s (run (fresh p) cs)
+  pub replies : Replies s (run (fresh p) cs)
+  -- and the limits that stand in it are those that document 01 defines, by the views that the calls tell
+  pub limits : (e d : ℕ) → e < 2 * p .graph .links → d < p .graph .bridges → Limits p (network s .records) e d (viewsRun (fresh p) e freshViews cs)
 
 -- whoever calls `fresh`, with room for 64 messages beside it, and it is accepted, and then makes any calls
 abbrev pub WholeLists : Type 0
 WholeLists =
     (s : State) → freshOf s .reply ≡ says tt → flightNumbers ≤ length (s .messages) →
-    (cs : List Call) → Meets (freshOf s .state) (network s .plan) cs
+    (cs : List Call) → Meets (runIn (freshOf s .state) cs) (network s .plan) cs

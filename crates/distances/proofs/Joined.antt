@@ -156,10 +156,3 @@ module _ (g : Graph) (c : Costs) where
           let most : J ≤ NONE = omega (arith, joined-le m i j, unjoined-le i j) in
           let t = crossing-told m i j b (λ e. n (omega arith)) in
           rw (min-eq-right {n = crossing g c m i j} {m = J} (omega arith)) (inr (m, t .0, t .1))
-
--- costs that agree on the links below n
-pub joined-agrees :
-    (g : Graph) (c d : Costs) (n : ℕ) → ((l : ℕ) → l < n → c l ≡ d l) → (i j : ℕ) → joinedBelow g c unjoined n i j ≡ joinedBelow g d unjoined n i j
-unfolding joinedBelow crossing present
-joined-agrees g c d zero same i j = refl
-joined-agrees g c d (suc n) same i j = cc (joined-agrees g c d n (λ l h. same l (omega arith)) i j, same n (le-refl _))

@@ -1,17 +1,17 @@
 -- The laws of the distance of two bridges in a view, for the layers above. Assumes nothing.
 use Prim.Native.Nat.{ℕ, _+_, _<_, _≤_}
-use mathlib.Core.Path.{_≡_, refl, ap, fun-ext, sym, _∙_, subst}
+use mathlib.Core.Path.{_≡_, refl, sym, _∙_, subst}
 use mathlib.Core.Logic.{_⊎_, inl, inr}
 use mathlib.Core.List.{List}
 use native.Mathlib.Decide.{ℕ-discrete}
 use native.Mathlib.Omega.{arith}
 use Rattle.distances.specs.View.{Graph, Costs, NONE, maxCost, maxDistance, InRange, CostsInRange}
 use Rattle.distances.specs.Meaning.{Joins, IsPath, IsPath.here, IsPath.hop, total, IsDistance}
-use Rattle.distances.specs.Distance.{unjoined, joinedBelow, relaxedBelow, dist}
+use Rattle.distances.specs.Distance.{unjoined, joinedBelow, dist}
 use Rattle.distances.specs.Theorem.{DistIsDistance, NothingElseIs}
 use Rattle.distances.proofs.Count.{nearer-less, falls-bound}
 use Rattle.distances.proofs.Relaxed.{relaxed-le, relaxed-triangle, relaxed-symmetric, relaxed-attained}
-use Rattle.distances.proofs.Joined.{unjoined-self, unjoined-le, crossing-le, joined-le, joined-le-crossing, joined-symmetric, joined-told, joined-agrees}
+use Rattle.distances.proofs.Joined.{unjoined-self, unjoined-le, crossing-le, joined-le, joined-le-crossing, joined-symmetric, joined-told}
 use Rattle.distances.proofs.Paths.{Reaches, reaches-self, reaches-link, reaches-on}
 -- two starts that agree give one result; a link joins in both directions, and joins bridges
 pub use Rattle.distances.proofs.Relaxed.{relaxed-agrees}
@@ -62,14 +62,6 @@ module _ (g : Graph) (c : Costs) where
       start : (i j : ℕ) → ((i ≡ j) × (J i j ≡ 0)) ⊎ ((l : ℕ) × Joins g c l i j × (J i j ≡ c l)) → Reaches g c i j (J i j)
       start i j (inl h) = rw (h .1) (subst (λ (k : ℕ). Reaches g c i k 0) (h .0) (reaches-self i))
       start i j (inr h) = rw (h .2) (reaches-link (h .1))
-
--- costs that agree on the graph's links give one distance
-pub dist-cong : (g : Graph) (c d : Costs) → ((l : ℕ) → l < g .links → c l ≡ d l) → (i j : ℕ) → dist g c i j ≡ dist g d i j
-unfolding dist
-dist-cong g c d same i j =
-    ap
-    (λ (f : ℕ → ℕ → ℕ). relaxedBelow f (g .bridges) i j)
-    (fun-ext (λ i. fun-ext (λ j. joined-agrees g c d (g .links) same i j)))
 
 module _ (g : Graph) (c : Costs) (range : InRange g) where
   -- over a link, the distance to any bridge is at most the link's cost more
@@ -147,7 +139,7 @@ module _ (g : Graph) (c : Costs) (range : InRange g) (costs : CostsInRange g c) 
       go apart (no n) = let t = dist-attained g c i j n in absurd (apart (t .0) (t .1))
 
 pub dist-is-distance : DistIsDistance
-dist-is-distance g c range costs i j p q = go (ℕ-discrete (dist g c i j) NONE)
+dist-is-distance g c range costs i j = go (ℕ-discrete (dist g c i j) NONE)
   where
     go : Dec (dist g c i j ≡ NONE) → IsDistance g c i j (dist g c i j)
     go (yes e) = inr (record { none = e; apart = none-iff g c range costs i j .0 e })

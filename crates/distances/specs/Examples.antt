@@ -1,11 +1,13 @@
--- Document 01's known examples on the triangle: E1. Assumes nothing.
-use Prim.Native.Nat.{ℕ}
+-- Document 01's known examples on the triangle: E1, as it is computed and by what a distance means. Assumes nothing.
+use Prim.Native.Nat.{ℕ, _≤_}
 use mathlib.Core.Path.{_≡_}
 use mathlib.Core.Bool.{Bool, true, false, _&&_}
 use mathlib.Core.List.{List, [], _∷_, map, List·Memᴰ}
 use lib.Dec.{eqb}
-use Rattle.distances.specs.View.{Graph, Costs, graphOf, costsOf}
+use Rattle.distances.specs.View.{Graph, Costs, NONE, graphOf, costsOf}
+use Rattle.distances.specs.Meaning.{IsPath, total}
 use Rattle.distances.specs.Distance.{dist}
+use Rattle.distances.specs.Theorem.{DistIsDistance}
 use Rattle.distances.specs.Call.{every}
 
 -- links 0 (0–1), 1 (1–2), 2 (0–2)
@@ -44,3 +46,15 @@ same (x ∷ xs) (y ∷ ys) = eqb x y && same xs ys
 -- the test over a whole table
 unfoldable pub allPass : List Example → Bool
 allPass es = every (map (λ e. same (e .found) (e .stated)) es)
+
+-- E1 by the meaning of a distance: from bridge 1 to destination 0 in view 1 a path costs 4, and none costs less; in a view that gives no link
+-- a cost the distance is NONE, and there is no path
+pub record MeaningAtE1 : Type 0 where
+  pub attained : (ls : List ℕ) × IsPath triangle view1 1 ls 0 × (total view1 ls ≡ 4)
+  pub least : (ls : List ℕ) → IsPath triangle view1 1 ls 0 → 4 ≤ total view1 ls
+  pub none : dist triangle (λ l. 0) 1 0 ≡ NONE
+  pub apart : (ls : List ℕ) → IsPath triangle (λ l. 0) 1 ls 0 → ⊥
+
+-- the claim tells so
+abbrev pub DistancesApply : Type 0
+DistancesApply = DistIsDistance → MeaningAtE1

@@ -1,20 +1,18 @@
 -- What is proved of the computation of distances: it gives document 01's distance, no other number is one, and how great it can be.
 -- Assumes nothing.
-use Prim.Native.Nat.{ℕ, _*_, _<_, _≤_}
+use Prim.Native.Nat.{ℕ, _*_, _≤_}
 use mathlib.Core.Path.{_≡_}
 use Rattle.distances.specs.View.{Graph, Costs, NONE, maxCost, maxDistance, InRange, CostsInRange}
 use Rattle.distances.specs.Meaning.{IsDistance}
 use Rattle.distances.specs.Distance.{dist}
 
--- of any two bridges, `dist` is the distance
+-- `dist` is the distance, of any two bridges; what is no bridge has no path to another
 abbrev pub DistIsDistance : Type 0
 DistIsDistance =
     (g : Graph) (c : Costs) →
     InRange g →
     CostsInRange g c →
     (i j : ℕ) →
-    i < g .bridges →
-    j < g .bridges →
     IsDistance g c i j (dist g c i j)
 
 -- two distances of one bridge to another are equal

@@ -6,11 +6,11 @@ use mathlib.Core.List.{List, [], _∷_}
 use lib.ListN.{length, take, drop}
 use lib.Seq.{length-take-le}
 use Rattle.agreement.specs.Call.{Response}
-use Rattle.protocol.specs.Net.{Network, fresh}
-use Rattle.protocol.specs.Calls.{Call, run}
+use Rattle.protocol.specs.Net.{Network}
+use Rattle.protocol.specs.Calls.{Call}
 use Rattle.bench.specs.State.{state, network}
 use Rattle.bench.specs.Contracts.{Outcome, outcome, outcomeOf, freshOf}
-use Rattle.bench.specs.Whole.{runIn, Stands, Replies}
+use Rattle.bench.specs.Whole.{runIn, Meets}
 use Rattle.bench.specs.declared.Bench.{Bench}
 use Rattle.bench.proofs.TieWhole.{whole-lists}
 use Rattle.bench.proofs.RunSteps.{run-none, run-next}
@@ -31,12 +31,7 @@ whole-slices first s t cs start lead =
     let long : 320 ≤ length (flight (first .messages)) = omega (arith, numbers-length (take 64 (first .messages)), length-take-le 64 (first .messages) (start .room)) in
     let w = whole-lists (numbered first) (start .accepted) long cs in
     let e : runIn (freshOf (numbered first) .state) cs ≡ numbered t = sym (led s t cs lead ∙ ap (λ x. runIn x cs) (start .numbers)) in
-    let n : Network = run (fresh (network (numbered first) .plan)) cs in
-    record {
-      holds = w .holds;
-      stands = subst (λ x. Stands x n) e (w .stands);
-      replies = subst (λ x. Replies x n) e (w .replies);
-    }
+    subst (λ x. Meets x (network (numbered first) .plan) cs) e w
 
 -- what a contract says is what a call leads to
 pub call-leads :

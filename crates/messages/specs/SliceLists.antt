@@ -5,12 +5,10 @@ use mathlib.Core.Path.{_≡_}
 use mathlib.Core.List.{List, [], _∷_}
 use lib.ListN.{length, drop}
 use Rattle.agreement.specs.Call.{says}
-use Rattle.protocol.specs.Net.{Plan, fresh}
-use Rattle.protocol.specs.Calls.{Call, run}
-use Rattle.protocol.specs.Demand3.{Holds}
+use Rattle.protocol.specs.Calls.{Call}
 use Rattle.bench.specs.State.{State, state, network}
 use Rattle.bench.specs.Contracts.{leftBy, freshOf}
-use Rattle.bench.specs.Whole.{Stands, Replies}
+use Rattle.bench.specs.Whole.{Meets}
 use Rattle.bench.specs.declared.Bench.{Bench}
 use Rattle.messages.specs.declared.Message.{Message}
 use Rattle.messages.specs.Slices.{flight}
@@ -54,11 +52,6 @@ pub record Starts (first s : Kept) : Type 0 where
   pub room : mostMessages ≤ length (first .messages)
   pub numbers : numbered s ≡ freshOf (numbered first) .state
 
--- demand 3: what it says of every list of calls, and that the network it speaks of is the one that stands in what is kept
-pub record SlicesMeet (p : Plan) (cs : List Call) (t : Kept) : Type 0 where
-  pub holds : Holds p cs
-  pub stands : Stands (numbered t) (run (fresh p) cs)
-  pub replies : Replies (numbered t) (run (fresh p) cs)
-
+-- demand 3, of the network that stands in what is kept at the end
 abbrev pub WholeSlices : Type 0
-WholeSlices = (first s t : Kept) (cs : List Call) → Starts first s → Lead s cs t → SlicesMeet (network (numbered first) .plan) cs t
+WholeSlices = (first s t : Kept) (cs : List Call) → Starts first s → Lead s cs t → Meets (numbered t) (network (numbered first) .plan) cs

@@ -1,11 +1,10 @@
 -- The row that a view's costs are stored in, for the layers above: as long as before, with the costs first. Assumes nothing.
 use Prim.Native.Nat.{ℕ, zero, suc, _+_, _*_, _≤_, _<_}
-use native.Mathlib.Nat.{not-suc-le-zero}
 use native.Mathlib.Omega.{arith}
 use mathlib.Core.Path.{_≡_, refl, sym, ap, _∙_}
 use mathlib.Core.Bool.{Bool, true, false, cond, not}
 use mathlib.Core.List.{List}
-use borrow.Author.Tests.{ltb-false, le-ltb, le-leb, eqb-true, eqb-false}
+use borrow.Author.Tests.{ltb-true, ltb-false, lt-ltb, le-ltb, le-leb, eqb-true, eqb-false}
 use lib.ListN.{length, getD, length-set}
 use lib.Seq.{getD-set-same, getD-set-other}
 use lib.Dec.{eqb, leb, ltb}
@@ -26,14 +25,22 @@ module _ (rest : List ℕ) where
   costs-length zero row = refl
   costs-length (suc k) row = length-set (withCosts rest k row) k (costIn rest k) ∙ costs-length k row
 
-  costs-at : (k : ℕ) (row : List ℕ) (l : ℕ) → l < k → k ≤ length row → getD (withCosts rest k row) l 0 ≡ costIn rest l
+  costs-at : (k : ℕ) (row : List ℕ) (l : ℕ) → k ≤ length row → getD (withCosts rest k row) l 0 ≡ cond (ltb l k) (costIn rest l) (getD row l 0)
   unfolding withCosts
-  costs-at zero row l h g = absurd (not-suc-le-zero h)
-  costs-at (suc k) row l h g = go (eqb l k) refl (costs-at k row l)
+  costs-at zero row l g = rw (le-ltb l 0 (omega arith))
+  costs-at (suc k) row l g = go (eqb l k) (ltb l k) refl refl (costs-at k row l (omega arith))
     where
-      go : (q : Bool) → eqb l k ≡ q → (l < k → k ≤ length row → getD (withCosts rest k row) l 0 ≡ costIn rest l) → getD (withCosts rest (suc k) row) l 0 ≡ costIn rest l
-      go true q low = rw (eqb-true l k q) (getD-set-same (withCosts rest k row) k (costIn rest k) 0 (omega (arith, costs-length k row)))
-      go false q low = getD-set-other (withCosts rest k row) k l (costIn rest k) 0 (eqb-false l k q) ∙ low (omega (arith, eqb-false l k q)) (omega arith)
+      go : (p q : Bool) → eqb l k ≡ p → ltb l k ≡ q → getD (withCosts rest k row) l 0 ≡ cond (ltb l k) (costIn rest l) (getD row l 0) →
+          getD (withCosts rest (suc k) row) l 0 ≡ cond (ltb l (suc k)) (costIn rest l) (getD row l 0)
+      go true q same low before =
+          rw (lt-ltb l (suc k) (omega (arith, eqb-true l k same)), eqb-true l k same)
+          (getD-set-same (withCosts rest k row) k (costIn rest k) 0 (omega (arith, costs-length k row)))
+      go false true same low before =
+          rw (lt-ltb l (suc k) (omega (arith, ltb-true l k low)))
+          (getD-set-other (withCosts rest k row) k l (costIn rest k) 0 (eqb-false l k same) ∙ before ∙ rw low)
+      go false false same low before =
+          rw (le-ltb l (suc k) (omega (arith, ltb-false l k low, eqb-false l k same)))
+          (getD-set-other (withCosts rest k row) k l (costIn rest k) 0 (eqb-false l k same) ∙ before ∙ rw low)
 
   -- where no check applies
   pub few-links : (links room : ℕ) → refusal (costsChecks rest links room) ≡ 0 → (links ≤ mostLinks) × (mostLinks ≤ room)
@@ -71,6 +78,6 @@ module _ (rest : List ℕ) where
         mostLinks ≤ length row →
         headerBytes + costBytes * links ≤ length rest →
         ((l : ℕ) → l < links → costIn rest l ≤ maxCost) →
-        (l : ℕ) → l < links → getD (costsReply rest links row .row) l 0 ≡ costIn rest l
+        (l : ℕ) → getD (costsReply rest links row .row) l 0 ≡ cond (ltb l links) (costIn rest l) (getD row l 0)
     unfolding costsReply
-    row-cost few long whole each l h = rw (sym (accepted few long whole each)) (costs-at links row l h (omega arith))
+    row-cost few long whole each l = rw (sym (accepted few long whole each)) (costs-at links row l (omega arith))

@@ -3,3 +3,4 @@ pub mod Laws
 pub mod CostRows
 pub mod EventLaws
 pub mod EventLoop
+pub mod Reached

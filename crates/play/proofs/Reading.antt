@@ -5,8 +5,9 @@ use mathlib.Core.Path.{_≡_, sym, ap, subst, _∙_}
 use mathlib.Core.List.{List, [], _++_}
 use lib.ListN.{length, take, drop, length-take}
 use lib.Seq.{take-all, take-add, take-take, take-append-seam}
-use Rattle.runner.specs.Plans.{firstRunner, firstBuffers, prints, printed}
-use Rattle.runner.proofs.FillLaws.{printed-carried}
+use Rattle.runner.specs.Plans.{firstRunner, firstBuffers, prints}
+use Rattle.runner.specs.Program.{output}
+use Rattle.runner.proofs.RunWhole.{output-carried}
 use Rattle.play.specs.Output.{Handed, ReadBehind, Played}
 use Rattle.play.specs.declared.Input.{Input}
 use Rattle.play.specs.declared.Reply.{Reply}
@@ -31,17 +32,17 @@ copied-first begun bytes rest n all copied =
 -- a plan is carried out of which these bytes were read first
 pub read-on-told :
     (begun bytes : List ℕ) (n end : ℕ) (r : Reply) → n ≤ end → take n bytes ≡ begun → length bytes ≡ 61441 →
-    Handed r (printed (take end bytes)) → Played begun r
+    Handed r (output (take end bytes)) → Played begun r
 read-on-told begun bytes n end r low front long handed =
     let sum : n + (end - n) ≡ end = omega (arith, low) in
     let more : List ℕ = take (end - n) (drop n bytes) in
     let parts : take end bytes ≡ begun ++ more = ap (λ (k : ℕ). take k bytes) (sym sum) ∙ take-add n (end - n) bytes ∙ ap (λ (l : List ℕ). l ++ more) front in
-    Played.read more (omega (arith, ap (λ (l : List ℕ). length l) parts, length-take end bytes)) (subst (λ (l : List ℕ). Handed r (printed l)) parts handed)
+    Played.read more (omega (arith, ap (λ (l : List ℕ). length l) parts, length-take end bytes)) (subst (λ (l : List ℕ). Handed r (output l)) parts handed)
 
 -- a plan that was read whole
 pub carried-told : (plan : List ℕ) (r : Reply) → length plan ≤ 4096 → Handed r (prints (suc (length plan)) firstRunner firstBuffers plan) → Played [] r
 carried-told plan r few handed =
-    Played.read plan (omega (arith, few)) (subst (λ (l : List ℕ). Handed r l) (sym (printed-carried plan (omega (arith, few)))) handed)
+    Played.read plan (omega (arith, few)) (subst (λ (l : List ℕ). Handed r l) (sym (output-carried plan (omega (arith, few)))) handed)
 
 -- what was read before is read, too
 pub from-nothing : (begun : List ℕ) (r : Reply) → Played begun r → Played [] r

@@ -3,7 +3,7 @@ use Prim.Native.Nat.{ℕ, suc, _≤_, _<_}
 use mathlib.Core.Path.{_≡_}
 use mathlib.Core.List.{List, _++_}
 use lib.ListN.{length, take, drop}
-use Rattle.runner.specs.Plans.{printed}
+use Rattle.runner.specs.Program.{output}
 use Rattle.play.specs.declared.Input.{Input}
 use Rattle.play.specs.declared.Reply.{Reply}
 use Rattle.runner.specs.Sizes.{longestPlan}
@@ -18,7 +18,7 @@ Handed Reply.Unread text = ⊥
 -- byte longer than a plan may be. Of the bytes behind them no contract can say that they are those that were read
 pub data Played (begun : List ℕ) : Reply → Type 0 where
   unread : Played begun Reply.Unread
-  read : {r : Reply} (more : List ℕ) → length (begun ++ more) ≤ suc longestPlan → Handed r (printed (begun ++ more)) → Played begun r
+  read : {r : Reply} (more : List ℕ) → length (begun ++ more) ≤ suc longestPlan → Handed r (output (begun ++ more)) → Played begun r
 
 -- the bytes that were read lie behind the first `from` of those that are lent, and these are as they were
 abbrev pub ReadBehind : ℕ → Input → List ℕ → List ℕ → Type 0
@@ -27,4 +27,4 @@ ReadBehind from Input.Failed before after = Unit {0}
 
 -- these bytes come next in a plan's output, behind the first `from` of it
 abbrev pub IsNext : List ℕ → ℕ → List ℕ → Type 0
-IsNext plan from bytes = take (length bytes) (drop from (printed plan)) ≡ bytes
+IsNext plan from bytes = take (length bytes) (drop from (output plan)) ≡ bytes

@@ -13,7 +13,8 @@ ghost use mathlib.Core.List.{[]};
 ghost use Prim.Native.Nat.{suc, _≤_, _<_};
 ghost use lib.ListN.{length};
 ghost use Rattle.play.specs.Output.{Handed, Played, ReadBehind, IsNext};
-ghost use Rattle.runner.specs.Plans.{firstRunner, firstBuffers, prints, printed};
+ghost use Rattle.runner.specs.Plans.{firstRunner, firstBuffers, prints};
+ghost use Rattle.runner.specs.Program.{output};
 ghost use Rattle.text.specs.Lines.{refusedText};
 
 // One byte more than the longest plan, so that a longer one is noticed.
@@ -113,7 +114,7 @@ fn read_rest(fd: i32, bytes: &mut [u8], from: usize) -> Input
 
 // Prints all that document 01 asks for these bytes as a plan. Up to 61,440 of them are carried out, more are refused.
 pub fn print(plan: &[u8]) -> Reply
-    ensures { λ r. ⌜ Handed r (printed (now (plan .entry))) ⌝ }
+    ensures { λ r. ⌜ Handed r (output (now (plan .entry))) ⌝ }
 {
     if LONGEST_PLAN < plan.len() {
         return too_long(plan);

@@ -1,12 +1,13 @@
 -- The worked list of calls meets the premises of the settling statement, by computation. Assumes nothing.
-use Prim.Native.Nat.{ℕ, zero, suc, _+_, _*_, _<_, _≤_}
+use Prim.Native.Nat.{ℕ, zero, suc, _<_, _≤_}
 use native.Mathlib.Omega.{arith}
 use mathlib.Core.Path.{_≡_, refl}
 use mathlib.Core.Bool.{Bool, true, false≢true}
 use Rattle.distances.specs.View.{CostsInRange, maxCost}
 use Rattle.distances.specs.Distance.{present, joins, crossing, unjoined, joinedBelow, relaxed, relaxedBelow, dist}
 use Rattle.distances.specs.Call.{every, allBelow}
-use Rattle.distances.specs.Examples.{triangle, view0, view1}
+use Rattle.distances.specs.Examples.{triangle, view0}
+use Rattle.distances.proofs.Known.{below-three, triangle-in-range, view1-in-range}
 use Rattle.agreement.specs.Tests.{firstBelow}
 use Rattle.agreement.specs.Offer.{offer}
 use Rattle.agreement.specs.Record.{updated, sentUpdated, heldUpdated, isStale, isAgreed, answer, recorded, isClearing, sentDelivered, heldDelivered}
@@ -14,37 +15,25 @@ use Rattle.agreement.specs.Forwarding.{reaches, chosenEnd, isNotDestination, ha
 use Rattle.agreement.specs.Forwarding
 use Rattle.protocol.specs.Net.{PlanInRange, fresh}
 use Rattle.protocol.specs.Calls.{refusal, noSuchBridge, noSuchView, noSuchLink, noNumberLeft, notOnLink, linkCut, noRoom, noMessage, already, changeChecks, checks, refuse, accepted, moved, updatedTo, withCut, endOf, messageOf, sentOver, without, receivedAt, afterDelivery, afterChange, act, step, run}
-use Rattle.protocol.specs.Ports.{forwardingPort}
+use Rattle.protocol.specs.Ports.{ownDistance, forwardingPort, across, hopBy, hop}
+use Rattle.protocol.specs.Paths.{follow, onward, path, followLinks, onwardLinks, linksCrossed}
+use Rattle.protocol.specs.LimitViews.{updateEffect, deliveryEffect, acceptedEffect, endEffect, viewsAfter, viewsRun, leastOver, offerHeld}
 use Rattle.protocol.specs.Rounds.{movedUp, messageStatus, statusBy, orLater, isDelivered, isSendFrom, isSentAndDelivered, hasRound, isChange, hasNoChange}
 use Rattle.protocol.specs.Demand3.{Settling}
 use Rattle.protocol.specs.Examples.{costsIn, plan}
 use Rattle.protocol.specs.SettlingMet.{before, opening, closing, first, second, start, SettlingCanBeMet}
 
 -- all that computes below
-computing : Bool
-unfolding costsIn before opening closing first second start present joins crossing unjoined joinedBelow relaxed relaxedBelow dist every allBelow firstBelow offer updated sentUpdated heldUpdated isStale isAgreed answer recorded isClearing sentDelivered heldDelivered reaches chosenEnd isNotDestination hasPath isUp heldSuffices sentAllows everySentAllows conditions portFrom Rattle.agreement.specs.Forwarding.port fresh refusal noSuchBridge noSuchView noSuchLink noNumberLeft notOnLink linkCut noRoom noMessage already changeChecks checks refuse accepted moved updatedTo withCut endOf messageOf sentOver without receivedAt afterDelivery afterChange act step run forwardingPort movedUp messageStatus statusBy orLater isDelivered isSendFrom isSentAndDelivered hasRound isChange hasNoChange
+unfoldable pub computing : Bool
+unfolding costsIn before opening closing first second start present joins crossing unjoined joinedBelow relaxed relaxedBelow dist every allBelow firstBelow offer updated sentUpdated heldUpdated isStale isAgreed answer recorded isClearing sentDelivered heldDelivered reaches chosenEnd isNotDestination hasPath isUp heldSuffices sentAllows everySentAllows conditions portFrom Rattle.agreement.specs.Forwarding.port fresh refusal noSuchBridge noSuchView noSuchLink noNumberLeft notOnLink linkCut noRoom noMessage already changeChecks checks refuse accepted moved updatedTo withCut endOf messageOf sentOver without receivedAt afterDelivery afterChange act step run ownDistance forwardingPort across hopBy hop follow onward path followLinks onwardLinks linksCrossed updateEffect deliveryEffect acceptedEffect endEffect viewsAfter viewsRun leastOver offerHeld movedUp messageStatus statusBy orLater isDelivered isSendFrom isSentAndDelivered hasRound isChange hasNoChange
 computing = true
-
-below-three : (P : ℕ → Type 0) → P 0 → P 1 → P 2 → (l : ℕ) → l < 3 → P l
-below-three P a b c zero h = a
-below-three P a b c (suc zero) h = b
-below-three P a b c (suc (suc zero)) h = c
-below-three P a b c (suc (suc (suc l))) h = absurd (omega arith)
 
 -- the plan is in the ranges
 in-range : PlanInRange plan
 unfolding computing
 in-range =
     record {
-      graph =
-          record {
-            least = omega arith;
-            most = omega arith;
-            links = omega arith;
-            first = below-three (λ l. triangle .bridgeAt (2 * l) < 3) (omega arith) (omega arith) (omega arith);
-            second = below-three (λ l. triangle .bridgeAt (2 * l + 1) < 3) (omega arith) (omega arith) (omega arith);
-            differ = below-three (λ l. triangle .bridgeAt (2 * l) ≡ triangle .bridgeAt (2 * l + 1) → ⊥) (omega arith) (omega arith) (omega arith);
-          };
+      graph = triangle-in-range;
       least = omega arith;
       most = omega arith;
       costs = each;
@@ -52,7 +41,7 @@ in-range =
   where
     each : (t : ℕ) → t < 2 → CostsInRange triangle (costsIn t)
     each zero h = record { most = below-three (λ l. view0 l ≤ maxCost) (omega arith) (omega arith) (omega arith) }
-    each (suc t) h = record { most = below-three (λ l. view1 l ≤ maxCost) (omega arith) (omega arith) (omega arith) }
+    each (suc t) h = view1-in-range
 
 premises : Settling start 1 first second
 unfolding computing
@@ -68,4 +57,4 @@ premises =
 pub settling-can-be-met : SettlingCanBeMet
 unfolding computing
 settling-can-be-met =
-    record { inRange = in-range; premises = premises; distances = (refl, refl); stale = refl; ports = (refl, refl) }
+    record { inRange = in-range; premises = premises; distances = (refl, refl); stale = refl }

@@ -19,5 +19,7 @@ pub mod AfterRounds
 pub mod Settles
 pub mod Theorem
 pub mod LimitsKept
+pub mod Rules
 pub mod Example
 pub mod Known
+pub mod Applied

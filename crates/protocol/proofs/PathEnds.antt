@@ -12,7 +12,7 @@ use Rattle.protocol.specs.Net.{Network}
 use Rattle.protocol.specs.Ports.{Hop, stays, crosses, hop}
 use Rattle.protocol.specs.Paths.{delivered, stops, follow, onward, path, followLinks, onwardLinks, linksCrossed, EndsByItself, hops, HopsAreLinks}
 use Rattle.protocol.proofs.Invariant.{Invariant}
-use Rattle.protocol.proofs.Hops.{hop-in-range}
+use Rattle.protocol.proofs.Hops.{hop-in-range, hop-from}
 use Rattle.protocol.proofs.NoRing.{rank, rank-falls}
 
 -- a path crosses no more links than it may
@@ -86,7 +86,28 @@ module _ (n : Network) (inv : Invariant n) (d : ℕ) where
       go rest false stays e = e
       go rest false (crosses l z) e = rest z (omega (arith, hop-fewer y l z e))
 
-pub path-ends : (n : Network) → Invariant n → (s d : ℕ) → s < n .plan .graph .bridges → EndsByItself n d (path n s d)
+  -- from what is no bridge no frame crosses a link
+  onward-starts : (left y : ℕ) → (y < n .plan .graph .bridges → before n d y ≤ left) → EndsByItself n d (onward (hop n d) d left 0 y)
+  unfolding onward follow
+  onward-starts left y few = go (hop n d y) refl
+    where
+      stopped : hop n d y ≡ stays → (left : ℕ) → EndsByItself n d (onward (hop n d) d left 0 y)
+      stopped e zero = either (eqb y d)
+        where
+          either : (b : Bool) → EndsByItself n d (cond b (delivered 0) (stops y 0))
+          either true = tt
+          either false = e
+      stopped e (suc left) = either (eqb y d)
+        where
+          either : (b : Bool) → EndsByItself n d (cond b (delivered 0) (follow y 0 (onward (hop n d) d left 1) (hop n d y)))
+          either true = tt
+          either false = rw e e
+
+      go : (p : Hop) → hop n d y ≡ p → EndsByItself n d (onward (hop n d) d left 0 y)
+      go stays e = stopped e left
+      go (crosses l z) e = onward-ends left 0 y (few (hop-from n (inv .1) d y l z e))
+
+pub path-ends : (n : Network) → Invariant n → (s d : ℕ) → EndsByItself n d (path n s d)
 unfolding path before
-path-ends n inv s d low =
-    onward-ends n inv d (n .plan .graph .bridges - 1) 0 s (omega (arith, nearer-less (rank n d) (n .plan .graph .bridges) s low))
+path-ends n inv s d =
+    onward-starts n inv d (n .plan .graph .bridges - 1) s (λ low. omega (arith, nearer-less (rank n d) (n .plan .graph .bridges) s low))

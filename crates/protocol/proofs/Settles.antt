@@ -9,7 +9,7 @@ use lib.Dec.{eqb}
 use borrow.Author.Tests.{eqb-true, eqb-false}
 use Rattle.distances.specs.View.{NONE}
 use Rattle.distances.specs.Meaning.{total}
-use Rattle.distances.proofs.Laws.{dist-self, dist-le-none}
+use Rattle.distances.proofs.Laws.{dist-self, dist-le-none, next-hop, joins-bridge}
 use Rattle.distances.proofs.Paths.{total-none, total-more}
 use Rattle.agreement.specs.Offer.{linkOf, opposite, farBridge}
 use Rattle.agreement.proofs.Ends.{opposite-below, linkOf-opposite, bridge-in-range}
@@ -129,7 +129,7 @@ module _ (n : Network) (t : ℕ) (ready : Ready n t) (d : ℕ) where
 ready-settled : (n : Network) (t : ℕ) → Ready n t → (y d : ℕ) → y < n .plan .graph .bridges → (y ≡ d → ⊥) → (distanceIn (n .plan) t y d ≡ NONE → ⊥) → Settled n t y d
 unfolding path linksCrossed
 ready-settled n t ready y d there away reachable =
-    let all : Arrives n t d (n .plan .graph .bridges - 1) 0 y = arrival n t ready d (n .plan .graph .bridges - 1) 0 y there reachable (path-ends n (ready .oneView .invariant) y d there) in
+    let all : Arrives n t d (n .plan .graph .bridges - 1) 0 y = arrival n t ready d (n .plan .graph .bridges - 1) 0 y there reachable (path-ends n (ready .oneView .invariant) y d) in
     record {
       forwards = (linkOf (chosenIn n t y d), forwards n t ready y d there away reachable .opens);
       arrives = all .0;
@@ -143,9 +143,11 @@ settles-from n t xs ys invariant s y d there away reachable =
     ready-settled (run n (xs ++ ys)) t (two-rounds n t xs ys invariant s) y d (rw same there) away (rw same reachable)
 
 -- from any point of a list of calls
-pub settles : (p : Plan) → PlanInRange p → (cs ks xs ys : List Call) (t : ℕ) → cs ≡ ks ++ (xs ++ ys) → Settling (run (fresh p) ks) t xs ys → (y d : ℕ) → y < p .graph .bridges → (y ≡ d → ⊥) → (distanceIn p t y d ≡ NONE → ⊥) → Settled (run (fresh p) cs) t y d
+pub settles : (p : Plan) → PlanInRange p → (cs ks xs ys : List Call) (t : ℕ) → cs ≡ ks ++ (xs ++ ys) → Settling (run (fresh p) ks) t xs ys → (y d : ℕ) → (y ≡ d → ⊥) → (distanceIn p t y d ≡ NONE → ⊥) → Settled (run (fresh p) cs) t y d
 unfolding fresh
-settles p inRange cs ks xs ys t split s y d there away reachable =
+settles p inRange cs ks xs ys t split s y d away reachable =
     let same : run (fresh p) ks .plan ≡ p = plan-run (fresh p) ks in
+    -- what has a path to another bridge is a bridge
+    let there : y < p .graph .bridges = joins-bridge (inRange .graph) (next-hop (p .graph) (p .costs t) (inRange .graph) y d away reachable .2) in
     rw (split, run-append)
     (settles-from (run (fresh p) ks) t xs ys (invariant-run p inRange ks) s y d (rw same there) away (rw same reachable))

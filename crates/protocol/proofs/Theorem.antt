@@ -19,10 +19,10 @@ demand3 p inRange cs =
     let same : run (fresh p) cs .plan ≡ p = plan-run (fresh p) cs in
     record {
       noRing = no-ring (run (fresh p) cs) inv;
-      pathEnds = λ s d low listed. path-ends (run (fresh p) cs) inv s d (rw same low);
+      pathEnds = path-ends (run (fresh p) cs) inv;
       pathShort =
-          λ s d low listed. subst (λ (q : Plan). hops (path (run (fresh p) cs) s d) ≤ q .graph .bridges - 1) same
+          λ s d. subst (λ (q : Plan). hops (path (run (fresh p) cs) s d) ≤ q .graph .bridges - 1) same
           (path-short (run (fresh p) cs) s d);
       pathCounted = path-counted (run (fresh p) cs);
-      settles = λ ks xs ys t split s y d low listed. settles p inRange cs ks xs ys t split s y d low;
+      settles = settles p inRange cs;
     }

@@ -28,17 +28,17 @@ pub record Settled (n : Network) (t y d : ℕ) : Type 0 where
   pub arrives : (h : ℕ) × (path n y d ≡ delivered h)
   pub shortest : total (n .plan .costs t) (linksCrossed n y d) ≡ distanceIn (n .plan) t y d
 
--- what holds after every list of calls
+-- what holds after every list of calls. No number need be a bridge's: from or to anything else no frame crosses a link, and it has no path
 pub record Holds (p : Plan) (cs : List Call) : Type 0 where
   -- the forwarding ports of a destination close no ring
   pub noRing : (d : ℕ) → NoRing (run (fresh p) cs) d
   -- every path ends by itself, within bridges less one hops
-  pub pathEnds : (s d : ℕ) → s < p .graph .bridges → d < p .graph .bridges → EndsByItself (run (fresh p) cs) d (path (run (fresh p) cs) s d)
-  pub pathShort : (s d : ℕ) → s < p .graph .bridges → d < p .graph .bridges → hops (path (run (fresh p) cs) s d) ≤ p .graph .bridges - 1
+  pub pathEnds : (s d : ℕ) → EndsByItself (run (fresh p) cs) d (path (run (fresh p) cs) s d)
+  pub pathShort : (s d : ℕ) → hops (path (run (fresh p) cs) s d) ≤ p .graph .bridges - 1
   -- its hop count is the number of links crossed
   pub pathCounted : (s d : ℕ) → hops (path (run (fresh p) cs) s d) ≡ length (linksCrossed (run (fresh p) cs) s d)
   -- settling: from any point of the list, the start included
-  pub settles : (ks xs ys : List Call) (t : ℕ) → cs ≡ ks ++ (xs ++ ys) → Settling (run (fresh p) ks) t xs ys → (y d : ℕ) → y < p .graph .bridges → d < p .graph .bridges → (y ≡ d → ⊥) → (distanceIn p t y d ≡ NONE → ⊥) → Settled (run (fresh p) cs) t y d
+  pub settles : (ks xs ys : List Call) (t : ℕ) → cs ≡ ks ++ (xs ++ ys) → Settling (run (fresh p) ks) t xs ys → (y d : ℕ) → (y ≡ d → ⊥) → (distanceIn p t y d ≡ NONE → ⊥) → Settled (run (fresh p) cs) t y d
 
 -- the demand: for every plan in the ranges and every list of calls
 abbrev pub Demand3 : Type 0

@@ -9,7 +9,7 @@ use Rattle.agreement.specs.declared.Answer.the-variants.{Stale, Agreed, Noted}
 use Rattle.agreement.specs.declared.Port.{Port}
 use Rattle.agreement.specs.declared.Port.the-variants.{Closed, Open}
 use Rattle.protocol.specs.Net.{Network, Plan, fresh}
-use Rattle.protocol.specs.Calls.{Call, change, update, cut, send, deliver, run, messageAt, answerAt}
+use Rattle.protocol.specs.Calls.{Call, change, update, cut, send, deliver, refuse, run, messageAt, answerAt}
 use Rattle.protocol.specs.Ports.{forwardingPort, ownDistance}
 use Rattle.protocol.specs.Paths.{PathResult, delivered, stops, path}
 
@@ -70,7 +70,8 @@ way cs y = exampleNumbers (path (after cs) y 0)
 abbrev pub answered : List Call → ℕ → ℕ
 answered cs p = answerNumber (answerAt (after cs) p)
 
--- E1 is layer 1's; end 2 is bridge 1's end of link 1
+-- E1 is layer 1's; end 2 is bridge 1's end of link 1. E8: a message over link 1 from end 2 (direction 0), of number 1; its delivery is
+-- accepted (0) and stale
 abbrev pub allExamples : List Example
 allExamples =
     examples
@@ -87,7 +88,16 @@ allExamples =
       stated = 4 ∷ 2 ∷ NONE ∷ [];
     }
     ∷ record { found = uses callsE7 1 ∷ []; stated = 1 ∷ [] }
-    ∷ record { found = messageAt (after callsE7) 0 .agreement .number ∷ answered callsE7 0 ∷ []; stated = 1 ∷ 0 ∷ [] }
+    ∷ record {
+      found =
+          messageAt (after callsE7) 0 .link
+          ∷ messageAt (after callsE7) 0 .direction
+          ∷ messageAt (after callsE7) 0 .agreement .number
+          ∷ refuse (after callsE7) (deliver 0)
+          ∷ answered callsE7 0
+          ∷ [];
+      stated = 1 ∷ 0 ∷ 1 ∷ 0 ∷ 0 ∷ [];
+    }
     ∷ [])
 
 -- E1 to E8 hold

@@ -3,7 +3,9 @@ pub mod Calls
 pub mod Ports
 pub mod Paths
 pub mod Rounds
+pub mod Demand2
 pub mod Demand3
 pub mod LimitViews
 pub mod Examples
 pub mod SettlingMet
+pub mod Applied

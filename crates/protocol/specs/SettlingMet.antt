@@ -3,10 +3,8 @@
 use mathlib.Core.Path.{_≡_}
 use mathlib.Core.List.{List, [], _∷_, _++_}
 use Rattle.agreement.specs.declared.Answer.the-variants.{Stale}
-use Rattle.agreement.specs.declared.Port.the-variants.{Open}
 use Rattle.protocol.specs.Net.{Network, PlanInRange, distanceIn, fresh}
 use Rattle.protocol.specs.Calls.{Call, change, update, cut, send, deliver, repeat, lose, answerAt, run}
-use Rattle.protocol.specs.Ports.{forwardingPort}
 use Rattle.protocol.specs.Demand3.{Settling}
 use Rattle.protocol.specs.Examples.{plan}
 
@@ -41,5 +39,3 @@ pub record SettlingCanBeMet : Type 0 where
   pub distances : (distanceIn plan 1 1 0 ≡ 4) × (distanceIn plan 1 2 0 ≡ 3)
   -- the first delivery of `closing` is stale
   pub stale : answerAt (run start opening) 0 ≡ Stale
-  -- and so both forward
-  pub ports : (forwardingPort (run start (first ++ second)) 1 0 ≡ Open 1) × (forwardingPort (run start (first ++ second)) 2 0 ≡ Open 2)

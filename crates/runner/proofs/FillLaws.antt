@@ -5,23 +5,18 @@ use native.Mathlib.Omega.{arith}
 use mathlib.Core.Path.{_≡_, refl, sym, ap, _∙_}
 use mathlib.Core.Bool.{Bool, true, false, cond}
 use mathlib.Core.List.{List, [], _++_, append-nil, append-assoc}
-use borrow.Author.Tests.{leb-true, le-ltb, lt-ltb}
+use borrow.Author.Tests.{leb-true}
 use lib.ListN.{length, take, drop, replicate, length-append, length-take, length-drop, length-replicate}
-use lib.Seq.{sets, length-sets, sets-eq, take-append-seam, take-append-add, length-take-le, drop-drop}
+use lib.Seq.{sets, length-sets, take-append-add, length-take-le, drop-drop}
 use Rattle.distances.proofs.Booleans.{both-true}
-use Rattle.text.specs.Lines.{refusedText}
 use Rattle.runner.specs.Buffers.{Buffers}
 use Rattle.runner.specs.Steps.{StepOutcome, stepOf}
-use Rattle.runner.specs.Plans.{firstRunner, firstBuffers, prints, printed}
-use Rattle.runner.specs.Fills.{buffersWithOut, stepOn, stepsOn, fills, fieldsAtOnce, fillOf, printsAfter, FillPrints, printsFilled, PlanFilled}
+use Rattle.runner.specs.Plans.{firstRunner, firstBuffers, prints}
+use Rattle.runner.specs.Fills.{buffersWithOut, stepOn, stepsOn, fills, fieldsAtOnce, fillOf, printsAfter, FillPrints, printsFilled}
 use Rattle.runner.specs.declared.Runner.{Runner}
 use Rattle.runner.proofs.RunFuel.{prints-next, prints-last}
-use Rattle.runner.proofs.FillTexts.{step-texts, step-within}
+use Rattle.runner.proofs.FillTexts.{taken-text, step-texts, step-within}
 use Rattle.runner.proofs.FillSteps.{buffersBehind, restBehind, next, on-within, step-written, fill-within}
-
--- a text that fits, read back from the first bytes
-taken-text : (out text : List ℕ) → length text ≤ length out → take (length text) (sets out 0 text) ≡ text
-taken-text out text fits = ap (take (length text)) (sets-eq text out 0 (omega arith)) ∙ take-append-seam text (drop (0 + length text) out)
 
 -- what stands in the bytes to be printed does not matter
 pub out-unread :
@@ -119,11 +114,12 @@ pub first-out :
 first-out plan out long =
     out-unread (suc (length plan)) firstRunner firstBuffers plan out (replicate 544 0) long (omega (arith, length-replicate {A = ℕ} 544 0))
 
-pub plan-filled : PlanFilled
-plan-filled plan out long =
+-- filled and printed again and again
+pub filled-prints :
+    (plan out : List ℕ) → 544 ≤ length out →
+    printsFilled (suc (length plan)) firstRunner (buffersWithOut out firstBuffers) plan ≡ prints (suc (length plan)) firstRunner firstBuffers plan
+filled-prints plan out long =
     again (suc (length plan)) firstRunner (buffersWithOut out firstBuffers) plan (omega arith) ∙ first-out plan out long
-
--- ---- the whole output
 
 -- at most 544 bytes a field
 pub prints-most : (fuel : ℕ) (r : Runner) (k : Buffers) (rest : List ℕ) → length (prints fuel r k rest) ≤ 544 * fuel
@@ -153,11 +149,3 @@ prints-most (suc fuel) r k rest = go (t .going) (prints-most fuel (t .runner) (t
           length-take (t .written) (t .buffers .out),
           length-append (take (t .written) (t .buffers .out)) [],
         )
-
-pub printed-carried : (plan : List ℕ) → length plan ≤ 61440 → printed plan ≡ prints (suc (length plan)) firstRunner firstBuffers plan
-unfolding printed
-printed-carried plan few = rw (le-ltb 61440 (length plan) few)
-
-pub printed-refused : (plan : List ℕ) → 61440 < length plan → printed plan ≡ refusedText 18 61440
-unfolding printed
-printed-refused plan many = rw (lt-ltb 61440 (length plan) many)

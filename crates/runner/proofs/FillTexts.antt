@@ -1,12 +1,12 @@
 -- What a step does whatever stands in the bytes to be printed: its text goes into the first of them, and is short. Assumes nothing.
 use Prim.Native.Nat.{ℕ, _+_, _*_, _≤_, _<_}
 use native.Mathlib.Omega.{arith}
-use mathlib.Core.Path.{_≡_, refl}
+use mathlib.Core.Path.{_≡_, refl, ap, _∙_}
 use mathlib.Core.Bool.{Bool, true, false, cond, _&&_}
 use mathlib.Core.List.{List, []}
 use borrow.Author.Tests.{leb-true, leb-false, le-leb, lt-leb, eqb-true}
-use lib.ListN.{length, getD}
-use lib.Seq.{sets, length-sets}
+use lib.ListN.{length, getD, take, drop}
+use lib.Seq.{sets, length-sets, sets-eq, take-append-seam}
 use lib.Dec.{eqb, leb}
 use Rattle.distances.proofs.Booleans.{not-both}
 use Rattle.protocol.specs.Calls.{report, path, refuse, checks}
@@ -42,11 +42,11 @@ path-short start dest answers from to = go (eqb (getD answers 0 0) 0)
     go false = length-stopsText start dest (getD answers 1 0) (getD answers 2 0) from to
 
 -- an accepted report or path names bridges of the network
-report-listed : (s : State) (d : ℕ) → replyOf s (Report d) ≡ 0 → d < s .bench .bridges
+pub report-listed : (s : State) (d : ℕ) → replyOf s (Report d) ≡ 0 → d < s .bench .bridges
 unfolding replyOf refuse checks
 report-listed s d none = bridge-listed _ d _ (refusal-none _ _ (report d) none .1)
 
-path-listed : (s : State) (y d : ℕ) → replyOf s (Path y d) ≡ 0 → (y < s .bench .bridges) × (d < s .bench .bridges)
+pub path-listed : (s : State) (y d : ℕ) → replyOf s (Path y d) ≡ 0 → (y < s .bench .bridges) × (d < s .bench .bridges)
 unfolding replyOf refuse checks
 path-listed s y d none = bridges-listed _ y d _ (refusal-none _ _ (path y d) none .1)
 
@@ -75,13 +75,17 @@ text-short s (Path y d) none =
     let short = path-short y d (answersOf (network s) (Path y d)) (omega (arith, listed .0, bridges .1)) (omega (arith, listed .1, bridges .1)) in
     record { room = omega (arith, short); few = omega (arith, short, answers-length s (Path y d)) }
 
-last-short : (number events offset : ℕ) → length (lastText number events offset) ≤ 544
+pub last-short : (number events offset : ℕ) → length (lastText number events offset) ≤ 544
 unfolding lastText
 last-short number events offset = go (eqb number 0)
   where
     go : (b : Bool) → length (cond b (endText events) (refusedText number offset)) ≤ 544
     go true = length-endText events
     go false = length-refusedText number offset
+
+-- a text that fits, read back from the first bytes
+pub taken-text : (out text : List ℕ) → length text ≤ length out → take (length text) (sets out 0 text) ≡ text
+taken-text out text fits = ap (take (length text)) (sets-eq text out 0 (omega arith)) ∙ take-append-seam text (drop (0 + length text) out)
 
 -- ---- a step, as it goes by the bytes to be printed
 

@@ -2,9 +2,13 @@ pub mod EventSteps
 pub mod FieldSteps
 pub mod RunSteps
 pub mod RunFuel
+pub mod ReadLaws
+pub mod EventLines
 pub mod RunEvents
-pub mod RunFresh
+pub mod RunRows
 pub mod RunSetup
+pub mod RunPlans
+pub mod RunFresh
 pub mod ViewSteps
 pub mod RunWhole
 pub mod FillTexts

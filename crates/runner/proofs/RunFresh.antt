@@ -17,6 +17,7 @@ use Rattle.bench.proofs.FreshStands.{Opened, fresh-opens}
 use Rattle.plan.proofs.Laws.{ViewRead}
 use Rattle.runner.specs.Steps.{withView, withRow, freshWithView}
 use Rattle.runner.proofs.FieldSteps.{view-fits}
+use Rattle.runner.proofs.RunPlans.{planOf}
 use Rattle.runner.proofs.RunSetup.{Begun, view-begun, fresh-begun, lasts}
 use Rattle.runner.proofs.ViewSteps.{fresh-with-view-reply}
 
@@ -62,6 +63,27 @@ module _
       either : (q : Bool) → cond {A = ℕ} (cond q true true) 0 17 ≡ 0
       either true = refl
       either false = refl
+
+  -- the plan that stands in what it leaves, and what else it keeps
+  pub view-leaves :
+      1024 ≤ length costs → 1024 ≤ length rows → 1024 ≤ length sent → 1024 ≤ length held →
+      (planOf (network .state .bench) (network .state .costs) ≡ planOf (withView b) rows)
+      × (network .state .costs ≡ rows)
+      × (network .state .messages ≡ messages)
+  unfolding freshWithView
+  view-leaves long rowsLong sentLong heldLong = go (eqb (b .views + 1) 1)
+    where
+      opened : (o : Outcome (Unit {0})) → Opened handed o →
+          (planOf (o .state .bench) (o .state .costs) ≡ planOf (withView b) rows) × (o .state .costs ≡ rows) × (o .state .messages ≡ messages)
+      opened o told = (rw (told .bench, told .costs), told .costs, told .messages)
+
+      go : (q : Bool) →
+          let o : Outcome (Unit {0}) = cond q (freshOf handed) (outcome (says tt) handed) in
+          (planOf (o .state .bench) (o .state .costs) ≡ planOf (withView b) rows) × (o .state .costs ≡ rows) × (o .state .messages ≡ messages)
+      go true =
+          opened (freshOf handed)
+          (fresh-opens handed (lasts 2 (withView b) rows (view-begun stage b costs (s .begun) rest told long) refl rowsLong) sentLong heldLong)
+      go false = (refl, refl, refl)
 
   pub view-stands :
       1024 ≤ length costs →

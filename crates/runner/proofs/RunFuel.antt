@@ -7,18 +7,15 @@ use mathlib.Core.Bool.{Bool, true, false, false≢true}
 use mathlib.Core.List.{List, _++_, append-nil}
 use lib.ListN.{length, take, drop, length-drop}
 use lib.Dec.{eqb}
-use Rattle.distances.proofs.Booleans.{not-both}
 use Rattle.bench.specs.State.{state}
 use Rattle.bench.specs.Batches.{replyOf}
 use Rattle.bench.specs.declared.Bench.{Bench}
-use Rattle.plan.specs.Reading.{readReply}
 use Rattle.bench.specs.declared.Event.{Event}
 use Rattle.plan.specs.declared.Field.{Field}
 use Rattle.plan.proofs.Laws.{field-size}
 use Rattle.runner.specs.Buffers.{Buffers, stateOn, progressOf}
-use Rattle.runner.specs.Steps.{lastStep, setupStep, withView, withRow, freshWithView, viewStep, eventStep, fieldStep, stepOf}
+use Rattle.runner.specs.Steps.{lastStep, setupStep, withView, withRow, freshWithView, viewStep, eventStep, fieldStep, StepOutcome, stepOf}
 use Rattle.runner.specs.Plans.{prints}
-use Rattle.runner.specs.Whole.{setupRead, calls, leaves, afterSetup, Same, FuelEnough}
 use Rattle.runner.specs.declared.Runner.{Runner}
 use Rattle.runner.proofs.RunSteps.{Step, refused, ended, carried, step-is}
 
@@ -57,20 +54,24 @@ uses r k rest = go (step-is r k rest)
         let size = field-size rest (progressOf r) d in
         rw (e, field-used rest f used r k (rw e at h), length-drop) (omega arith)
 
-pub fuel-enough : FuelEnough
-unfolding prints calls leaves afterSetup
+-- with any more the same is printed
+fuel-enough :
+    (r : Runner) (k : Buffers) (rest : List ℕ) (fuel more : ℕ) → length rest < fuel → length rest < more → prints fuel r k rest ≡ prints more r k rest
+unfolding prints
 fuel-enough r k rest zero more h g = absurd (not-suc-le-zero h)
 fuel-enough r k rest (suc fuel) zero h g = absurd (not-suc-le-zero g)
-fuel-enough r k rest (suc fuel) (suc more) h g = go (stepOf r k rest .going) refl (fuel-enough (stepOf r k rest .runner) (stepOf r k rest .buffers) (drop (stepOf r k rest .used) rest) fuel more)
+fuel-enough r k rest (suc fuel) (suc more) h g = go (stepOf r k rest .going) refl (fuel-enough (t .runner) (t .buffers) (drop (t .used) rest) fuel more)
   where
+    t : StepOutcome
+    t = stepOf r k rest
+
     go : (b : Bool) → stepOf r k rest .going ≡ b →
-        (length (drop (stepOf r k rest .used) rest) < fuel → length (drop (stepOf r k rest .used) rest) < more → Same fuel more (stepOf r k rest .runner) (stepOf r k rest .buffers) (drop (stepOf r k rest .used) rest)) →
-        Same (suc fuel) (suc more) r k rest
+        (length (drop (t .used) rest) < fuel → length (drop (t .used) rest) < more → prints fuel (t .runner) (t .buffers) (drop (t .used) rest) ≡ prints more (t .runner) (t .buffers) (drop (t .used) rest)) →
+        prints (suc fuel) r k rest ≡ prints (suc more) r k rest
     go true e next =
         let less = uses r k rest e in
-        let s = next (omega arith) (omega arith) in
-        record { printed = rw (s .printed); made = rw (s .made); left = rw (s .left); start = rw (s .start) }
-    go false e next = record { printed = rw e; made = rw e; left = rw e; start = rw (e, not-both (setupRead (readReply rest (progressOf r))) false refl) }
+        rw (next (omega arith) (omega arith))
+    go false e next = rw e
 
 -- what is printed from here, a step at a time: the bytes of the step, and what is printed from the next field on
 pub prints-next :
@@ -83,7 +84,7 @@ unfolding prints
 prints-next r k rest e =
     let less = uses r k rest e in
     let same = fuel-enough (stepOf r k rest .runner) (stepOf r k rest .buffers) (drop (stepOf r k rest .used) rest) (length rest) (suc (length (drop (stepOf r k rest .used) rest))) less (omega arith) in
-    rw (e, same .printed)
+    rw (e, same)
 
 pub prints-last :
     (r : Runner) (k : Buffers) (rest : List ℕ) →

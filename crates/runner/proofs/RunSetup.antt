@@ -5,73 +5,22 @@ use native.Mathlib.Nat.{not-suc-le-zero}
 use native.Mathlib.Omega.{arith}
 use mathlib.Core.Path.{_≡_, refl, _∙_}
 use mathlib.Core.Bool.{Bool, true, false}
-use mathlib.Core.List.{List, _++_}
-use borrow.Author.Tests.{eqb-true, eqb-false}
-use lib.ListN.{length, getD, set, take, drop, length-set, length-append, length-drop, length-replicate, List·getD-append}
-use lib.Seq.{getD-take, getD-set-same, getD-set-other, getD-append-add, length-take-le}
+use mathlib.Core.List.{List}
+use borrow.Author.Tests.{eqb-true, eqb-false, lt-ltb}
+use lib.ListN.{length, getD, set, length-set, length-replicate}
+use lib.Seq.{getD-set-same, getD-set-other}
 use lib.Dec.{eqb}
-use Rattle.distances.specs.Call.{graphPasses, costsPass}
+use Rattle.distances.specs.Call.{graphPasses}
 use Rattle.distances.proofs.Ranges.{graph-made, costs-made}
 use Rattle.bench.specs.State.{part}
 use Rattle.bench.specs.Contracts.{blank}
 use Rattle.bench.specs.declared.Bench.{Bench}
 use Rattle.bench.proofs.TieRanges.{part-at, part-length, LastingOf}
-use Rattle.plan.specs.Fields.{costIn}
-use Rattle.plan.specs.Reading.{costsReply}
-use Rattle.plan.proofs.CostRows.{row-length, row-cost}
 use Rattle.plan.proofs.Laws.{ViewRead}
 use Rattle.runner.specs.Steps.{withBridges, withLink, withView, withRow, ViewFits}
 use Rattle.runner.specs.Plans.{firstRunner, firstBuffers}
 use Rattle.runner.proofs.FieldSteps.{view-fits}
-
--- the costs with one more row: the rows before it are as they were, and it holds what was read
-row-old : (rest : List ℕ) (b : Bench) (costs : List ℕ) (i : ℕ) → i < 32 * b .views → 32 * b .views ≤ length costs → getD (withRow rest b costs) i 0 ≡ getD costs i 0
-unfolding withRow
-row-old rest b costs i h long =
-    List·getD-append (take (32 * b .views) costs) _ 0 i (omega (arith, length-take-le (32 * b .views) costs long))
-    ∙ getD-take (32 * b .views) costs i 0 h
-
-past : (xs ys : List ℕ) (n l : ℕ) → length xs ≡ n → getD (xs ++ ys) (n + l) 0 ≡ getD ys l 0
-past xs ys n l e = rw e at (getD-append-add xs ys l 0)
-
-row-new : (rest : List ℕ) (b : Bench) (costs : List ℕ) (l : ℕ) → 32 * b .views + 32 ≤ length costs → ViewFits rest b → l < b .links →
-    getD (withRow rest b costs) (32 * b .views + l) 0 ≡ costIn rest l
-unfolding withRow
-row-new rest b costs l long fits h =
-    let row : List ℕ = part 32 (b .views) costs in
-    let size = part-length 32 (b .views) costs long in
-    past (take (32 * b .views) costs) _ (32 * b .views) l (length-take-le (32 * b .views) costs (omega arith))
-    ∙ List·getD-append (costsReply rest (b .links) row .row) _ 0 l (omega (arith, row-length rest (b .links) row))
-    ∙ row-cost rest (b .links) row (fits .listed) (omega arith) (fits .whole) (fits .costs) l h
-
-pub row-kept : (rest : List ℕ) (b : Bench) (costs : List ℕ) → b .views < 32 → 1024 ≤ length costs → length (withRow rest b costs) ≡ length costs
-unfolding withRow
-row-kept rest b costs few long =
-    let row : List ℕ = part 32 (b .views) costs in
-    let size = part-length 32 (b .views) costs (omega arith) in
-    rw (
-      length-append (take (32 * b .views) costs) (costsReply rest (b .links) row .row ++ drop 32 (drop (32 * b .views) costs)),
-      length-append (costsReply rest (b .links) row .row) (drop 32 (drop (32 * b .views) costs)),
-      length-take-le (32 * b .views) costs (omega arith),
-      row-length rest (b .links) row,
-      size,
-      length-drop 32 (drop (32 * b .views) costs),
-      length-drop (32 * b .views) costs,
-    ) (omega arith)
-
--- the row that was read passes
-pub row-passes :
-    (rest : List ℕ) (b : Bench) (costs : List ℕ) →
-    ViewFits rest b →
-    1024 ≤ length costs →
-    costsPass (b .links) (part 32 (b .views) (withRow rest b costs)) ≡ true
-row-passes rest b costs fits long =
-    let room : b .views < 32 = fits .room in
-    let few : b .links ≤ 32 = fits .listed in
-    let rows : List ℕ = withRow rest b costs in
-    let kept : length rows ≡ length costs = row-kept rest b costs room long in
-    costs-made (b .links) (part 32 (b .views) rows) (omega (arith, part-length 32 (b .views) rows (omega arith)))
-    (λ l h. rw (part-at 32 (b .views) rows l (omega arith), row-new rest b costs l (omega arith) fits h) (fits .costs l h))
+use Rattle.runner.proofs.RunRows.{row-number}
 
 -- the ends of a link are two bridges
 pub record Joins (bridges a b : ℕ) : Type 0 where
@@ -82,6 +31,7 @@ pub record Joins (bridges a b : ℕ) : Type 0 where
 -- what the setup so far tells of the bench and the costs, by the stage
 pub record Begun (stage : ℕ) (b : Bench) (costs : List ℕ) : Type 0 where
   pub early : stage ≤ 2
+  pub uncounted : stage ≡ 0 → b .bridges ≡ 0
   pub least : 1 ≤ stage → 2 ≤ b .bridges
   pub most : b .bridges ≤ 16
   pub unlinked : stage ≡ 0 → b .links ≡ 0
@@ -97,6 +47,7 @@ pub begun-first : Begun 0 (firstRunner .bench) (firstBuffers .costs)
 begun-first =
     record {
       early = omega arith;
+      uncounted = λ h. refl;
       least = λ h. omega arith;
       most = omega arith;
       unlinked = λ h. refl;
@@ -116,6 +67,7 @@ module _ (stage : ℕ) (b : Bench) (costs : List ℕ) (s : Begun stage b costs) 
       let unseen : b .views ≡ 0 = s .unviewed (omega arith) in
       record {
         early = omega arith;
+        uncounted = λ h. absurd (omega arith);
         least = λ h. least;
         most = most;
         unlinked = λ h. none;
@@ -133,6 +85,7 @@ module _ (stage : ℕ) (b : Bench) (costs : List ℕ) (s : Begun stage b costs) 
       let unseen : b .views ≡ 0 = s .unviewed (omega arith) in
       record {
         early = omega arith;
+        uncounted = λ h. absurd (omega arith);
         least = λ h. s .least (omega arith);
         most = s .most;
         unlinked = λ h. absurd (omega arith);
@@ -166,6 +119,7 @@ module _ (stage : ℕ) (b : Bench) (costs : List ℕ) (s : Begun stage b costs) 
   view-begun rest told long =
       record {
         early = omega arith;
+        uncounted = λ h. absurd (omega arith);
         least = λ h. s .least (told .counted);
         most = s .most;
         unlinked = λ h. absurd (omega arith);
@@ -178,17 +132,23 @@ module _ (stage : ℕ) (b : Bench) (costs : List ℕ) (s : Begun stage b costs) 
         cost = λ t l h g. cost-at t l h g (eqb t (b .views)) refl;
       }
     where
+      fits : ViewFits rest b
+      fits = view-fits stage rest b told
+
       cost-at : (t l : ℕ) → t < b .views + 1 → l < b .links → (q : Bool) → eqb t (b .views) ≡ q → getD (withRow rest b costs) (32 * t + l) 0 ≤ 16777215
-      cost-at t l h g true q = rw (eqb-true t (b .views) q, row-new rest b costs l (omega arith) (view-fits stage rest b told) g) (told .costs l g)
+      cost-at t l h g true q =
+          let new = row-number rest b costs fits long t l (omega (arith, fits .listed)) in
+          rw (new, q, lt-ltb l (b .links) g) (told .costs l g)
       cost-at t l h g false q =
-          let low : t < b .views = omega (arith, eqb-false t (b .views) q) in
-          rw (row-old rest b costs (32 * t + l) (omega (arith, s .linksMost)) (omega (arith, told .room))) (s .cost t l low g)
+          let old = row-number rest b costs fits long t l (omega (arith, fits .listed)) in
+          rw (old, q) (s .cost t l (omega (arith, eqb-false t (b .views) q)) g)
 
   -- `fresh` keeps them
   pub fresh-begun : Begun stage (blank b) costs
   fresh-begun =
       record {
         early = s .early;
+        uncounted = s .uncounted;
         least = s .least;
         most = s .most;
         unlinked = s .unlinked;

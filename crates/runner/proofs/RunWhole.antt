@@ -1,39 +1,48 @@
--- Demand 3 for whoever hands over a plan: the setup leads to a fresh network, and the events are its calls.
--- Assumes nothing.
-use Prim.Native.Nat.{ℕ, zero, suc, _≤_}
+-- What a plan prints is the page's output: the setup leads to a fresh network, and the events are carried out on it. So demand 3 is about
+-- each line. Assumes nothing.
+use Prim.Native.Nat.{ℕ, zero, suc, _+_, _≤_, _<_}
+use native.Mathlib.Nat.{not-suc-le-zero, zero-add}
 use native.Mathlib.Omega.{arith}
-use mathlib.Core.Path.{_≡_, refl, _∙_, subst}
-use mathlib.Core.Logic.{_⊎_, inl, inr}
-use mathlib.Core.Bool.{Bool, true, false}
-use mathlib.Core.List.{List}
-use borrow.Author.Tests.{leb-true}
-use lib.ListN.{length, drop}
-use lib.Dec.{leb}
+use mathlib.Core.Path.{_≡_, refl, sym, _∙_, ap, subst}
+use mathlib.Core.Bool.{true}
+use mathlib.Core.List.{List, [], _∷_, _++_, append-assoc}
+use borrow.Author.Tests.{le-leb, le-ltb, lt-ltb}
+use lib.ListN.{length, drop, length-drop, length-append, length-replicate}
+use lib.Seq.{length-sets}
 use Rattle.distances.proofs.Booleans.{both-true}
-use Rattle.protocol.specs.Calls.{Call}
-use Rattle.protocol.specs.Net as net
-use Rattle.bench.specs.State.{network}
-use Rattle.bench.specs.Whole.{runIn}
-use Rattle.bench.proofs.Represents.{Represents}
+use Rattle.protocol.specs.Net.{Network, Plan, PlanInRange, fresh}
+use Rattle.protocol.specs.Calls.{accepted, step, run}
+use Rattle.protocol.proofs.Theorem.{demand3}
+use Rattle.bench.specs.State.{state}
+use Rattle.bench.specs.Contracts.{Outcome}
+use Rattle.bench.specs.Batches.{callOf}
 use Rattle.bench.specs.declared.Bench.{Bench}
+use Rattle.bench.specs.declared.Event.{Event}
+use Rattle.bench.proofs.Represents.{Represents}
 use Rattle.bench.proofs.TieFresh.{fresh-stands}
 use Rattle.bench.proofs.TieRanges.{LastingOf, plan-in-range}
-use Rattle.bench.proofs.TieWhole.{stands-in, whole-from}
-use Rattle.plan.specs.Reading.{readReply}
-use Rattle.bench.specs.declared.Event.{Event}
+use Rattle.plan.specs.Reading.{readOf, readReply}
 use Rattle.plan.specs.declared.Field.{Field}
 use Rattle.plan.specs.declared.Read.{Read}
-use Rattle.plan.proofs.Laws.{FieldRead, field-read}
-use Rattle.runner.specs.Buffers.{Buffers, buffersLong, stateOn, progressOf}
-use Rattle.runner.specs.Steps.{lastStep, setupStep, withView, withRow, fieldStep, stepOf}
-use Rattle.runner.specs.Plans.{firstRunner, firstBuffers}
-use Rattle.runner.specs.Whole.{Position, position, stateAt, planAt, calls, leaves, afterSetup, NoEvent, RunsFrom, PlanRuns}
+use Rattle.plan.proofs.Laws.{ViewRead, FieldRead, field-read, field-size}
+use Rattle.plan.proofs.Reached.{Reached, read-reached}
+use Rattle.text.specs.Lines.{refusedText}
+use Rattle.runner.specs.Buffers.{Buffers, buffersLong, stateOn, buffersWith, progressOf}
+use Rattle.runner.specs.Steps.{setupStep, withLink, withView, withRow, freshWithView, viewStep, eventStep, fieldStep, readStep, runnerInRange, stepOf, ViewFits}
+use Rattle.runner.specs.Plans.{firstRunner, firstBuffers, prints}
+use Rattle.runner.specs.Program.{addView, withEvent, Reading, reading, PlanEvent, PlanEnd, PlanRead, readOn, readFrom, readPlan, linesOf, lastText, carriedOut, outputOf, output}
+use Rattle.runner.specs.Whole.{PlanFilled, callsIn, allAccepted, linesBy, EveryLine}
 use Rattle.runner.specs.declared.Runner.{Runner}
-use Rattle.runner.proofs.RunSteps.{Step, refused, ended, carried, step-is}
-use Rattle.runner.proofs.RunEvents.{accepts, end, made, event-ran, event-stopped, follows}
-use Rattle.runner.proofs.RunSetup.{Begun, row-kept, begun-first, bridges-begun, link-begun, lasts}
+use Rattle.runner.proofs.ReadLaws.{setup-fixed}
+use Rattle.runner.proofs.FillTexts.{last-short}
+use Rattle.runner.proofs.FillLaws.{filled-prints}
+use Rattle.runner.proofs.FieldSteps.{view-fits}
+use Rattle.runner.proofs.RunEvents.{Running, printedBy, last-printed, event-printed, follows}
+use Rattle.runner.proofs.RunPlans.{planOf, link-plan, view-plan, first-plan}
+use Rattle.runner.proofs.RunRows.{row-kept}
+use Rattle.runner.proofs.RunSetup.{Begun, begun-first, bridges-begun, link-begun, lasts}
 use Rattle.runner.proofs.ViewSteps.{view-goes}
-use Rattle.runner.proofs.RunFresh.{Standing, view-taken, view-stands}
+use Rattle.runner.proofs.RunFresh.{Standing, view-taken, view-leaves, view-stands}
 
 -- buffers that are long enough
 record Long (k : Buffers) : Type 0 where
@@ -41,92 +50,281 @@ record Long (k : Buffers) : Type 0 where
   sent : 1024 ≤ length (k .sent)
   held : 1024 ≤ length (k .held)
   messages : 320 ≤ length (k .messages)
+  out : 544 ≤ length (k .out)
 
-long-told : (k : Buffers) → buffersLong k ≡ true → Long k
-unfolding buffersLong
-long-told k e =
-    let one = both-true (leb 1024 (length (k .costs))) _ e in
-    let three = both-true (leb 1024 (length (k .sent))) _ (one .1) in
-    let four = both-true (leb 1024 (length (k .held))) _ (three .1) in
-    let five = both-true (leb 320 (length (k .messages))) _ (four .1) in
+-- where a plan stands before its first event
+record SetUp (r : Runner) (k : Buffers) (rest : List ℕ) : Type 0 where
+  standing : Standing (r .stage) (r .bench) (k .costs) (k .sent) (k .held)
+  long : Long k
+  events : r .events ≡ 0
+  room : r .offset + length rest ≤ 61440
+
+-- what the page has read there
+abbrev sofar : Runner → Buffers → Reading
+sofar r k = reading (r .stage) (planOf (r .bench) (k .costs)) (r .offset)
+
+-- what is printed is the page's output of what is read, and an event comes only where the setup is in the ranges
+record Carries (printed : List ℕ) (x : PlanRead) : Type 0 where
+  same : printed ≡ outputOf x
+  inRange : (x .events ≡ [] → ⊥) → PlanInRange (x .setup)
+
+abbrev Carried : ℕ → Type 0
+Carried fuel = (r : Runner) (k : Buffers) (rest : List ℕ) → SetUp r k rest → length rest < fuel → Carries (prints fuel r k rest) (readFrom fuel (sofar r k) rest)
+
+module _ (r : Runner) (k : Buffers) (rest : List ℕ) (s : SetUp r k rest) where
+  abbrev begun : Begun (r .stage) (r .bench) (k .costs)
+  begun = s .standing .begun
+
+  reached : Reached (progressOf r)
+  reached =
+      record {
+        stages = omega (arith, begun .early);
+        nothing = λ e. (begun .uncounted e, begun .unlinked e, begun .unviewed (omega (arith, e)));
+        counted = λ h. (begun .least h, begun .most, begun .linksMost);
+        unviewed = λ e. begun .unviewed (omega (arith, e));
+        viewed = λ h. (begun .viewed h, begun .viewsMost);
+      }
+
+  step-reads : stepOf r k rest ≡ readStep rest (readOf rest (progressOf r)) r k
+  unfolding stepOf runnerInRange buffersLong
+  step-reads =
+      let l = s .long in
+      rw (
+        le-leb (r .events) 61440 (omega (arith, s .events)),
+        le-leb (r .offset) 61440 (omega (arith, s .room)),
+        le-leb 1024 (length (k .costs)) (l .costs),
+        le-leb 1024 (length (k .sent)) (l .sent),
+        le-leb 1024 (length (k .held)) (l .held),
+        le-leb 320 (length (k .messages)) (l .messages),
+        le-leb 544 (length (k .out)) (l .out),
+        read-reached rest (progressOf r) reached,
+      )
+
+  -- the fresh network stands where the first event comes
+  module _ (ready : 2 ≤ r .stage) where
+    two : r .stage ≡ 2
+    two = omega (arith, begun .early, ready)
+
+    lasting : LastingOf (r .bench) (k .costs)
+    lasting = lasts (r .stage) (r .bench) (k .costs) begun two (s .long .costs)
+
+    stands : Represents (stateOn (r .bench) k) (fresh (planOf (r .bench) (k .costs)))
+    stands =
+        let was = s .standing .stood two in
+        subst (λ (b : Bench). Represents (stateOn b k) (fresh (planOf b (k .costs)))) (was .bench)
+        (fresh-stands (r .bench) (k .costs) (k .sent) (k .held) (k .messages) lasting (was .limits) (s .long .messages))
+
+    running : Running r k rest (fresh (planOf (r .bench) (k .costs)))
+    running =
+        record { late = ready; stages = omega (arith, two); stands = stands; room = s .room; counted = omega (arith, s .events); out = s .long .out }
+
+-- ---- a field
+
+-- a view
+module _
+    (fuel : ℕ)
+    (later : Carried fuel)
+    (r : Runner)
+    (k : Buffers)
+    (rest : List ℕ)
+    (s : SetUp r k rest)
+    (used : ℕ)
+    (told : ViewRead rest (progressOf r))
+    (less : length (drop used rest) < fuel)
+    (room : r .offset + used + length (drop used rest) ≤ 61440) where
+  abbrev rows : List ℕ
+  rows = withRow rest (r .bench) (k .costs)
+
+  abbrev made : Outcome (Unit {0})
+  made = freshWithView (state (withView (r .bench)) rows (k .sent) (k .held) (k .messages))
+
+  fits : ViewFits rest (r .bench)
+  fits = view-fits (r .stage) rest (r .bench) told
+
+  rows-long : 1024 ≤ length rows
+  rows-long = omega (arith, row-kept rest (r .bench) (k .costs) fits (s .long .costs), s .long .costs)
+
+  next : Standing 2 (made .state .bench) (made .state .costs) (made .state .sent) (made .state .held)
+  next = view-stands _ _ _ _ _ (k .messages) (s .standing) rest told (s .long .costs) rows-long (s .long .sent) (s .long .held)
+
+  leaves :
+      (planOf (made .state .bench) (made .state .costs) ≡ planOf (withView (r .bench)) rows) × (made .state .costs ≡ rows) × (made .state .messages ≡ k .messages)
+  leaves = view-leaves _ _ _ _ _ (k .messages) (s .standing) rest told (s .long .costs) rows-long (s .long .sent) (s .long .held)
+
+  abbrev after : Buffers
+  after = buffersWith (made .state) [] k
+
+  after-long : Long after
+  after-long =
+      record {
+        costs = rw (leaves .1) rows-long;
+        sent = next .stood refl .limits .sentLong;
+        held = next .stood refl .limits .heldLong;
+        messages = rw (leaves .2) (s .long .messages);
+        out = omega (arith, s .long .out, length-sets (k .out) 0 []);
+      }
+
+  abbrev going : Runner
+  going = record { bench = made .state .bench; stage = 2; events = r .events; offset = r .offset + used }
+
+  view-carried :
+      Carries (printedBy fuel rest (viewStep used (withView (r .bench)) rows r k))
+      (readFrom fuel (reading 2 (addView (planOf (r .bench) (k .costs)) rest) (r .offset + used)) (drop used rest))
+  unfolding setupStep
+  view-carried =
+      let taken = view-taken _ _ _ _ _ (k .messages) (s .standing) rest told (s .long .costs) rows-long (s .long .sent) (s .long .held) in
+      rw (view-goes used r k (withView (r .bench)) rows taken)
+      (subst (λ (p : Plan). Carries (prints fuel going after (drop used rest)) (readFrom fuel (reading 2 p (r .offset + used)) (drop used rest)))
+      (leaves .0 ∙ view-plan rest (r .bench) (k .costs) fits (s .long .costs))
+      (later going after (drop used rest) (record { standing = next; long = after-long; events = s .events; room = room }) less))
+
+module _ (fuel : ℕ) (later : Carried fuel) (r : Runner) (k : Buffers) (rest : List ℕ) (s : SetUp r k rest) (enough : length rest < suc fuel) where
+  abbrev setup : Plan
+  setup = planOf (r .bench) (k .costs)
+
+  -- the first event
+  module _ (e : Event) (used : ℕ) (ready : 2 ≤ r .stage) (some : 3 ≤ used) (whole : used ≤ length rest) where
+    abbrev behind : PlanRead
+    behind = readFrom fuel (reading 3 setup (r .offset + used)) (drop used rest)
+
+    abbrev event : PlanEvent
+    event = record { call = callOf e; offset = r .offset }
+
+    fixed : behind .setup ≡ setup
+    fixed =
+        let b = s .standing .begun in
+        setup-fixed fuel setup (r .offset + used) (drop used rest)
+        (record {
+          stages = omega arith;
+          nothing = λ e. absurd (omega arith);
+          counted = λ h. (b .least (omega (arith, ready)), b .most, b .linksMost);
+          unviewed = λ e. absurd (omega arith);
+          viewed = λ h. (b .viewed ready, b .viewsMost);
+        })
+
+    event-carried : Carries (printedBy fuel rest (eventStep e used r k)) (withEvent event behind)
+    unfolding fresh outputOf carriedOut
+    event-carried =
+        record {
+          same =
+              event-printed fuel (follows fuel) r k rest (fresh setup) (running r k rest s ready) e used some whole enough
+              ∙ ap (λ (i : ℕ). carriedOut (fresh setup) i (event ∷ behind .events) (behind .end)) (s .events)
+              ∙ ap (λ (p : Plan). carriedOut (fresh p) 0 (event ∷ behind .events) (behind .end)) (sym fixed);
+          inRange = λ any. subst PlanInRange (sym fixed) (plan-in-range (r .bench) (k .costs) (lasting r k rest s ready));
+        }
+
+  -- a field of so many bytes leaves room for the rest
+  module _ (used : ℕ) (some : 3 ≤ used) (whole : used ≤ length rest) where
+    less : length (drop used rest) < fuel
+    less = omega (arith, length-drop used rest, some, whole, enough)
+
+    room : r .offset + used + length (drop used rest) ≤ 61440
+    room = omega (arith, length-drop used rest, whole, s .room)
+
+    -- before the first view
+    early : {b : Bench} → Begun 1 b (k .costs) → Standing 1 b (k .costs) (k .sent) (k .held)
+    early now = record { begun = now; stood = λ h. absurd (omega arith) }
+
+    field-carried : (f : Field) → FieldRead rest (progressOf r) f → Carries (printedBy fuel rest (fieldStep rest f used r k)) (readOn (readFrom fuel) (sofar r k) rest (Read.Field f used))
+    unfolding readOn fieldStep setupStep
+    field-carried (Field.Bridges n) told =
+        later _ k (drop used rest)
+        (record { standing = early (bridges-begun _ _ _ (s .standing .begun) n (told .opening) (told .least) (told .most)); long = s .long; events = s .events; room = room })
+        less
+    field-carried (Field.Link x y) told =
+        let begun = link-begun _ _ _ (s .standing .begun) x y (told .counted) (told .room) (record { first = told .first; second = told .second; differ = told .differ }) in
+        subst (λ (p : Plan). Carries (prints fuel (record { bench = withLink (r .bench) x y; stage = 1; events = r .events; offset = r .offset + used }) k (drop used rest)) (readFrom fuel (reading 1 p (r .offset + used)) (drop used rest)))
+        (link-plan (r .bench) x y (told .room) (s .standing .begun .endsLong) (k .costs))
+        (later _ k (drop used rest) (record { standing = early begun; long = s .long; events = s .events; room = room }) less)
+    field-carried Field.View told = view-carried fuel later r k rest s used told less room
+    field-carried (Field.Event e) told = event-carried e used told some whole
+
+read-carried :
+    (fuel : ℕ) → Carried fuel → (r : Runner) (k : Buffers) (rest : List ℕ) (s : SetUp r k rest) → length rest < suc fuel →
+    (d : Read) → readOf rest (progressOf r) ≡ d → Carries (printedBy fuel rest (readStep rest d r k)) (readOn (readFrom fuel) (sofar r k) rest d)
+unfolding readStep readOn outputOf carriedOut
+read-carried fuel later r k rest s enough (Read.Stop number) is =
     record {
-      costs = leb-true _ _ (one .0);
-      sent = leb-true _ _ (three .0);
-      held = leb-true _ _ (four .0);
-      messages = leb-true _ _ (five .0);
+      same =
+          last-printed fuel rest number (lastText number (r .events) (r .offset)) r k (last-short number (r .events) (r .offset)) (s .long .out)
+          ∙ ap (λ (i : ℕ). lastText number i (r .offset)) (s .events);
+      inRange = λ some. absurd (some refl);
+    }
+read-carried fuel later r k rest s enough (Read.Field f used) is =
+    let is-read : readReply rest (progressOf r) ≡ Read.Field f used = read-reached rest (progressOf r) (reached r k rest s) ∙ is in
+    let taken = field-size rest (progressOf r) is-read in
+    field-carried fuel later r k rest s enough used (taken .0) (taken .1) f (field-read rest (progressOf r) is-read)
+
+carried : (fuel : ℕ) → Carried fuel
+unfolding prints readFrom
+carried zero r k rest s enough = absurd (not-suc-le-zero enough)
+carried (suc fuel) r k rest s enough = rw (step-reads r k rest s) (read-carried fuel (carried fuel) r k rest s enough (readOf rest (progressOf r)) refl)
+
+-- ---- the whole plan
+
+few-setup : (plan : List ℕ) → length plan ≤ 61440 → SetUp firstRunner firstBuffers plan
+few-setup plan few =
+    record {
+      standing = record { begun = begun-first; stood = λ h. absurd (omega arith) };
+      long =
+          record {
+            costs = omega (arith, length-replicate {A = ℕ} 1024 0);
+            sent = omega (arith, length-replicate {A = ℕ} 1024 0);
+            held = omega (arith, length-replicate {A = ℕ} 1024 0);
+            messages = omega (arith, length-replicate {A = ℕ} 320 0);
+            out = omega (arith, length-replicate {A = ℕ} 544 0);
+          };
+      events = refl;
+      room = omega (arith, few);
     }
 
--- events were carried out, and all but demand 3 itself
-record Opens (p : Position) (end : Position) (cs : List Call) : Type 0 where
-  stage : end .runner .stage ≡ 3
-  inRange : net.PlanInRange (planAt p)
-  fresh : Represents (stateAt p) (net.fresh (planAt p))
-  reached : stateAt end ≡ runIn (stateAt p) cs
+plan-carried : (plan : List ℕ) → length plan ≤ 61440 → Carries (prints (suc (length plan)) firstRunner firstBuffers plan) (readPlan plan)
+unfolding readPlan
+plan-carried plan few =
+    subst (λ (p : Plan). Carries (prints (suc (length plan)) firstRunner firstBuffers plan) (readFrom (suc (length plan)) (reading 0 p 0) plan)) first-plan
+    (carried (suc (length plan)) firstRunner firstBuffers plan (few-setup plan few) (omega arith))
 
-abbrev Outcome : Position → Position → List Call → Type 0
-Outcome p end cs = NoEvent end cs ⊎ Opens p end cs
+pub output-carried : (plan : List ℕ) → length plan ≤ 61440 → output plan ≡ prints (suc (length plan)) firstRunner firstBuffers plan
+unfolding output
+output-carried plan few = rw (le-ltb 61440 (length plan) few) (sym (plan-carried plan few .same))
 
-abbrev SetUp : Runner → Buffers → Type 0
-SetUp r k = Standing (r .stage) (r .bench) (k .costs) (k .sent) (k .held)
+pub output-refused : (plan : List ℕ) → 61440 < length plan → output plan ≡ refusedText 18 61440
+unfolding output
+output-refused plan many = rw (lt-ltb 61440 (length plan) many)
 
--- the first event
-module _ (fuel : ℕ) (v : Event) (used : ℕ) (r : Runner) (k : Buffers) (rest : List ℕ) (s : SetUp r k) (ready : 2 ≤ r .stage) (long : Long k) where
-  two : r .stage ≡ 2
-  two = omega (arith, s .begun .early, ready)
+pub plan-filled : PlanFilled
+plan-filled plan out few long = filled-prints plan out long ∙ sym (output-carried plan few)
 
-  lasting : LastingOf (r .bench) (k .costs)
-  lasting = lasts (r .stage) (r .bench) (k .costs) (s .begun) two (long .costs)
+-- ---- each line
 
-  stands : Represents (stateAt (position r k)) (net.fresh (planAt (position r k)))
-  stands =
-      let was = s .stood two in
-      subst (λ (b : Bench). Represents (stateOn b k) (net.fresh (network (stateOn b k) .plan))) (was .bench)
-      (fresh-stands (r .bench) (k .costs) (k .sent) (k .held) (k .messages) lasting (was .limits) (long .messages))
+first-lines :
+    (n : Network) (count : ℕ) (first rest : List PlanEvent) (end : PlanEnd) → allAccepted n first ≡ true →
+    carriedOut n count (first ++ rest) end ≡ linesBy n first ++ carriedOut (run n (callsIn first)) (count + length first) rest end
+unfolding carriedOut linesBy allAccepted callsIn run
+first-lines n count [] rest end all = let same : count ≡ count + 0 = omega arith in ap (λ (i : ℕ). carriedOut n i rest end) same
+first-lines n count (e ∷ es) rest end all =
+    let both = both-true (accepted n (e .call)) _ all in
+    let same : suc count + length es ≡ count + suc (length es) = omega arith in
+    rw (both .0)
+    (ap (λ (l : List ℕ). linesOf n (e .call) ++ l)
+    (first-lines (step n (e .call)) (suc count) es rest end (both .1)
+    ∙ ap (λ (i : ℕ). linesBy (step n (e .call)) es ++ carriedOut (run (step n (e .call)) (callsIn es)) i rest end) same)
+    ∙ sym (append-assoc (linesOf n (e .call)) (linesBy (step n (e .call)) es) _))
 
-  first-event : Outcome (position r k) (end fuel v used r k rest) (made fuel v used r k rest)
-  first-event = go (accepts r k v) refl
-    where
-      go : (b : Bool) → accepts r k v ≡ b → Outcome (position r k) (end fuel v used r k rest) (made fuel v used r k rest)
-      go true q =
-          let e = event-ran fuel v used r k rest (follows fuel) q in
-          inr (record { stage = e .stage; inRange = plan-in-range (r .bench) (k .costs) lasting; fresh = stands; reached = e .state })
-      go false q =
-          let left = event-stopped fuel v used r k rest q in
-          inl (record { stage = omega (arith, left .1, two); none = left .2 })
+-- a list with something in it
+some-event : (first : List PlanEvent) (e : PlanEvent) (more : List PlanEvent) → first ++ (e ∷ more) ≡ [] → ⊥
+some-event first e more none = omega (arith, ap length none, length-append first (e ∷ more))
 
-set-up : (fuel : ℕ) (r : Runner) (k : Buffers) (rest : List ℕ) → SetUp r k → Outcome (afterSetup fuel r k rest) (leaves fuel r k rest) (calls fuel r k rest)
-unfolding afterSetup leaves calls lastStep fieldStep setupStep
-set-up zero r k rest s = inl (record { stage = omega (arith, s .begun .early); none = refl })
-set-up (suc fuel) r k rest s = go (set-up fuel) (step-is r k rest)
-  where
-    go : ((r : Runner) (k : Buffers) (rest : List ℕ) → SetUp r k → Outcome (afterSetup fuel r k rest) (leaves fuel r k rest) (calls fuel r k rest)) → Step r k rest →
-        Outcome (afterSetup (suc fuel) r k rest) (leaves (suc fuel) r k rest) (calls (suc fuel) r k rest)
-    go next (refused e) = inl (rw e (record { stage = omega (arith, s .begun .early); none = refl }))
-    go next (ended number d e) = inl (rw e (record { stage = omega (arith, s .begun .early); none = refl }))
-    go next (carried f used long d e) = field f d e (field-read rest (progressOf r) d)
-      where
-        -- before the first view
-        early : {b : Bench} → Begun 1 b (k .costs) → Standing 1 b (k .costs) (k .sent) (k .held)
-        early now = record { begun = now; stood = λ h. absurd (omega arith) }
-
-        field : (f : Field) → readReply rest (progressOf r) ≡ Read.Field f used → stepOf r k rest ≡ fieldStep rest f used r k → FieldRead rest (progressOf r) f →
-            Outcome (afterSetup (suc fuel) r k rest) (leaves (suc fuel) r k rest) (calls (suc fuel) r k rest)
-        field (Field.Bridges n) d e told = rw (e, d) (next _ _ (drop used rest) (early (bridges-begun _ _ _ (s .begun) n (told .opening) (told .least) (told .most))))
-        field (Field.Link x y) d e told =
-            rw (e, d) (next _ _ (drop used rest) (early (link-begun _ _ _ (s .begun) x y (told .counted) (told .room) (record { first = told .first; second = told .second; differ = told .differ }))))
-        field Field.View d e told =
-            let room = long-told k long in
-            let rows : 1024 ≤ length (withRow rest (r .bench) (k .costs)) = rw (row-kept rest (r .bench) (k .costs) (told .room) (room .costs)) (room .costs) in
-            let taken = view-taken _ _ _ _ _ (k .messages) s rest told (room .costs) rows (room .sent) (room .held) in
-            rw (e ∙ view-goes used r k (withView (r .bench)) (withRow rest (r .bench) (k .costs)) taken, d)
-            (next _ _ (drop used rest) (view-stands _ _ _ _ _ (k .messages) s rest told (room .costs) rows (room .sent) (room .held)))
-        field (Field.Event v) d e told = rw (e, d) (first-event fuel v used r k rest s told (long-told k long))
-
-pub plan-runs : PlanRuns
-plan-runs plan = go _ _ _ (set-up (suc (length plan)) firstRunner firstBuffers plan (record { begun = begun-first; stood = λ h. absurd (omega arith) }))
-  where
-    go : (p end : Position) (cs : List Call) → Outcome p end cs → NoEvent end cs ⊎ RunsFrom p end cs
-    go p end cs (inl n) = inl n
-    go p end cs (inr o) =
-        let all = whole-from (stateAt p) (planAt p) (o .inRange) (o .fresh) cs in
-        inr (record { stage = o .stage; fresh = stands-in _ _ (o .fresh); reached = o .reached; holds = all .holds; stands = rw (o .reached) (all .stands); replies = rw (o .reached) (all .replies) })
+pub every-line : EveryLine
+unfolding output outputOf
+every-line plan few first next more events all =
+    let inRange = plan-carried plan few .inRange (λ none. some-event first next more (sym events ∙ none)) in
+    record {
+      inRange = inRange;
+      holds = demand3 (readPlan plan .setup) inRange (callsIn first);
+      printed =
+          rw (le-ltb 61440 (length plan) few)
+          (ap (λ (l : List PlanEvent). carriedOut (fresh (readPlan plan .setup)) 0 l (readPlan plan .end)) events
+          ∙ first-lines (fresh (readPlan plan .setup)) 0 first (next ∷ more) (readPlan plan .end) all
+          ∙ ap (λ (i : ℕ). linesBy (fresh (readPlan plan .setup)) first ++ carriedOut (run (fresh (readPlan plan .setup)) (callsIn first)) i (next ∷ more) (readPlan plan .end)) (zero-add (length first)));
+    }

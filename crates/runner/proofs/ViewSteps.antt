@@ -18,7 +18,7 @@ use Rattle.text.specs.Lines.{refusedText}
 use Rattle.runner.specs.Buffers.{Buffers, buffers, buffersWith}
 use Rattle.runner.specs.Steps.{lastStep, lastText, setupStep, withView, withRow, freshWithView, viewStep, mayView, ViewFits}
 use Rattle.runner.specs.declared.Runner.{Runner}
-use Rattle.runner.proofs.RunSetup.{row-kept, row-passes}
+use Rattle.runner.proofs.RunRows.{row-kept, row-passes}
 
 -- the costs of a view that was read are in range, so that the graph alone decides
 module _
@@ -33,7 +33,7 @@ module _
   rows = withRow rest b costs
 
   rows-long : 1024 ≤ length rows
-  rows-long = rw (row-kept rest b costs (fits .room) long) long
+  rows-long = rw (row-kept rest b costs fits long) long
 
   abbrev handed : State
   handed = state (withView b) rows sent held messages

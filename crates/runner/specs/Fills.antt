@@ -1,6 +1,6 @@
 -- Several fields carried out at once, each text behind the last: the events of a list; and what is printed where that is done again and
 -- again. For every input. Assumes nothing.
-use Prim.Native.Nat.{ℕ, zero, suc, _+_, _≤_, _-_, _/_, min}
+use Prim.Native.Nat.{ℕ, zero, suc, _+_, _-_, _/_, min}
 use mathlib.Core.Path.{_≡_}
 use mathlib.Core.Bool.{Bool, cond, _&&_}
 use mathlib.Core.List.{List, [], _++_}
@@ -10,7 +10,7 @@ use Rattle.plan.specs.Events.{eventsAt, listProgress}
 use Rattle.plan.specs.Sizes.{mostEvents}
 use Rattle.runner.specs.Buffers.{Buffers, buffers, buffersLong}
 use Rattle.runner.specs.Steps.{StepOutcome, stepOutcome, stepOf}
-use Rattle.runner.specs.Plans.{firstRunner, firstBuffers, prints}
+use Rattle.runner.specs.Plans.{prints}
 use Rattle.runner.specs.Sizes.{longestPlan, mostAnswers, bytesForANumber}
 use Rattle.runner.specs.declared.Runner.{Runner}
 use Rattle.text.specs.Writing.{longestText}
@@ -69,10 +69,3 @@ printsFilled zero r k rest = []
 printsFilled (suc fuel) r k rest =
     let t : StepOutcome = fillOf r k rest in
     take (t .written) (t .buffers .out) ++ cond (t .going) (printsFilled fuel (t .runner) (t .buffers) (drop (t .used) rest)) []
-
--- a plan that is filled and printed again and again, by whatever bytes are lent, prints what a plan prints
-abbrev pub PlanFilled : Type 0
-PlanFilled =
-    (plan out : List ℕ) →
-    longestText ≤ length out →
-    printsFilled (suc (length plan)) firstRunner (buffersWithOut out firstBuffers) plan ≡ prints (suc (length plan)) firstRunner firstBuffers plan

@@ -1,4 +1,5 @@
 pub mod Sizes
+pub mod Program
 pub mod Buffers
 pub mod Events
 pub mod Steps

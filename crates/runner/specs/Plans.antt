@@ -1,18 +1,16 @@
--- What is printed for any list of bytes (document 01, "Plan file"). Assumes nothing.
+-- A plan carried out step by step, on the buffers of the code. What it prints is the page's output (specs/Program.antt): `PlanFilled`.
+-- Assumes nothing.
 use Prim.Native.Nat.{ℕ, zero, suc}
 use mathlib.Core.Bool.{false, cond}
 use mathlib.Core.List.{List, [], _++_}
-use lib.ListN.{length, take, drop, replicate}
-use lib.Dec.{ltb}
+use lib.ListN.{take, drop, replicate}
 use Rattle.agreement.specs.Record.{freshRecord}
-use Rattle.text.specs.Lines.{refusedText}
 use Rattle.runner.specs.Buffers.{Buffers, buffers}
 use Rattle.runner.specs.Steps.{StepOutcome, stepOf}
 use Rattle.runner.specs.declared.Runner.{Runner}
 use Rattle.agreement.specs.Sizes.{limitNumbers}
 use Rattle.bench.specs.Sizes.{costNumbers, flightNumbers}
 use Rattle.text.specs.Writing.{longestText}
-use Rattle.runner.specs.Sizes.{longestPlan}
 
 -- before the first field
 abbrev pub firstRunner : Runner
@@ -45,8 +43,3 @@ prints zero r k rest = []
 prints (suc fuel) r k rest =
     let t : StepOutcome = stepOf r k rest in
     take (t .written) (t .buffers .out) ++ cond (t .going) (prints fuel (t .runner) (t .buffers) (drop (t .used) rest)) []
-
--- the whole output: 18 for a plan longer than 61,440 bytes
-unfoldable pub printed : List ℕ → List ℕ
-printed plan =
-    cond (ltb longestPlan (length plan)) (refusedText 18 longestPlan) (prints (suc (length plan)) firstRunner firstBuffers plan)

@@ -17,10 +17,12 @@ use Rattle.plan.specs.Reading.{readReply, costsReply}
 use Rattle.bench.specs.declared.Event.{Event}
 use Rattle.plan.specs.declared.Field.{Field}
 use Rattle.plan.specs.declared.Read.{Read}
-use Rattle.text.specs.Lines.{endText, refusedText}
+use Rattle.text.specs.Lines.{refusedText}
 use Rattle.text.specs.declared.Written.{Written}
 use Rattle.runner.specs.Buffers.{Buffers, buffersLong, stateOn, buffersWith, progressOf}
 use Rattle.runner.specs.Events.{textOf, stateAfter}
+-- the plan's last line
+unfoldable pub use Rattle.runner.specs.Program.{lastText}
 use Rattle.runner.specs.declared.Runner.{Runner}
 use Rattle.runner.specs.Sizes.{longestPlan}
 
@@ -124,10 +126,6 @@ fieldStep rest (Field.Bridges n) used r k = setupStep used (withBridges (r .benc
 fieldStep rest (Field.Link x y) used r k = setupStep used (withLink (r .bench) x y) 1 r k
 fieldStep rest Field.View used r k = viewStep used (withView (r .bench)) (withRow rest (r .bench) (k .costs)) r k
 fieldStep rest (Field.Event e) used r k = eventStep e used r k
-
--- the plan's last line: its proper end where the number is 0, else the refusal
-unfoldable pub lastText : ℕ → ℕ → ℕ → List ℕ
-lastText number events offset = cond (eqb number 0) (endText events) (refusedText number offset)
 
 -- what was read: a field, or the plan's end
 unfoldable pub readStep : List ℕ → Read → Runner → Buffers → StepOutcome

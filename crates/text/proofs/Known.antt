@@ -3,12 +3,12 @@
 use mathlib.Core.List.{[], _∷_}
 use mathlib.Core.Path.{_≡_, refl}
 use Rattle.text.specs.Decimal.{digits}
-use Rattle.text.specs.Lines.{orDash, rowLine, rowLines, reportText, deliveredText, stopsText, endText, refusedText}
+use Rattle.text.specs.Lines.{orDash, rowLine, rowLines, reportLines, reportText, deliveredText, stopsText, endText, refusedText}
 
 -- `dest 0`, `0 0 -`, `1 5 0`
 pub second-report : reportText 0 2 (0 ∷ 4294967295 ∷ 5 ∷ 0 ∷ []) ≡
     100 ∷ 101 ∷ 115 ∷ 116 ∷ 32 ∷ 48 ∷ 10 ∷ 48 ∷ 32 ∷ 48 ∷ 32 ∷ 45 ∷ 10 ∷ 49 ∷ 32 ∷ 53 ∷ 32 ∷ 48 ∷ 10 ∷ []
-unfolding digits orDash rowLine rowLines reportText
+unfolding digits orDash rowLine rowLines reportLines reportText
 second-report = refl
 
 -- `end 4`

@@ -1,4 +1,4 @@
--- Laws of the texts: decimal digits evaluate to the number and have no leading zero, and how long each text can be.
+-- Laws of the texts: decimal digits evaluate to the number and have no leading zero, how long each text can be, and what a report is made of.
 -- Assumes nothing.
 use Prim.Native.Nat.{ℕ, zero, suc, _+_, _-_, _*_, _/_, _%_, _^_, _≤_, _<_}
 use native.Mathlib.Nat.{pow-suc}
@@ -9,8 +9,8 @@ use mathlib.Core.Path.{_≡_, refl}
 use lib.Dec.{ltb, eqb}
 use lib.ListN.{length, getD, length-append, List·getD-append}
 use borrow.Author.Tests.{ltb-true, ltb-false, lt-ltb, le-ltb, eq-eqb, ne-eqb}
-use Rattle.text.specs.Decimal.{digit, digits, decimal, valueFrom}
-use Rattle.text.specs.Lines.{orDash, rowLine, rowLines, reportText, deliveredText, stopsText, endText, refusedText}
+use Rattle.text.specs.Decimal.{digit, digits, decimal, valueFrom, DecimalTells}
+use Rattle.text.specs.Lines.{orDash, rowLine, rowLines, reportLines, distanceAt, linkAt, reportText, deliveredText, stopsText, endText, refusedText}
 
 -- a number's digits by the three cases of the code
 pub digits-last : (n : ℕ) → digits 0 n ≡ digit (n % 10) ∷ []
@@ -112,6 +112,9 @@ first-digits (suc k) n p h =
 pub decimal-first : (n : ℕ) → 0 < n → n < 2 ^ 32 → 48 < getD (decimal n) 0 0
 decimal-first n p h = first-digits 9 n p (omega arith)
 
+pub decimal-tells : DecimalTells
+decimal-tells = record { value = value-decimal; digits = digits-bytes 9; first = decimal-first }
+
 pub decimal-zero : decimal 0 ≡ 48 ∷ []
 unfolding digits
 decimal-zero = refl
@@ -138,15 +141,32 @@ pub length-rowLine : (bridge distance link : ℕ) → bridge < 100 → length (r
 unfolding rowLine
 length-rowLine bridge distance link low = simp length-append (omega (arith, length-two bridge low, length-orDash distance, length-orDash link))
 
-pub length-rowLines : (rows : List ℕ) (k : ℕ) → k ≤ 100 → length (rowLines rows k) ≤ 25 * k
+pub length-rowLines : (distance link : ℕ → ℕ) (k : ℕ) → k ≤ 100 → length (rowLines distance link k) ≤ 25 * k
 unfolding rowLines
-length-rowLines rows zero few = omega arith
-length-rowLines rows (suc y) few =
-    simp length-append (omega (arith, length-rowLines rows y (omega arith), length-rowLine y (getD rows (2 * y) 0) (getD rows (2 * y + 1) 0) (omega arith)))
+length-rowLines distance link zero few = omega arith
+length-rowLines distance link (suc y) few =
+    simp length-append (omega (arith, length-rowLines distance link y (omega arith), length-rowLine y (distance y) (link y) (omega arith)))
 
 pub length-reportText : (dest bridges : ℕ) (rows : List ℕ) → dest < 100 → bridges ≤ 100 → length (reportText dest bridges rows) ≤ 8 + 25 * bridges
-unfolding reportText
-length-reportText dest bridges rows low few = simp length-append (omega (arith, length-two dest low, length-rowLines rows bridges few))
+unfolding reportText reportLines
+length-reportText dest bridges rows low few = simp length-append (omega (arith, length-two dest low, length-rowLines (distanceAt rows) (linkAt rows) bridges few))
+
+-- a report is by the distances and links of the bridges that there are
+rows-same :
+    (distance link other far : ℕ → ℕ) (k : ℕ) → ((y : ℕ) → y < k → distance y ≡ other y) → ((y : ℕ) → y < k → link y ≡ far y) →
+    rowLines distance link k ≡ rowLines other far k
+unfolding rowLines
+rows-same distance link other far zero d l = refl
+rows-same distance link other far (suc y) d l =
+    rw (d y (omega arith), l y (omega arith), rows-same distance link other far y (λ z h. d z (omega arith)) (λ z h. l z (omega arith)))
+
+pub report-by :
+    (dest bridges : ℕ) (rows : List ℕ) (distance link : ℕ → ℕ) →
+    ((y : ℕ) → y < bridges → getD rows (2 * y) 0 ≡ distance y) →
+    ((y : ℕ) → y < bridges → getD rows (2 * y + 1) 0 ≡ link y) →
+    reportText dest bridges rows ≡ reportLines dest bridges distance link
+unfolding reportText reportLines
+report-by dest bridges rows distance link d l = rw (rows-same (distanceAt rows) (linkAt rows) distance link bridges d l)
 
 pub length-deliveredText : (start dest hops : ℕ) → start < 100 → dest < 100 → length (deliveredText start dest hops) ≤ 32
 unfolding deliveredText

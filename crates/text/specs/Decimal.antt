@@ -1,7 +1,9 @@
 -- A number in decimal, as bytes. Assumes nothing.
-use Prim.Native.Nat.{ℕ, zero, suc, _+_, _*_, _/_, _%_}
+use Prim.Native.Nat.{ℕ, zero, suc, _+_, _*_, _/_, _%_, _^_, _<_, _≤_}
+use mathlib.Core.Path.{_≡_}
 use mathlib.Core.Bool.{cond}
 use mathlib.Core.List.{List, [], _∷_, _++_}
+use lib.ListN.{length, getD}
 use lib.Dec.{ltb}
 
 -- the byte of a digit
@@ -21,3 +23,9 @@ decimal n = digits 9 n
 unfoldable pub valueFrom : ℕ → List ℕ → ℕ
 valueFrom v [] = v
 valueFrom v (b ∷ bs) = valueFrom (10 * v + (b % 48)) bs
+
+-- the claim: the bytes of a number of 32 bits are digits, `0` to `9`, that stand for it, and the first is no `0` but for 0 itself
+pub record DecimalTells : Type 0 where
+  pub value : (n : ℕ) → n < 2 ^ 32 → valueFrom 0 (decimal n) ≡ n
+  pub digits : (n i : ℕ) → i < length (decimal n) → (48 ≤ getD (decimal n) i 0) × (getD (decimal n) i 0 ≤ 57)
+  pub first : (n : ℕ) → 0 < n → n < 2 ^ 32 → 48 < getD (decimal n) 0 0

@@ -46,14 +46,24 @@ wordAt = 32 ∷ 97 ∷ 116 ∷ 32 ∷ []
 unfoldable pub rowLine : ℕ → ℕ → ℕ → List ℕ
 rowLine bridge distance link = decimal bridge ++ (space ++ (orDash distance ++ (space ++ (orDash link ++ lineFeed))))
 
--- the rows of the bridges below k: numbers 2 y and 2 y + 1 are bridge y's distance and link
-unfoldable pub rowLines : List ℕ → ℕ → List ℕ
-rowLines rows zero = []
-rowLines rows (suc y) = rowLines rows y ++ rowLine y (getD rows (2 * y) 0) (getD rows (2 * y + 1) 0)
+-- the lines of the bridges below k, by the distance and the link of each
+unfoldable pub rowLines : (ℕ → ℕ) → (ℕ → ℕ) → ℕ → List ℕ
+rowLines distance link zero = []
+rowLines distance link (suc y) = rowLines distance link y ++ rowLine y (distance y) (link y)
 
 -- `dest D`, then a line for each bridge
+unfoldable pub reportLines : ℕ → ℕ → (ℕ → ℕ) → (ℕ → ℕ) → List ℕ
+reportLines dest bridges distance link = (wordDest ++ (decimal dest ++ lineFeed)) ++ rowLines distance link bridges
+
+-- by lent rows: numbers 2 y and 2 y + 1 are bridge y's distance and link
+abbrev pub distanceAt : List ℕ → ℕ → ℕ
+distanceAt rows y = getD rows (2 * y) 0
+
+abbrev pub linkAt : List ℕ → ℕ → ℕ
+linkAt rows y = getD rows (2 * y + 1) 0
+
 unfoldable pub reportText : ℕ → ℕ → List ℕ → List ℕ
-reportText dest bridges rows = (wordDest ++ (decimal dest ++ lineFeed)) ++ rowLines rows bridges
+reportText dest bridges rows = reportLines dest bridges (distanceAt rows) (linkAt rows)
 
 -- `path S D delivered H`, `path S D stops B H`
 unfoldable pub deliveredText : ℕ → ℕ → ℕ → List ℕ

@@ -10,7 +10,7 @@ ghost use mathlib.Core.Bool.{true, _&&_};
 ghost use Prim.Native.Nat.{_+_, _*_, _≤_, _<_};
 ghost use lib.ListN.{length};
 ghost use lib.Dec.{leb};
-ghost use Rattle.text.specs.Lines.{rowLine, rowLines, reportText, deliveredText, stopsText, endText, refusedText};
+ghost use Rattle.text.specs.Lines.{rowLine, rowLines, distanceAt, linkAt, reportText, deliveredText, stopsText, endText, refusedText};
 ghost use Rattle.text.specs.Writing.{Put, outcome, writing};
 
 fn put_row(out: &mut [u8], at: usize, bridge: usize, distance: u32, link: u32) -> usize
@@ -28,7 +28,7 @@ fn put_row(out: &mut [u8], at: usize, bridge: usize, distance: u32, link: u32) -
 
 fn put_rows(out: &mut [u8], at: usize, bridges: usize, rows: &[u32]) -> usize
     requires { ⌜ (bridges ≤ 16) × (2 * bridges ≤ length (now rows)) × (at + 33 * bridges ≤ length (now out)) ⌝ }
-    ensures { λ r. ⌜ Put (now (out .entry)) at (rowLines (now (rows .entry)) bridges) (now (out .exit)) r ⌝ }
+    ensures { λ r. ⌜ Put (now (out .entry)) at (rowLines (distanceAt (now (rows .entry))) (linkAt (now (rows .entry))) bridges) (now (out .exit)) r ⌝ }
 {
     let mut next = at;
     let mut y = 0;

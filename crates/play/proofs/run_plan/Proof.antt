@@ -2,7 +2,7 @@
 -- of it. Assumes nothing.
 use Rattle.play.proofs.Printing.{left, Place, begun, ended, turned, stopped, fewer-left, whole-few}
 use Rattle.runner.specs.Buffers.{buffers}
-use Rattle.runner.proofs.FillLaws.{printed-carried}
+use Rattle.runner.proofs.RunWhole.{output-carried}
 use Rattle.messages.specs.Slices.{numbersIn}
 use borrow.Author.Tests.{not-true}
 use borrow.Author.Needs.{needs}
@@ -66,7 +66,7 @@ slice-aggregate-hand-on : tie.Need-slice-aggregate-hand-on Inv-loop μ-loop
 slice-aggregate-hand-on c = sym (length-take-le _ _ ((turned _ _ _ (c .before .before .before .before .before .before .before .before .before .before .before .loop-test .taken) _ _ _ _ (c .before .before .before .before .before .before .before .before .before .before .before .before .loop .inv .0) (c .before .before .before .before .before .fill .ensures)) .written))
 
 hand-on-requires : tie.Need-hand-on-requires Inv-loop μ-loop
-hand-on-requires c κs = rw (printed-carried (c .before .before .before .before .before .before .before .before .before .before .before .before .before .before .before .before .args .plan .now) (c .before .before .before .before .before .before .before .before .before .before .before .before .before .before .before .before .pre)) ((turned _ _ _ (c .before .before .before .before .before .before .before .before .before .before .before .loop-test .taken) _ _ _ _ (c .before .before .before .before .before .before .before .before .before .before .before .before .loop .inv .0) (c .before .before .before .before .before .fill .ensures)) .bytes)
+hand-on-requires c κs = rw (output-carried (c .before .before .before .before .before .before .before .before .before .before .before .before .before .before .before .before .args .plan .now) (c .before .before .before .before .before .before .before .before .before .before .before .before .before .before .before .before .pre)) ((turned _ _ _ (c .before .before .before .before .before .before .before .before .before .before .before .loop-test .taken) _ _ _ _ (c .before .before .before .before .before .before .before .before .before .before .before .before .loop .inv .0) (c .before .before .before .before .before .fill .ensures)) .bytes)
 
 returns : tie.Need-returns Inv-loop μ-loop
 returns c = stopped _ _ _ _ (turned _ _ _ (c .before .before .before .before .before .before .before .before .before .before .before .before .before .loop-test .taken) _ _ _ _ (c .before .before .before .before .before .before .before .before .before .before .before .before .before .before .loop .inv .0) (c .before .before .before .before .before .before .before .fill .ensures)) _ (not-true _ (c .if1 .taken)) (c .before .hand-on .ensures)

@@ -1,6 +1,6 @@
 -- `too_long` meets its contract: the text has room, and is handed on whole or not at all. Assumes nothing.
 use Rattle.runner.proofs.EventSteps.{counted}
-use Rattle.runner.proofs.FillLaws.{printed-refused}
+use Rattle.runner.proofs.RunWhole.{output-refused}
 use Rattle.play.specs.Output.{IsNext}
 use Rattle.runner.specs.Steps.{countOf}
 use Rattle.runner.specs.Events.{Line, line, lineOf}
@@ -48,7 +48,7 @@ is-next plan n m many e =
     let room : 0 + length text ≤ length lent = omega (arith, length-refusedText 18 61440, length-replicate {A = ℕ} 544 0) in
     let written : take n m ≡ text =
     ap (λ (l : Line). take (l .count) (l .out)) e ∙ ap (take (length text)) (sets-eq text lent 0 room) ∙ take-append-seam text (drop (0 + length text) lent) in
-    rw (printed-refused plan many, written) (take-length text)
+    rw (output-refused plan many, written) (take-length text)
 
 slice-aggregate-refused : tie.Need-slice-aggregate-refused
 slice-aggregate-refused c = search needs

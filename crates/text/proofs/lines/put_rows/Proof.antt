@@ -3,7 +3,7 @@ use Prim.Native.Nat.{_-_, _≤_}
 use native.Mathlib.Numerals.{add-one}
 use native.Mathlib.Omega.{arith}
 use mathlib.Core.Path.{_≡_}
-use Rattle.text.specs.Lines.{rowLines}
+use Rattle.text.specs.Lines.{rowLines, distanceAt, linkAt}
 use Rattle.text.specs.Writing.{Put}
 use Rattle.text.proofs.Laws.{length-rowLines}
 use Rattle.text.proofs.Puts.{joined, nothing, same-length as same-length-of}
@@ -11,7 +11,7 @@ use Rattle.text.proofs.lines.put_rows.Statement.{statement}
 use Rattle.text.proofs.lines.put_rows.Tie as tie
 
 abbrev Inv-loop : tie.InvT-loop
-Inv-loop out₀ at bridges rows next₀ y₀ out next y = (y ≤ bridges) × Put out₀ at (rowLines rows y) out next
+Inv-loop out₀ at bridges rows next₀ y₀ out next y = (y ≤ bridges) × Put out₀ at (rowLines (distanceAt rows) (linkAt rows) y) out next
 
 abbrev μ-loop : tie.MeasureT-loop
 μ-loop out₀ at bridges rows next₀ y₀ out next y = bridges - y
@@ -43,7 +43,7 @@ shared-slice-read-put-row-2 c = omega arith
 
 put-row-requires : tie.Need-put-row-requires Inv-loop μ-loop
 put-row-requires c κs =
-    omega (arith, same-length-of (c .before .before .before .before .loop .inv .1), length-rowLines (c .before .before .before .before .before .before .before .args .rows .now) (c .before .before .before .before .loop .y) (omega arith))
+    omega (arith, same-length-of (c .before .before .before .before .loop .inv .1), length-rowLines (distanceAt (c .before .before .before .before .before .before .before .args .rows .now)) (linkAt (c .before .before .before .before .before .before .before .args .rows .now)) (c .before .before .before .before .loop .y) (omega arith))
 
 add-y : tie.Need-add-y Inv-loop μ-loop
 add-y c = omega arith

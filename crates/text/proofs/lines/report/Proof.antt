@@ -1,7 +1,7 @@
 -- `lines::report` meets its contract. Each refusal cites its own test. Assumes nothing.
 use lib.ListN.{length}
 use borrow.Author.Tests.{le-leb, lt-leb}
-use Rattle.text.specs.Lines.{reportText}
+use Rattle.text.specs.Lines.{reportLines, reportText}
 use Rattle.text.proofs.Puts.{joined, written, turned-down}
 use borrow.Author.Needs.{needs}
 use Rattle.text.proofs.lines.report.Statement.{statement}
@@ -38,7 +38,7 @@ same-length : tie.Need-same-length
 same-length c = search needs
 
 returns-4 : tie.Need-returns-4
-unfolding reportText
+unfolding reportText reportLines
 returns-4 c = written _ (rw (le-leb (c .before .before .before .before .before .before .before .before .before .before .before .before .before .before .before .before .before .before .before .before .before .before .args .bridges) 16 (c .before .before .before .before .before .before .before .before .before .before .before .before .before .before .before .before .before .before .before .if1 .left), le-leb _ (length (c .before .before .before .before .before .before .before .before .before .before .before .before .before .before .before .before .before .before .before .before .before .before .args .rows .now)) (c .before .before .before .before .before .before .before .before .before .before .before .before .before .before .before .before .before .before .if2 .left))) (c .before .before .before .before .before .before .before .before .before .before .before .before .before .before .before .before .before .if3 .left) (joined (joined (c .before .before .before .before .before .before .before .before .before .before .before .before .before .before .put-word .ensures) (joined (c .before .before .before .before .before .before .before .before .before .before .put-number .ensures .0) (c .before .before .before .before .before .before .put-byte .ensures))) (c .before .before .put-rows .ensures))
 
 pub report-spec : {M : Type 1} → statement M

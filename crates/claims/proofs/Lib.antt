@@ -1,0 +1,3 @@
+pub mod Proved
+pub mod WorkedEnds
+pub mod WorkedCalls

@@ -1,0 +1,54 @@
+-- Every claim is proved. Assumes nothing.
+use Rattle.distances.proofs.Laws.{dist-is-distance, nothing-else-is}
+use Rattle.distances.proofs.Greatest.{greatest-distance}
+use Rattle.distances.proofs.Known.{distances-apply}
+use Rattle.agreement.proofs.Forwards.{port-follows-rule}
+use Rattle.agreement.proofs.ChoiceLaws.{choice-is-port}
+use Rattle.agreement.proofs.Offers.{offer-is}
+use Rattle.agreement.proofs.BetweenLaws.{plain-ends}
+use Rattle.protocol.proofs.Rules.{demand2}
+use Rattle.protocol.proofs.Theorem.{demand3}
+use Rattle.protocol.proofs.PathEnds.{hops-are-links}
+use Rattle.protocol.proofs.Known.{examples-hold}
+use Rattle.protocol.proofs.Example.{settling-can-be-met}
+use Rattle.protocol.proofs.Applied.{demands-apply}
+use Rattle.bench.proofs.OutcomeLaws.{refused-changes-nothing, asking-changes-nothing}
+use Rattle.bench.proofs.StateTells.{states-tell}
+use Rattle.bench.proofs.TieWhole.{whole-lists}
+use Rattle.bench.proofs.BatchRuns.{batches-are-runs}
+use Rattle.messages.proofs.SliceWhole.{whole-slices}
+use Rattle.text.proofs.Laws.{decimal-tells}
+use Rattle.runner.proofs.ReadLaws.{reading-ends}
+use Rattle.runner.proofs.FillLaws.{fill-prints}
+use Rattle.runner.proofs.RunWhole.{plan-filled, every-line}
+use Rattle.claims.specs.Claims.{Claims}
+
+pub claims : Claims
+claims =
+    record {
+      distances = dist-is-distance;
+      noOther = nothing-else-is;
+      greatest = greatest-distance;
+      rule = port-follows-rule;
+      choice = choice-is-port;
+      lentOffers = offer-is;
+      plainEnds = plain-ends;
+      demand2 = demand2;
+      demand3 = demand3;
+      hops = hops-are-links;
+      examples = examples-hold;
+      states = states-tell;
+      refused = refused-changes-nothing;
+      asking = asking-changes-nothing;
+      lists = whole-lists;
+      batches = batches-are-runs;
+      slices = whole-slices;
+      reading = reading-ends;
+      fills = fill-prints;
+      filled = plan-filled;
+      lines = every-line;
+      decimal = decimal-tells;
+      settlingMet = settling-can-be-met;
+      distancesApply = distances-apply;
+      demandsApply = demands-apply;
+    }

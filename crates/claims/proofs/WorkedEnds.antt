@@ -1,0 +1,43 @@
+-- What the claims of layers 1 and 2 tell of the triangle: each is applied, and only numbers are computed. Assumes nothing.
+use Prim.Native.Nat.{ℕ, _<_}
+use native.Mathlib.Omega.{arith}
+use mathlib.Core.Path.{_≡_, refl, _∙_}
+use mathlib.Core.Bool.{true}
+use Rattle.distances.specs.View.{costsOf}
+use Rattle.distances.specs.Distance.{dist}
+use Rattle.distances.specs.Table.{cell, rewrittenFrom, rewritten, isPair, withPairs}
+use Rattle.distances.specs.Call.{linkPasses, linkInRange, graphPasses, costsPass, inRange, distancesOf}
+use Rattle.distances.specs.Examples.{triangle, view0, view1}
+use Rattle.distances.proofs.Known.{below-three, triangle-in-range, view1-in-range}
+use Rattle.agreement.specs.Call.{lentGraph, lentInRange, HoldsDistances}
+use Rattle.agreement.specs.Ranges.{endInRange}
+use Rattle.protocol.specs.Examples.{after, callsE3}
+use Rattle.protocol.proofs.Example.{computing}
+use Rattle.claims.specs.Claims.{Claims}
+use Rattle.claims.specs.Worked.{lent, WorkedEnds}
+
+lent-ready : lentInRange lent ≡ true
+unfolding computing rewrittenFrom rewritten isPair withPairs linkPasses linkInRange graphPasses costsPass inRange distancesOf
+lent-ready = refl
+
+-- the lent table has the view's distances
+holds : HoldsDistances lent
+unfolding computing cell rewrittenFrom rewritten isPair withPairs linkPasses linkInRange graphPasses costsPass inRange distancesOf
+holds i j hi hj =
+    below-three (λ i. (j : ℕ) → j < 3 → cell (lent .table) i j ≡ dist (lentGraph lent) (costsOf (lent .costs)) i j)
+    (below-three (λ j. cell (lent .table) 0 j ≡ dist (lentGraph lent) (costsOf (lent .costs)) 0 j) refl refl refl)
+    (below-three (λ j. cell (lent .table) 1 j ≡ dist (lentGraph lent) (costsOf (lent .costs)) 1 j) refl refl refl)
+    (below-three (λ j. cell (lent .table) 2 j ≡ dist (lentGraph lent) (costsOf (lent .costs)) 2 j) refl refl refl)
+    i hi j hj
+
+pub worked-ends : Claims → WorkedEnds
+unfolding computing rewrittenFrom rewritten isPair withPairs linkPasses linkInRange graphPasses costsPass inRange distancesOf endInRange
+worked-ends claims =
+    record {
+      noOther = λ x is. claims .noOther triangle view1 1 0 x 4 is (claims .distances triangle view1 triangle-in-range view1-in-range 1 0);
+      greatest = claims .greatest .most triangle view1 triangle-in-range view1-in-range 1 0 (λ e. omega arith);
+      rule = claims .rule triangle (triangle-in-range .differ) view0 (dist triangle view0) (after callsE3 .records) 2 0 .0 1 refl;
+      choice = claims .choice triangle view0 (dist triangle view0) (after callsE3 .records) 2 0;
+      lentOffers = claims .lentOffers lent lent-ready holds 3 0 (omega arith) (omega arith);
+      plainEnds = claims .plainEnds .update lent 2 1 3 _ _ _ refl;
+    }

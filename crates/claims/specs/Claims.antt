@@ -1,0 +1,55 @@
+-- Every claim of the repository beyond the functions' contracts, one field each; `claims` (proofs/Proved.antt) is a value of this record, so that
+-- a claim without a proof fails the check. What they come to in worked cases: specs/Worked.antt. Assumes nothing.
+use Rattle.distances.specs.Theorem.{DistIsDistance, NothingElseIs, GreatestDistance}
+use Rattle.distances.specs.Examples.{DistancesApply}
+use Rattle.agreement.specs.Rule.{PortFollowsRule}
+use Rattle.agreement.specs.Choice.{ChoiceIsPort}
+use Rattle.agreement.specs.Call.{LentOffersAreOffers}
+use Rattle.agreement.specs.Ends.{PlainEndsAreEnds}
+use Rattle.protocol.specs.Demand2.{Demand2}
+use Rattle.protocol.specs.Demand3.{Demand3}
+use Rattle.protocol.specs.Paths.{HopsAreLinks}
+use Rattle.protocol.specs.Examples.{ExamplesHold}
+use Rattle.protocol.specs.SettlingMet.{SettlingCanBeMet}
+use Rattle.protocol.specs.Applied.{DemandsApply}
+use Rattle.bench.specs.Contracts.{RefusedChangesNothing, AskingChangesNothing}
+use Rattle.bench.specs.Demand2.{StatesTell}
+use Rattle.bench.specs.Whole.{WholeLists}
+use Rattle.bench.specs.Batches.{BatchesAreRuns}
+use Rattle.messages.specs.SliceLists.{WholeSlices}
+use Rattle.text.specs.Decimal.{DecimalTells}
+use Rattle.runner.specs.Fills.{FillPrints}
+use Rattle.runner.specs.Whole.{ReadingEnds, PlanFilled, EveryLine}
+
+pub record Claims : Type 0 where
+  -- layer 1: the computed distance is the least sum of costs of any path, nothing else is, and how great it can be
+  pub distances : DistIsDistance
+  pub noOther : NothingElseIs
+  pub greatest : GreatestDistance
+  -- layer 2: the port follows the forwarding rule; so does the choice by one end after another; what is lent or plain comes to the same
+  pub rule : PortFollowsRule
+  pub choice : ChoiceIsPort
+  pub lentOffers : LentOffersAreOffers
+  pub plainEnds : PlainEndsAreEnds
+  -- networks: demands 2 and 3, the limits among them; a path's hops are the links that it crosses; document 01's examples E1 to E8
+  pub demand2 : Demand2
+  pub demand3 : Demand3
+  pub hops : HopsAreLinks
+  pub examples : ExamplesHold
+  -- layer 3: what the calls tell, what they leave alone, and demand 3 for whoever makes them one by one, as a list, or over a slice of messages
+  pub states : StatesTell
+  pub refused : RefusedChangesNothing
+  pub asking : AskingChangesNothing
+  pub lists : WholeLists
+  pub batches : BatchesAreRuns
+  pub slices : WholeSlices
+  -- the program: a plan is read to its end, what is filled is the page's output, and demand 3 is about each line of it; numbers in decimal
+  pub reading : ReadingEnds
+  pub fills : FillPrints
+  pub filled : PlanFilled
+  pub lines : EveryLine
+  pub decimal : DecimalTells
+  -- the premises of the settling statement can be met, and what layer 1's claim and demands 2 and 3 tell of the triangle of the examples
+  pub settlingMet : SettlingCanBeMet
+  pub distancesApply : DistancesApply
+  pub demandsApply : DemandsApply

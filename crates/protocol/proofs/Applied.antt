@@ -1,0 +1,59 @@
+-- What demands 2 and 3 tell of the worked examples: each is applied to them, and only numbers are computed. Assumes nothing.
+use Prim.Native.Nat.{ℕ}
+use native.Mathlib.Omega.{arith}
+use mathlib.Core.Path.{_≡_, refl, sym}
+use mathlib.Core.Logic.{inl, inr}
+use mathlib.Core.List.{List, []}
+use Rattle.distances.specs.View.{NONE}
+use Rattle.distances.specs.Meaning.{IsLeast, IsDistance}
+use Rattle.distances.specs.Examples.{triangle, view1}
+use Rattle.protocol.specs.Ports.{Trail.stay, Trail.cross}
+use Rattle.protocol.specs.Demand2.{ByTheRule, Demand2}
+use Rattle.protocol.specs.Demand3.{Demand3}
+use Rattle.protocol.specs.Calls.{Call}
+use Rattle.protocol.specs.Examples.{plan, after, callsE3, callsE4, callsE6, callsE7}
+use Rattle.protocol.specs.SettlingMet.{before, first, second}
+use Rattle.protocol.specs.Applied.{RuleAtExamples, ListsAtExamples, DemandsApply}
+use Rattle.protocol.proofs.Example.{computing, settling-can-be-met}
+
+-- a distance that is not NONE
+reached : {i x : ℕ} → IsDistance triangle view1 i 0 x → (x ≡ NONE → ⊥) → IsLeast triangle view1 i 0 x
+reached (inl p) some = p
+reached (inr q) some = absurd (some (q .none))
+
+rule-applies : Demand2 → RuleAtExamples
+unfolding computing
+rule-applies claim =
+    let at : (cs : List Call) → ByTheRule (after cs) = λ cs. claim .rule (after cs) (claim .inRange plan (settling-can-be-met .inRange) cs) in
+    let four = reached (at callsE4 .distance 1 0 (omega arith)) (λ e. omega arith) in
+    let three = reached (at callsE4 .others 1 2 0 (omega arith)) (λ e. omega arith) in
+    let by = at callsE3 .forwards 2 0 1 refl in
+    record {
+      attained = four .attained;
+      least = four .least;
+      other = three .least;
+      forwards = by;
+      opens = at callsE3 .opens 2 0 1 (by .0) (by .1);
+      closed = at [] .closed 2 0 (λ l e w. omega (arith, w .allowed .held));
+      stops = at callsE4 .paths 2 0;
+      sent = sym (claim .limits plan callsE6 2 0 .sent);
+      held = sym (claim .limits plan callsE6 2 0 .held);
+    }
+
+lists-apply : Demand3 → ListsAtExamples
+unfolding computing
+lists-apply claim =
+    let at = claim plan (settling-can-be-met .inRange) in
+    let settled = at _ .settles before first second 1 refl (settling-can-be-met .premises) 1 0 (λ e. omega arith) (λ e. omega arith) in
+    record {
+      noRing = λ l e. at callsE7 .noRing 0 1 1 (cross {l = 1} refl (cross e stay));
+      short = at callsE7 .pathShort 1 0;
+      counted = at callsE7 .pathCounted 1 0;
+      ends = at callsE4 .pathEnds 2 0;
+      forwards = settled .forwards;
+      arrives = settled .arrives;
+      shortest = settled .shortest;
+    }
+
+pub demands-apply : DemandsApply
+demands-apply = record { demand2 = rule-applies; demand3 = lists-apply }

@@ -1,3 +1,4 @@
-pub mod Proved
 pub mod WorkedEnds
 pub mod WorkedCalls
+pub mod WorkedProgram
+pub mod Proved

@@ -1,4 +1,4 @@
--- Every claim is proved. Assumes nothing.
+-- Every claim is proved, and applied to the worked cases. Assumes nothing.
 use Rattle.distances.proofs.Laws.{dist-is-distance, nothing-else-is}
 use Rattle.distances.proofs.Greatest.{greatest-distance}
 use Rattle.distances.proofs.Known.{distances-apply}
@@ -22,6 +22,10 @@ use Rattle.runner.proofs.ReadLaws.{reading-ends}
 use Rattle.runner.proofs.FillLaws.{fill-prints}
 use Rattle.runner.proofs.RunWhole.{plan-filled, every-line}
 use Rattle.claims.specs.Claims.{Claims}
+use Rattle.claims.specs.Worked.{WorkedCases, ClaimsApply}
+use Rattle.claims.proofs.WorkedEnds.{worked-ends, worked-examples}
+use Rattle.claims.proofs.WorkedCalls.{worked-calls}
+use Rattle.claims.proofs.WorkedProgram.{worked-program}
 
 pub claims : Claims
 claims =
@@ -52,3 +56,10 @@ claims =
       distancesApply = distances-apply;
       demandsApply = demands-apply;
     }
+
+-- and each of them tells what it should of the worked cases
+claims-apply : ClaimsApply
+claims-apply c = record { ends = worked-ends c; examples = worked-examples c; calls = worked-calls c; program = worked-program c }
+
+pub worked-cases : WorkedCases
+worked-cases = claims-apply claims

@@ -1,8 +1,9 @@
 -- What the claims of layers 1 and 2 tell of the triangle: each is applied, and only numbers are computed. Assumes nothing.
 use Prim.Native.Nat.{ℕ, _<_}
 use native.Mathlib.Omega.{arith}
-use mathlib.Core.Path.{_≡_, refl, _∙_}
-use mathlib.Core.Bool.{true}
+use mathlib.Core.Path.{_≡_, refl, sym}
+use mathlib.Core.Bool.{Bool, true}
+use mathlib.Core.List.{List·Memᴰ·head as head, List·Memᴰ·tail as tail}
 use Rattle.distances.specs.View.{costsOf}
 use Rattle.distances.specs.Distance.{dist}
 use Rattle.distances.specs.Table.{cell, rewrittenFrom, rewritten, isPair, withPairs}
@@ -12,17 +13,23 @@ use Rattle.distances.proofs.Known.{below-three, triangle-in-range, view1-in-ran
 use Rattle.agreement.specs.Call.{lentGraph, lentInRange, HoldsDistances}
 use Rattle.agreement.specs.Ranges.{endInRange}
 use Rattle.protocol.specs.Examples.{after, callsE3}
+use Rattle.protocol.specs.Ports.{hop}
 use Rattle.protocol.proofs.Example.{computing}
 use Rattle.claims.specs.Claims.{Claims}
-use Rattle.claims.specs.Worked.{lent, WorkedEnds}
+use Rattle.claims.specs.Worked.{lent, WorkedEnds, WorkedExamples}
+
+-- all that computes below
+unfoldable all : Bool
+unfolding computing rewrittenFrom rewritten isPair withPairs linkPasses linkInRange graphPasses costsPass inRange distancesOf cell endInRange
+all = true
 
 lent-ready : lentInRange lent ≡ true
-unfolding computing rewrittenFrom rewritten isPair withPairs linkPasses linkInRange graphPasses costsPass inRange distancesOf
+unfolding all
 lent-ready = refl
 
 -- the lent table has the view's distances
 holds : HoldsDistances lent
-unfolding computing cell rewrittenFrom rewritten isPair withPairs linkPasses linkInRange graphPasses costsPass inRange distancesOf
+unfolding all
 holds i j hi hj =
     below-three (λ i. (j : ℕ) → j < 3 → cell (lent .table) i j ≡ dist (lentGraph lent) (costsOf (lent .costs)) i j)
     (below-three (λ j. cell (lent .table) 0 j ≡ dist (lentGraph lent) (costsOf (lent .costs)) 0 j) refl refl refl)
@@ -31,7 +38,7 @@ holds i j hi hj =
     i hi j hj
 
 pub worked-ends : Claims → WorkedEnds
-unfolding computing rewrittenFrom rewritten isPair withPairs linkPasses linkInRange graphPasses costsPass inRange distancesOf endInRange
+unfolding all
 worked-ends claims =
     record {
       noOther = λ x is. claims .noOther triangle view1 1 0 x 4 is (claims .distances triangle view1 triangle-in-range view1-in-range 1 0);
@@ -40,4 +47,12 @@ worked-ends claims =
       choice = claims .choice triangle view0 (dist triangle view0) (after callsE3 .records) 2 0;
       lentOffers = claims .lentOffers lent lent-ready holds 3 0 (omega arith) (omega arith);
       plainEnds = claims .plainEnds .update lent 2 1 3 _ _ _ refl;
+    }
+
+pub worked-examples : Claims → WorkedExamples
+unfolding all
+worked-examples claims =
+    record {
+      hops = sym (claims .hops (hop (after callsE3) 0) 0 2 2);
+      e8 = claims .examples _ (tail (tail (tail (tail (tail (tail (tail (tail (head refl)))))))));
     }

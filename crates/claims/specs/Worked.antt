@@ -1,17 +1,17 @@
 -- Worked cases to which each claim is applied: a premise that nobody can meet, or a conclusion that says nothing, would not give these. The
 -- cases of layer 1 and of demands 2 and 3 stand beside them (distances/specs/Examples.antt, protocol/specs/Applied.antt).
 -- Assumes nothing.
-use Prim.Native.Nat.{ℕ, _≤_, _<_}
+use Prim.Native.Nat.{ℕ, _≤_}
 use mathlib.Core.Path.{_≡_}
-use mathlib.Core.Bool.{true, false}
+use mathlib.Core.Bool.{true}
 use mathlib.Core.List.{List, [], _∷_, _++_}
-use lib.ListN.{length, take, drop, replicate}
+use lib.ListN.{length, replicate}
 use Rattle.distances.specs.View.{NONE, maxDistance}
 use Rattle.distances.specs.Meaning.{IsDistance}
 use Rattle.distances.specs.Distance.{dist}
 use Rattle.distances.specs.Call.{distancesOf}
 use Rattle.distances.specs.Examples.{triangle, view0, view1}
-use Rattle.agreement.specs.Call.{Response, says, ViewData, viewData, lentOffer, updateOutcome}
+use Rattle.agreement.specs.Call.{says, ViewData, viewData, lentOffer, updateOutcome}
 use Rattle.agreement.specs.Choice.{portBy, choiceBelow}
 use Rattle.agreement.specs.Ends.{betweenAt, updateBetween}
 use Rattle.agreement.specs.Record.{freshRecord}
@@ -19,10 +19,10 @@ use Rattle.agreement.specs.Rule.{Forwards}
 use Rattle.agreement.specs.declared.Port.the-variants.{Closed, Open}
 use Rattle.protocol.specs.Net.{PlanInRange, fresh}
 use Rattle.protocol.specs.Calls as calls
-use Rattle.protocol.specs.Calls.{Call, change, cut}
-use Rattle.protocol.specs.Ports.{forwardingPort, stays, crosses, hop}
-use Rattle.protocol.specs.Paths.{delivered, path, EndsByItself}
-use Rattle.protocol.specs.Examples.{after, callsE3}
+use Rattle.protocol.specs.Calls.{change, cut}
+use Rattle.protocol.specs.Ports.{forwardingPort, crosses, hop}
+use Rattle.protocol.specs.Paths.{linksCrossed, delivered, path}
+use Rattle.protocol.specs.Examples.{after, callsE3, callsE7, answered}
 use Rattle.bench.specs.State.{State, state, network}
 use Rattle.bench.specs.Contracts.{outcome, outcomeOf, leftBy, freshOf}
 use Rattle.bench.specs.Whole.{runIn}
@@ -59,6 +59,14 @@ pub record WorkedEnds : Type 0 where
   pub plainEnds :
       (let limits : List ℕ = replicate 1024 0 in
       updateOutcome lent 2 1 3 freshRecord limits limits ≡ updateBetween (betweenAt lent 3) 2 1 3 freshRecord limits limits)
+
+-- E3 and E8: the path from bridge 2 crosses two links; bridge 1's message over link 1 is of number 1, and its delivery is accepted and stale
+pub record WorkedExamples : Type 0 where
+  pub hops : length (linksCrossed (after callsE3) 2 0) ≡ 2
+  pub e8 :
+      (let m = calls.messageAt (after callsE7) 0 in
+      m .link ∷ m .direction ∷ m .agreement .number ∷ calls.refuse (after callsE7) (calls.deliver 0) ∷ answered callsE7 0 ∷ [])
+      ≡ 1 ∷ 0 ∷ 1 ∷ 0 ∷ 0 ∷ []
 
 -- ---- layer 3
 
@@ -150,6 +158,7 @@ pub record WorkedProgram : Type 0 where
 -- the claims tell so
 pub record WorkedCases : Type 0 where
   pub ends : WorkedEnds
+  pub examples : WorkedExamples
   pub calls : WorkedCalls
   pub program : WorkedProgram
 

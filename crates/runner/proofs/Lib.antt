@@ -10,6 +10,7 @@ pub mod RunSetup
 pub mod RunPlans
 pub mod RunFresh
 pub mod ViewSteps
+pub mod RunFields
 pub mod RunWhole
 pub mod FillTexts
 pub mod FillSteps

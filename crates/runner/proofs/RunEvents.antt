@@ -5,11 +5,10 @@ use native.Mathlib.Omega.{arith}
 use mathlib.Core.Path.{_≡_, refl, sym, _∙_, ap, subst}
 use mathlib.Core.Bool.{Bool, true, false, cond}
 use mathlib.Core.List.{List, [], _++_, append-nil}
-use borrow.Author.Tests.{le-leb, eqb-true}
+use borrow.Author.Tests.{eqb-true}
 use lib.ListN.{length, take, drop, length-drop}
 use lib.Seq.{sets, length-sets}
 use lib.Dec.{eqb}
-use Rattle.distances.proofs.Booleans.{true-both}
 use Rattle.protocol.specs.Net.{Network, Plan}
 use Rattle.protocol.specs.Calls.{refuse, accepted, step}
 use Rattle.protocol.specs.Paths as paths
@@ -29,13 +28,14 @@ use Rattle.plan.proofs.Laws.{FieldRead, field-read, field-size}
 use Rattle.plan.proofs.Reached.{Reached, read-reached}
 use Rattle.text.specs.Lines.{refusedText}
 use Rattle.text.proofs.Laws.{length-refusedText}
-use Rattle.runner.specs.Buffers.{Buffers, buffersLong, stateOn, buffersWith, progressOf}
+use Rattle.runner.specs.Buffers.{Buffers, stateOn, buffersWith, progressOf}
 use Rattle.runner.specs.Events.{textOf, stateAfter}
 use Rattle.runner.specs.Program.{reading, progressIn, PlanRead, readOn, readFrom, linesOf, lastText, carriedOut}
-use Rattle.runner.specs.Steps.{StepOutcome, lastStep, eventStep, fieldStep, readStep, runnerInRange, stepOf}
+use Rattle.runner.specs.Steps.{StepOutcome, lastStep, eventStep, fieldStep, readStep, stepOf}
 use Rattle.runner.specs.Plans.{prints}
 use Rattle.runner.specs.declared.Runner.{Runner}
 use Rattle.runner.proofs.FillTexts.{text-short, last-short, taken-text}
+use Rattle.runner.proofs.RunSteps.{step-reads}
 use Rattle.runner.proofs.EventLines.{text-is, reply-is}
 
 -- where a plan stands
@@ -63,21 +63,15 @@ module _ (r : Runner) (k : Buffers) (rest : List ℕ) (n : Network) (w : Running
         viewed = λ h. (inside .lasting .viewsLeast, inside .lasting .viewsMost);
       }
 
-  long : buffersLong k ≡ true
-  unfolding buffersLong
-  long =
-      true-both (le-leb _ _ (inside .lasting .costsLong))
-      (true-both (le-leb _ _ (inside .sentLong))
-      (true-both (le-leb _ _ (inside .heldLong)) (true-both (le-leb _ _ (inside .messagesLong)) (le-leb _ _ (w .out)))))
-
   -- the reader of the page and that of the code have come as far
   pub same-progress : progressIn (reading (r .stage) (n .plan) (r .offset)) ≡ progressOf r
   same-progress = ap (λ (p : Plan). progressIn (reading (r .stage) p (r .offset))) (w .stands .plan)
 
-  pub step-reads : stepOf r k rest ≡ readStep rest (readOf rest (progressOf r)) r k
-  unfolding stepOf runnerInRange
-  step-reads =
-      rw (le-leb (r .events) 61440 (omega (arith, w .room, w .counted)), le-leb (r .offset) 61440 (omega (arith, w .room)), long, read-reached rest (progressOf r) reached)
+  reads : stepOf r k rest ≡ readStep rest (readOf rest (progressOf r)) r k
+  reads =
+      step-reads r k rest (omega (arith, w .room, w .counted)) (omega (arith, w .room))
+      (record { costs = inside .lasting .costsLong; sent = inside .sentLong; held = inside .heldLong; messages = inside .messagesLong; out = w .out })
+      reached
 
 -- ---- what is printed from a step on
 
@@ -188,7 +182,7 @@ pub follows : (fuel : ℕ) → Follows fuel
 unfolding prints readFrom
 follows zero r k rest n w three enough = absurd (not-suc-le-zero enough)
 follows (suc fuel) r k rest n w three enough =
-    rw (step-reads r k rest n w, as-far) (go (follows fuel) (readOf rest (progressOf r)) refl)
+    rw (reads r k rest n w, as-far) (go (follows fuel) (readOf rest (progressOf r)) refl)
   where
     as-far : progressIn (reading 3 (n .plan) (r .offset)) ≡ progressOf r
     as-far = ap (λ (i : ℕ). progressIn (reading i (n .plan) (r .offset))) (sym three) ∙ same-progress r k rest n w

@@ -30,7 +30,7 @@ becomesChosen old cost far = not (old .found) && reachesDistance old cost far
 
 -- with one end more of the bridge: its link, the link's cost and the far bridge's distance in the bridge's view, whether the link is cut,
 -- whether a view is held from the neighbour, and the sent and held limits for the destination.
--- "the link is not cut, its held limit is at most Y's distance", of the chosen one;
+-- "the link is not cut; its held limit is at most Y's distance", of the chosen one;
 -- "and Y's distance is below the sent limit of every uncut link of Y"
 unfoldable pub nextChoice : Choice → ℕ → ℕ → ℕ → Bool → Bool → ℕ → ℕ → Choice
 nextChoice old link cost far cut holding sent held =

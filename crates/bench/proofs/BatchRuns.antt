@@ -4,9 +4,10 @@ use native.Mathlib.Omega.{arith}
 use mathlib.Core.Path.{_≡_, refl, sym, ap, _∙_}
 use mathlib.Core.Bool.{Bool, true, false, cond, false≢true}
 use mathlib.Core.List.{List, [], _∷_, _++_}
-use borrow.Author.Tests.{eqb-true, eqb-false, ltb-true, ltb-false, le-leb}
+use borrow.Author.Tests.{eq-eqb, eqb-true, eqb-false, ltb-true, ltb-false, le-leb}
 use lib.ListN.{length, take, length-append}
 use lib.Dec.{eqb, ltb}
+use Rattle.distances.proofs.Booleans.{true-both}
 use Rattle.agreement.specs.Record.{answerNumbers}
 use Rattle.agreement.specs.declared.Answer.{Answer}
 use Rattle.agreement.specs.declared.Answer.the-variants.{Stale, Agreed, Noted}
@@ -14,12 +15,13 @@ use Rattle.protocol.specs.Calls.{answerAt}
 use Rattle.protocol.specs.Paths.{PathResult, delivered, stops, path}
 use Rattle.bench.specs.State.{State, network}
 use Rattle.bench.specs.Standing.{stepIn}
-use Rattle.bench.specs.Contracts.{pathNumbers}
+use Rattle.bench.specs.Contracts.{leftBy, pathNumbers}
 use Rattle.bench.specs.Whole.{runIn}
 use Rattle.bench.specs.Ranges.{stateInRange}
-use Rattle.bench.specs.Batches.{callOf, replyOf, answersOf, answerSize, answerSizes, Batch, batch, eventBatch, eventBatchIn, batchFrom, batchOutcome, batchOutcomeOf, batchOf, callsOf, BatchesAreRuns}
+use Rattle.bench.specs.Batches.{callOf, replyOf, answersOf, answerSize, answerSizes, Batch, batch, eventBatch, eventBatchIn, batchFrom, batchOutcome, batchOutcomeOf, batchOf, callsOf, eachAccepted, answersBy, Ended, IsRun, BatchesAreRuns}
 use Rattle.bench.specs.declared.Event.{Event}
 use Rattle.bench.specs.declared.Event.the-variants.{Update, Send, Deliver, Repeat, Lose, Cut, Restore, Report, Path}
+use Rattle.bench.specs.declared.Disposition.{Disposition}
 use Rattle.bench.specs.declared.Disposition.the-variants.{Complete, Refused, Full}
 use Rattle.bench.proofs.RunSteps.{step-kept, left-ready}
 use Rattle.bench.proofs.ReportRows.{report-length}
@@ -118,34 +120,49 @@ module _ (room : ℕ) (s : State) (e : Event) (es : List Event) where
   unfolding batchFrom
   runs-unmade b is none = rw (is, none)
 
--- the calls of the events that were made, and their answers
+-- an event that was made, and what follows it
+module _ (room : ℕ) (s : State) (e : Event) (es : List Event) (none : replyOf s e ≡ 0) (fits : answerSize (s .bench .bridges) e ≤ room) where
+  abbrev own : List ℕ
+  own = answersOf (network s) e
+
+  abbrev then : Batch
+  then = following room s e es
+
+  abbrev whole : Batch
+  whole = batch (suc (then .made)) (then .disposition) (then .state) (own ++ then .answers)
+
+  left : leftBy s (callOf e) ≡ stepIn s (callOf e)
+  left = left-ready s (callOf e) (accepted-ready s e none)
+
+  ended-later : (d : Disposition) → Ended (room - length own) es then d → Ended room (e ∷ es) whole d
+  ended-later Complete all = ap suc all
+  ended-later (Refused k) w = w
+  ended-later Full w = (w .0, w .1, w .2, omega (arith, w .3, fits, answers-length s e, length-append own (then .answers)))
+
+  run-further : IsRun (room - length own) (stepIn s (callOf e)) es then → IsRun room s (e ∷ es) whole
+  unfolding runIn callsOf answerSizes eachAccepted answersBy
+  run-further later =
+      record {
+        accepted = true-both (eq-eqb (replyOf s e) 0 none) (ap (λ (x : State). eachAccepted x (take (then .made) es)) left ∙ later .accepted);
+        state = later .state ∙ ap (λ (x : State). runIn x (callsOf (take (then .made) es))) (sym left);
+        answers = ap (λ (l : List ℕ). own ++ l) (later .answers ∙ ap (λ (x : State). answersBy x (take (then .made) es)) (sym left));
+        sizes =
+            length-append own (then .answers)
+            ∙ omega (arith, answers-length s e, later .sizes ∙ ap (λ (n : ℕ). answerSizes n (take (then .made) es)) (step-kept s (callOf e) .bridges));
+        ended = ended-later (then .disposition) (later .ended);
+      }
+
+-- the events that were made, their calls and their answers
 pub batches-are-runs : BatchesAreRuns
-unfolding runIn callsOf answerSizes batchFrom
-batches-are-runs room s [] = (refl, refl)
+unfolding runIn callsOf answerSizes eachAccepted answersBy batchFrom
+batches-are-runs room s [] = record { accepted = refl; state = refl; answers = refl; sizes = refl; ended = refl }
 batches-are-runs room s (e ∷ es) =
     go (batches-are-runs (room - length (answersOf (network s) e)) (stepIn s (callOf e)) es) (eventBatchIn room s e) refl (first-of room s e)
   where
-    Is : Batch → Type 0
-    Is b = (b .state ≡ runIn s (callsOf (take (b .made) (e ∷ es)))) × (length (b .answers) ≡ answerSizes (s .bench .bridges) (take (b .made) (e ∷ es)))
-
-    then : Batch
-    then = following room s e es
-
-    Later : Type 0
-    Later =
-        (then .state ≡ runIn (stepIn s (callOf e)) (callsOf (take (then .made) es)))
-        × (length (then .answers) ≡ answerSizes (stepIn s (callOf e) .bench .bridges) (take (then .made) es))
-
-    go : Later → (b : Batch) → eventBatchIn room s e ≡ b → First room s e b → Is (batchFrom room s (e ∷ es))
-    go later b is (full few) = rw (runs-unmade room s e es b is refl) (refl, refl)
-    go later b is (refused some) = rw (runs-unmade room s e es b is refl) (refl, refl)
-    go later b is (made none fits) =
-        let kept = step-kept s (callOf e) in
-        rw (runs-made room s e es is) (
-          later .0 ∙ ap (λ (x : State). runIn x (callsOf (take (then .made) es))) (sym (left-ready s (callOf e) (accepted-ready s e none))),
-          length-append (answersOf (network s) e) (then .answers)
-              ∙ omega (arith, answers-length s e, later .1 ∙ ap (λ (n : ℕ). answerSizes n (take (then .made) es)) (kept .bridges)),
-        )
+    go : IsRun (room - length (answersOf (network s) e)) (stepIn s (callOf e)) es (following room s e es) → (b : Batch) → eventBatchIn room s e ≡ b → First room s e b → IsRun room s (e ∷ es) (batchFrom room s (e ∷ es))
+    go later b is (full few) = rw (runs-unmade room s e es b is refl) (record { accepted = refl; state = refl; answers = refl; sizes = refl; ended = (e, es, refl, omega (arith, few)) })
+    go later b is (refused some) = rw (runs-unmade room s e es b is refl) (record { accepted = refl; state = refl; answers = refl; sizes = refl; ended = (e, es, refl, refl, some) })
+    go later b is (made none fits) = rw (runs-made room s e es is) (run-further room s e es none fits later)
 
 -- no more numbers are answered with than there is room for
 pub answers-within : (room : ℕ) (s : State) (es : List Event) → length (batchFrom room s es .answers) ≤ room

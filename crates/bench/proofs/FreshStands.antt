@@ -23,6 +23,7 @@ use Rattle.bench.proofs.TieFresh.{FreshLimits, fresh-told, fresh-limits
 use Rattle.bench.proofs.TieRanges.{LastingOf, graph-kept, costs-kept}
 use Rattle.bench.proofs.Beside.{Agrees, agrees-messages, represents-agrees, Beside, beside-by, stood}
 use Rattle.bench.proofs.BesideCalls.{BothParts, both-same, both-twice, kept-either}
+use Rattle.bench.proofs.RunSteps.{standing-kept}
 use Rattle.bench.proofs.StandingLaws.{part-same}
 
 started-kept : (v : ViewData) (x : LimitTables) (k : ℕ) → k ≤ 2 * v .links → (let z : LimitTables = startedEnds v k x in BothParts (v .links) (v .bridges) (x .sent) (x .held) (z .sent) (z .held))
@@ -113,3 +114,13 @@ fresh-reply s least most costsLong eachView sentLong heldLong =
     go : (b : Bool) (x y : Outcome (Unit {0})) → x .reply .number ≡ 0 → y .reply .number ≡ 17 → cond (b && true) x y .reply .number ≡ cond b 0 17
     go true x y first second = first
     go false x y first second = second
+
+-- it leaves as many numbers of the messages as were lent
+pub fresh-messages : (s : State) → length (freshOf s .state .messages) ≡ length (s .messages)
+unfolding freshOf
+fresh-messages s = go (planReady s) _ _ (standing-kept (fresh (network s .plan)) (blankState s) .messages) refl
+  where
+    go : (b : Bool) (x y : Outcome (Unit {0})) → length (x .state .messages) ≡ length (s .messages) → length (y .state .messages) ≡ length (s .messages) →
+        length (cond b x y .state .messages) ≡ length (s .messages)
+    go true x y same other = same
+    go false x y same other = other

@@ -2,7 +2,7 @@
 -- views, and the lengths of what is lent. Assumes nothing.
 use Prim.Native.Nat.{_*_}
 use mathlib.Core.Path.{_≡_, refl}
-use mathlib.Core.Bool.{true}
+use mathlib.Core.Bool.{Bool, true, false, cond}
 use mathlib.Core.List.{List, [], _∷_}
 use lib.ListN.{length}
 use Rattle.distances.proofs.Booleans.{both-true, true-both}
@@ -46,6 +46,15 @@ module _ (s : State) (c : Call) where
   pub step-costs : stepIn s c .costs ≡ s .costs
   unfolding stepIn standing
   step-costs = refl
+
+  -- refused or not, a call leaves as many numbers of the messages as were lent
+  pub left-messages : length (leftBy s c .messages) ≡ length (s .messages)
+  unfolding leftBy
+  left-messages = go (readyFor s c)
+    where
+      go : (b : Bool) → length (cond b (stepIn s c) s .messages) ≡ length (s .messages)
+      go true = step-kept .messages
+      go false = refl
 
 -- in range for a delivery is in range for every call
 pub ready-for : (s : State) (c : Call) → stateInRange s ≡ true → readyFor s c ≡ true

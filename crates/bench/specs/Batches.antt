@@ -1,7 +1,7 @@
 -- A list of events as calls, made one after the other up to the first that is refused or whose answer has no room. Assumes nothing.
-use Prim.Native.Nat.{ℕ, suc, _+_, _*_, _-_}
+use Prim.Native.Nat.{ℕ, suc, _+_, _*_, _-_, _<_}
 use mathlib.Core.Path.{_≡_}
-use mathlib.Core.Bool.{cond, _&&_}
+use mathlib.Core.Bool.{Bool, true, cond, _&&_}
 use mathlib.Core.List.{List, [], _∷_, _++_}
 use lib.ListN.{length, take, drop}
 use lib.Dec.{eqb, leb, ltb}
@@ -12,7 +12,7 @@ use Rattle.protocol.specs.Paths as paths
 use Rattle.bench.specs.State.{State, network}
 use Rattle.bench.specs.Ranges.{stateInRange}
 use Rattle.bench.specs.Standing.{stepIn}
-use Rattle.bench.specs.Contracts.{refusalOf, orRefused, reportNumbers, pathNumbers}
+use Rattle.bench.specs.Contracts.{refusalOf, orRefused, leftBy, reportNumbers, pathNumbers}
 use Rattle.bench.specs.Whole.{runIn}
 use Rattle.bench.specs.declared.Event.{Event}
 use Rattle.bench.specs.declared.Event.the-variants.{Update, Send, Deliver, Repeat, Lose, Cut, Restore, Report, Path}
@@ -125,9 +125,29 @@ unfoldable pub callsOf : List Event → List Call
 callsOf [] = []
 callsOf (e ∷ es) = callOf e ∷ callsOf es
 
--- the state after a list is that after the calls of the events that were made, in that order: what is said of lists of calls is said of it
+-- each of them is accepted, and their answers, where they are made one after the other
+unfoldable pub eachAccepted : State → List Event → Bool
+eachAccepted s [] = true
+eachAccepted s (e ∷ es) = eqb (replyOf s e) 0 && eachAccepted (leftBy s (callOf e)) es
+
+unfoldable pub answersBy : State → List Event → List ℕ
+answersBy s [] = []
+answersBy s (e ∷ es) = answersOf (network s) e ++ answersBy (leftBy s (callOf e)) es
+
+-- why a list ends where it does: there are no more events; the next is refused, and by which number; its answer has no room
+abbrev pub Ended : ℕ → List Event → Batch → Disposition → Type 0
+Ended room es b Complete = b .made ≡ length es
+Ended room es b (Refused k) = (e : Event) × (more : List Event) × (drop (b .made) es ≡ e ∷ more) × (replyOf (b .state) e ≡ k) × (k ≡ 0 → ⊥)
+Ended room es b Full = (e : Event) × (more : List Event) × (drop (b .made) es ≡ e ∷ more) × (room < length (b .answers) + answerSize (b .state .bench .bridges) e)
+
+-- what becomes of a list: the events that it makes are accepted, its state is that after their calls, in that order (so what is said of lists
+-- of calls is said of it), its answers are theirs, and it ends for a reason
+pub record IsRun (room : ℕ) (s : State) (es : List Event) (b : Batch) : Type 0 where
+  pub accepted : eachAccepted s (take (b .made) es) ≡ true
+  pub state : b .state ≡ runIn s (callsOf (take (b .made) es))
+  pub answers : b .answers ≡ answersBy s (take (b .made) es)
+  pub sizes : length (b .answers) ≡ answerSizes (s .bench .bridges) (take (b .made) es)
+  pub ended : Ended room es b (b .disposition)
+
 abbrev pub BatchesAreRuns : Type 0
-BatchesAreRuns =
-    (room : ℕ) (s : State) (es : List Event) →
-    let b : Batch = batchFrom room s es in
-    (b .state ≡ runIn s (callsOf (take (b .made) es))) × (length (b .answers) ≡ answerSizes (s .bench .bridges) (take (b .made) es))
+BatchesAreRuns = (room : ℕ) (s : State) (es : List Event) → IsRun room s es (batchFrom room s es)

@@ -17,13 +17,14 @@ use Rattle.bench.proofs.StateTells.{states-tell}
 use Rattle.bench.proofs.TieWhole.{whole-lists}
 use Rattle.bench.proofs.BatchRuns.{batches-are-runs}
 use Rattle.messages.proofs.SliceWhole.{whole-slices}
+use Rattle.messages.proofs.SliceLeads.{slices-lead}
 use Rattle.text.proofs.Laws.{decimal-tells}
 use Rattle.runner.proofs.ReadLaws.{reading-ends}
 use Rattle.runner.proofs.FillLaws.{fill-prints}
 use Rattle.runner.proofs.RunWhole.{plan-filled, every-line}
 use Rattle.claims.specs.Claims.{Claims}
 use Rattle.claims.specs.Worked.{WorkedCases, ClaimsApply}
-use Rattle.claims.proofs.WorkedEnds.{worked-ends, worked-examples}
+use Rattle.claims.proofs.WorkedEnds.{worked-ends}
 use Rattle.claims.proofs.WorkedCalls.{worked-calls}
 use Rattle.claims.proofs.WorkedProgram.{worked-program}
 
@@ -53,13 +54,20 @@ claims =
       lines = every-line;
       decimal = decimal-tells;
       settlingMet = settling-can-be-met;
-      distancesApply = distances-apply;
-      demandsApply = demands-apply;
+      slicesLead = slices-lead;
     }
 
 -- and each of them tells what it should of the worked cases
 claims-apply : ClaimsApply
-claims-apply c = record { ends = worked-ends c; examples = worked-examples c; calls = worked-calls c; program = worked-program c }
+claims-apply c =
+    record {
+      distances = distances-apply (c .distances);
+      demand2 = demands-apply .demand2 (c .demand2);
+      demand3 = demands-apply .demand3 (c .demand3);
+      ends = worked-ends c;
+      calls = worked-calls c;
+      program = worked-program c;
+    }
 
 pub worked-cases : WorkedCases
 worked-cases = claims-apply claims

@@ -1,38 +1,49 @@
--- What the claims of layer 3 tell of the triangle in a caller's numbers: each is applied, and only numbers are computed. Assumes nothing.
+-- What the claims of layer 3 tell of document 01's examples in a caller's numbers: each is applied, and only numbers are computed.
+-- Assumes nothing.
 use Prim.Native.Nat.{ℕ, _<_, _≤_}
 use native.Mathlib.Omega.{arith}
 use mathlib.Core.Path.{_≡_, refl, sym, ap, _∙_}
-use mathlib.Core.Bool.{Bool, true}
+use mathlib.Core.Bool.{Bool, true, false, cond}
 use mathlib.Core.List.{List, [], _∷_}
-use lib.ListN.{length, take, length-replicate}
+use lib.ListN.{length, take, replicate, length-replicate}
+use Rattle.distances.specs.View.{NONE}
 use Rattle.distances.specs.Call.{linkPasses, linkInRange, graphPasses, costsPass}
 use Rattle.distances.specs.Table.{rewrittenFrom, rewritten}
 use Rattle.agreement.specs.Call.{says}
+use Rattle.agreement.specs.Offer.{opposite}
 use Rattle.agreement.specs.Ranges.{recordInRange, recordsInRange}
-use Rattle.agreement.specs.declared.Port.the-variants.{Closed, Open}
-use Rattle.protocol.specs.Net.{fresh}
+use Rattle.agreement.specs.declared.Answer.the-variants.{Stale}
+use Rattle.agreement.specs.declared.Port.the-variants.{Open}
+use Rattle.encoding.specs.Numbers.{linkNumber}
+use Rattle.protocol.specs.Net.{Network, Plan, offerIn, fresh}
 use Rattle.protocol.specs.Calls as calls
-use Rattle.protocol.specs.Calls.{Call, change, cut, refuse, run}
-use Rattle.protocol.specs.Ports.{forwardingPort}
+use Rattle.protocol.specs.Calls.{Call, change, cut, refuse, run, answerAt}
+use Rattle.protocol.specs.Ports.{ownDistance, forwardingPort}
 use Rattle.protocol.specs.Paths.{delivered, path}
-use Rattle.protocol.specs.Examples.{callsE3}
+use Rattle.protocol.specs.LimitViews.{viewsRun, freshViews, leastOver, offerHeld}
+use Rattle.protocol.specs.Examples.{callsE3, callsE4, callsE6, callsE7}
 use Rattle.protocol.proofs.Example.{computing}
-use Rattle.bench.specs.State.{State, network, messagesFrom}
+use Rattle.bench.specs.State.{network, messagesFrom}
 use Rattle.bench.specs.Ranges.{graphInRange, benchInRange, costsInRange, limitsLong, messagePasses, messagesInRange, partsInRange, networkInRange}
 use Rattle.bench.specs.Standing.{withFirst, withRows, numberIn, standingBench, standing, stepIn}
-use Rattle.bench.specs.Contracts.{readyFor, refusalOf, outcome, leftBy, freshOf}
+use Rattle.bench.specs.Contracts.{readyFor, refusalOf, outcome, reportNumbers, freshOf}
+use Rattle.bench.specs.Demand2.{Tells}
 use Rattle.bench.specs.Whole.{runIn, Meets}
-use Rattle.bench.specs.Batches.{replyOf, answersOf, answerSize, eventBatch, eventBatchIn, batchFrom, callsOf}
-use Rattle.bench.specs.declared.Event.the-variants.{Cut}
+use Rattle.bench.specs.Batches.{replyOf, answersOf, answerSize, eventBatch, eventBatchIn, batchFrom, callsOf, answersBy}
 use Rattle.messages.specs.SliceLists.{Kept, numbered, Lead, Starts}
-use Rattle.messages.specs.declared.Message.{Message}
 use Rattle.claims.specs.Claims.{Claims}
-use Rattle.claims.specs.Worked.{lentState, started, lentSlice, WorkedCalls}
+use Rattle.claims.specs.WorkedCalls.{lentState, started, left, leftover, lentSlice, events, WorkedCalls}
 
 -- all that computes below
 unfoldable all : Bool
-unfolding computing freshOf graphInRange costsInRange limitsLong linkPasses linkInRange graphPasses costsPass rewrittenFrom rewritten recordInRange recordsInRange benchInRange partsInRange withFirst withRows standingBench standing messagePasses messagesInRange numberIn stepIn messagesFrom refusalOf replyOf answersOf answerSize eventBatch eventBatchIn batchFrom
+unfolding computing freshOf graphInRange costsInRange limitsLong linkPasses linkInRange graphPasses costsPass rewrittenFrom rewritten recordInRange recordsInRange benchInRange partsInRange messagePasses messagesInRange withFirst withRows numberIn standingBench standing stepIn messagesFrom refusalOf replyOf reportNumbers answersOf answerSize eventBatch eventBatchIn batchFrom
 all = true
+
+-- ---- the calls one after the other
+
+-- the network that they make of the fresh one
+abbrev made : List Call → Network
+made cs = run (fresh (network lentState .plan)) cs
 
 accepted : freshOf lentState .reply ≡ says tt
 unfolding all
@@ -41,98 +52,136 @@ accepted = refl
 room : 320 ≤ length (lentState .messages)
 room = omega (arith, length-replicate {A = ℕ} 320 6)
 
-after-e3 : Claims → Meets (runIn started callsE3) (network lentState .plan) callsE3
-after-e3 claims = claims .lists lentState accepted room callsE3
+-- a state that is out of range would refuse with 17
+ready-told : (ready : Bool) (n : Network) (c : Call) → refusalOf ready n c ≡ 0 → ready ≡ true
+unfolding refusalOf computing
+ready-told true n c e = refl
+ready-told false n c e = absurd (omega (arith, e))
 
--- E3, in the network that the calls make of the fresh one
-e3-port : forwardingPort (run (fresh (network lentState .plan)) callsE3) 2 0 ≡ Open 1
+module _ (claims : Claims) where
+  meets : (cs : List Call) → Meets (left cs) (network lentState .plan) cs
+  meets cs = claims .lists lentState accepted room cs
+
+  -- there are three bridges
+  three : (cs : List Call) → made cs .plan .graph .bridges ≡ 3 → left cs .bench .bridges ≡ 3
+  three cs same = ap (λ (p : Plan). p .graph .bridges) (meets cs .stands .plan) ∙ same
+
+  tells : (cs : List Call) → refuse (made cs) (calls.port 2 0) ≡ 0 → Tells (left cs)
+  unfolding readyFor
+  tells cs none =
+      claims .states (left cs)
+      (ready-told (networkInRange (left cs)) (network (left cs)) (calls.port 2 0) (meets cs .replies .refusals (calls.port 2 0) ∙ none))
+
+-- ---- what the examples are in the network of the calls
+
+record Facts : Type 0 where
+  bridges : (made callsE3 .plan .graph .bridges ≡ 3) × (made callsE4 .plan .graph .bridges ≡ 3)
+  none : refuse (made callsE3) (calls.port 2 0) ≡ 0
+  port : forwardingPort (made callsE3) 2 0 ≡ Open 1
+  path : path (made callsE3) 2 0 ≡ delivered 2
+  distance : (ownDistance (made callsE3) 2 0 ≡ 2) × (ownDistance (made callsE4) 1 0 ≡ 4)
+  accepted : refuse (made callsE7) (calls.deliver 0) ≡ 0
+  stale : answerAt (made callsE7) 0 ≡ Stale
+  inFlight : 0 < length (made callsE7 .messages)
+  missing : refuse (made []) (change (cut 9)) ≡ 10
+
+facts : Facts
 unfolding all
-e3-port = refl
-
-e3-path : path (run (fresh (network lentState .plan)) callsE3) 2 0 ≡ delivered 2
-unfolding all
-e3-path = refl
-
-low : (b : ℕ) → b < 3 → b < run (fresh (network lentState .plan)) callsE3 .plan .graph .bridges
-unfolding all
-low b h = h
-
--- what `fresh` left is in range
-in-range : networkInRange started ≡ true
-unfolding all
-in-range = refl
-
--- of two cuts of link 0 one is made
-one-made : batchFrom 0 started (Cut 0 ∷ Cut 0 ∷ []) .made ≡ 1
-unfolding all
-one-made = refl
-
-batch-state : Claims → batchFrom 0 started (Cut 0 ∷ Cut 0 ∷ []) .state ≡ runIn started (change (cut 0) ∷ [])
-unfolding callsOf
-batch-state claims =
-    claims .batches 0 started (Cut 0 ∷ Cut 0 ∷ []) .0
-    ∙ ap (λ (k : ℕ). runIn started (callsOf (take k (Cut 0 ∷ Cut 0 ∷ [])))) one-made
-
--- a cut of a link that is not there
-module _ (s : State) (cs : List Call) (m : Meets s (network lentState .plan) cs) where
-  none-there : refuse (run (fresh (network lentState .plan)) cs) (change (cut 9)) ≡ 10 → refusalOf (readyFor s (change (cut 9))) (network s) (change (cut 9)) ≡ 0 → ⊥
-  none-there ten e = omega (arith, sym ten ∙ sym (m .replies .refusals (change (cut 9))) ∙ e)
-
-ten : refuse (run (fresh (network lentState .plan)) []) (change (cut 9)) ≡ 10
-unfolding all
-ten = refl
-
--- over a slice
-module _ (claims : Claims) (ms : List Message) (first : Kept) (full : length ms ≡ 64) (is : numbered first ≡ freshOf (numbered (lentSlice ms)) .state) where
-  abbrev unmade : Call
-  unmade = change (cut 9)
-
-  starts : Starts (lentSlice ms) first
-  unfolding all
-  starts = record { accepted = refl; room = omega (arith, full); numbers = is }
-
-  stayed : leftBy (numbered first) unmade ≡ numbered first
-  unfolding Lead
-  stayed = claims .refused (numbered first) unmade (none-there (numbered first) [] (claims .slices (lentSlice ms) first first [] starts refl) ten)
-
-  meets : Meets (numbered first) (network lentState .plan) (unmade ∷ [])
-  unfolding Lead
-  meets =
-      claims .slices (lentSlice ms) first first (unmade ∷ []) starts
-      (record { left = first; leads = record { numbers = sym stayed; rest = refl }; later = refl })
-
-  closed : forwardingPort (run (fresh (network lentState .plan)) (unmade ∷ [])) 2 0 ≡ Closed
-  unfolding all
-  closed = refl
-
-  low-slice : (b : ℕ) → b < 3 → b < run (fresh (network lentState .plan)) (unmade ∷ []) .plan .graph .bridges
-  unfolding all
-  low-slice b h = h
-
-  slice-closed : forwardingPort (network (numbered first)) 2 0 ≡ Closed
-  slice-closed = meets .replies .ports 2 0 (low-slice 2 (omega arith)) (low-slice 0 (omega arith)) ∙ closed
-
-fresh-port : forwardingPort (network started) 2 0 ≡ Closed
-unfolding all
-fresh-port = refl
-
-listed : (b : ℕ) → b < 3 → b < started .bench .bridges
-unfolding all
-listed b h = h
-
-at-first : Claims → Meets started (network lentState .plan) []
-unfolding runIn
-at-first claims = claims .lists lentState accepted room []
-
-pub worked-calls : Claims → WorkedCalls
-worked-calls claims =
-    let e3 = after-e3 claims .replies in
+facts =
     record {
-      port = e3 .ports 2 0 (low 2 (omega arith)) (low 0 (omega arith)) ∙ e3-port;
-      path = e3 .paths 2 0 (low 2 (omega arith)) (low 0 (omega arith)) ∙ e3-path;
-      states = claims .states started in-range .ports 2 0 (listed 2 (omega arith)) (listed 0 (omega arith)) ∙ ap (λ p. outcome (says p) started) fresh-port;
-      refused = claims .refused started (change (cut 9)) (none-there started [] (at-first claims) ten);
-      asking = claims .asking started 2 0 .0;
-      batches = batch-state claims;
-      slices = slice-closed claims;
+      bridges = (refl, refl);
+      none = refl;
+      port = refl;
+      path = refl;
+      distance = (refl, refl);
+      accepted = refl;
+      stale = refl;
+      inFlight = omega arith;
+      missing = refl;
     }
+
+limits-at-e6 :
+    (let p = network lentState .plan in
+    let views = viewsRun (fresh p) 2 freshViews callsE6 in
+    (leastOver (λ t. offerIn p t 2 0) (views .since) ≡ 2) × (offerHeld (λ t. offerIn p t (opposite 2) 0) (views .held) ≡ 4))
+unfolding all
+limits-at-e6 = (refl, refl)
+
+-- a limit that is not NONE is held
+held-told : (b : Bool) (x : ℕ) → cond b x NONE ≡ 4 → x ≡ 4
+held-told true x e = e
+held-told false x e = absurd (omega (arith, e))
+
+low : {n : ℕ} → n ≡ 3 → (b : ℕ) → b < 3 → b < n
+low same b h = omega (arith, same, h)
+
+-- ---- a list of events
+
+two-made : batchFrom 6 started events .made ≡ 2
+unfolding all
+two-made = refl
+
+report-answers : answersBy started (take 2 events) ≡ 0 ∷ NONE ∷ 1 ∷ NONE ∷ 2 ∷ NONE ∷ []
+unfolding all answersBy
+report-answers = refl
+
+two-calls : callsOf (take 2 events) ≡ calls.report 0 ∷ change (cut 0) ∷ []
+unfolding callsOf
+two-calls = refl
+
+-- ---- over a slice
+
+slice-accepted : freshOf (numbered lentSlice) .reply ≡ says tt
+unfolding all
+slice-accepted = refl
+
+slice-port : Claims → (first t : Kept) × Starts lentSlice first × Lead first callsE3 t × (forwardingPort (network (numbered t)) 2 0 ≡ Open 1)
+slice-port claims =
+    let begun = claims .slicesLead .begin lentSlice (omega (arith, length-replicate 64 leftover)) slice-accepted in
+    let led = claims .slicesLead .go (begun .0) (begun .1) callsE3 in
+    let m : Meets (numbered (led .0)) (network lentState .plan) callsE3 = claims .slices lentSlice (begun .0) (led .0) callsE3 (begun .2) (led .1) in
+    let bridge = low (facts .bridges .0) in
+    (begun .0, led .0, begun .2, led .1, m .replies .ports 2 0 (bridge 2 (omega arith)) (bridge 0 (omega arith)) ∙ facts .port)
+
+-- ---- all of it
+
+module _ (claims : Claims) where
+  at-first : Meets started (network lentState .plan) []
+  unfolding runIn
+  at-first = meets claims []
+
+  none-cut : refusalOf (readyFor started (change (cut 9))) (network started) (change (cut 9)) ≡ 0 → ⊥
+  none-cut e = omega (arith, sym (facts .missing) ∙ sym (at-first .replies .refusals (change (cut 9))) ∙ e)
+
+  pub worked-calls : WorkedCalls
+  worked-calls =
+      let m = meets claims callsE3 .replies in
+      let t = tells claims callsE3 (facts .none) in
+      let bridge = low (facts .bridges .0) in
+      let there = low (three claims callsE3 (facts .bridges .0)) in
+      let two = bridge 2 (omega arith) in
+      let zero = bridge 0 (omega arith) in
+      let rows = t .reports 0 (replicate 32 5) (there 0 (omega arith)) (omega (arith, length-replicate {A = ℕ} 32 5)) .1 in
+      let limits = meets claims callsE6 .limits 2 0 (omega arith) (omega arith) in
+      record {
+        port = t .ports 2 0 (there 2 (omega arith)) (there 0 (omega arith)) ∙ ap (λ p. outcome (says p) (left callsE3)) (m .ports 2 0 two zero ∙ facts .port);
+        path = t .paths 2 0 (there 2 (omega arith)) (there 0 (omega arith)) ∙ ap (λ w. outcome (says w) (left callsE3)) (m .paths 2 0 two zero ∙ facts .path);
+        report = (
+          rows .distances 2 (there 2 (omega arith)) ∙ m .distances 2 0 two zero ∙ facts .distance .0,
+          rows .ports 2 (there 2 (omega arith)) ∙ ap linkNumber (m .ports 2 0 two zero ∙ facts .port),
+        );
+        distance =
+            meets claims callsE4 .replies .distances 1 0 (low (facts .bridges .1) 1 (omega arith)) (low (facts .bridges .1) 0 (omega arith)) ∙ facts .distance .1;
+        sent = limits .sent ∙ limits-at-e6 .0;
+        held = held-told (network (left callsE6) .records .ends 2 .holding) _ (limits .held ∙ limits-at-e6 .1);
+        accepted = meets claims callsE7 .replies .refusals (calls.deliver 0) ∙ facts .accepted;
+        stale = meets claims callsE7 .replies .deliveries 0 (facts .inFlight) ∙ facts .stale;
+        refused = claims .refused started (change (cut 9)) none-cut;
+        asking = (claims .asking started 2 0 .0, claims .asking started 2 0 .1, claims .asking started 2 0 .2);
+        batch =
+            claims .batches 6 started events .state
+            ∙ ap (λ (k : ℕ). runIn started (callsOf (take k events))) two-made
+            ∙ ap (runIn started) two-calls;
+        answers = claims .batches 6 started events .answers ∙ ap (λ (k : ℕ). answersBy started (take k events)) two-made ∙ report-answers;
+        slices = slice-port claims;
+      }

@@ -1,26 +1,29 @@
 -- What the claims of layers 1 and 2 tell of the triangle: each is applied, and only numbers are computed. Assumes nothing.
 use Prim.Native.Nat.{ℕ, _<_}
 use native.Mathlib.Omega.{arith}
-use mathlib.Core.Path.{_≡_, refl, sym}
+use mathlib.Core.Path.{_≡_, refl, sym, ap}
 use mathlib.Core.Bool.{Bool, true}
 use mathlib.Core.List.{List·Memᴰ·head as head, List·Memᴰ·tail as tail}
 use Rattle.distances.specs.View.{costsOf}
 use Rattle.distances.specs.Distance.{dist}
-use Rattle.distances.specs.Table.{cell, rewrittenFrom, rewritten, isPair, withPairs}
+use Rattle.distances.specs.Table.{cell, rewrittenFrom, rewritten, isInRow, isPair, withPairs}
 use Rattle.distances.specs.Call.{linkPasses, linkInRange, graphPasses, costsPass, inRange, distancesOf}
 use Rattle.distances.specs.Examples.{triangle, view0, view1}
 use Rattle.distances.proofs.Known.{below-three, triangle-in-range, view1-in-range}
-use Rattle.agreement.specs.Call.{lentGraph, lentInRange, HoldsDistances}
-use Rattle.agreement.specs.Ranges.{endInRange}
+use Rattle.agreement.specs.Call.{Response, Outcome, lentGraph, lentInRange, HoldsDistances, lentOffer, updateOutcome, deliverOutcome}
+use Rattle.agreement.specs.Limits.{withLimits}
+use Rattle.agreement.specs.Ranges.{isView, recordInRange, endInRange, deliveryInRange}
+use Rattle.agreement.specs.Record.{freshRecord}
+use Rattle.agreement.specs.declared.Answer.{Answer}
 use Rattle.protocol.specs.Examples.{after, callsE3}
 use Rattle.protocol.specs.Ports.{hop}
 use Rattle.protocol.proofs.Example.{computing}
 use Rattle.claims.specs.Claims.{Claims}
-use Rattle.claims.specs.Worked.{lent, WorkedEnds, WorkedExamples}
+use Rattle.claims.specs.WorkedEnds.{lent, limits, message, WorkedEnds}
 
 -- all that computes below
 unfoldable all : Bool
-unfolding computing rewrittenFrom rewritten isPair withPairs linkPasses linkInRange graphPasses costsPass inRange distancesOf cell endInRange
+unfolding computing rewrittenFrom rewritten isPair withPairs linkPasses linkInRange graphPasses costsPass inRange distancesOf cell isInRow lentOffer updateOutcome deliverOutcome withLimits isView recordInRange endInRange deliveryInRange
 all = true
 
 lent-ready : lentInRange lent ≡ true
@@ -46,13 +49,9 @@ worked-ends claims =
       rule = claims .rule triangle (triangle-in-range .differ) view0 (dist triangle view0) (after callsE3 .records) 2 0 .0 1 refl;
       choice = claims .choice triangle view0 (dist triangle view0) (after callsE3 .records) 2 0;
       lentOffers = claims .lentOffers lent lent-ready holds 3 0 (omega arith) (omega arith);
-      plainEnds = claims .plainEnds .update lent 2 1 3 _ _ _ refl;
-    }
-
-pub worked-examples : Claims → WorkedExamples
-unfolding all
-worked-examples claims =
-    record {
+      plainUpdate = ap (λ (o : Outcome ℕ). cell (o .sent) 3 0) (sym (claims .plainEnds .update lent 2 1 3 freshRecord limits limits refl));
+      plainDelivery =
+          ap (λ (o : Outcome (Response Answer)). cell (o .held) 2 0) (sym (claims .plainEnds .deliver lent 2 1 1 2 freshRecord message limits limits refl));
       hops = sym (claims .hops (hop (after callsE3) 0) 0 2 2);
       e8 = claims .examples _ (tail (tail (tail (tail (tail (tail (tail (tail (head refl)))))))));
     }

@@ -1,7 +1,6 @@
 -- Every claim of the repository beyond the functions' contracts, one field each; `claims` (proofs/Proved.antt) is a value of this record, so that
 -- a claim without a proof fails the check. What they come to in worked cases: specs/Worked.antt. Assumes nothing.
 use Rattle.distances.specs.Theorem.{DistIsDistance, NothingElseIs, GreatestDistance}
-use Rattle.distances.specs.Examples.{DistancesApply}
 use Rattle.agreement.specs.Rule.{PortFollowsRule}
 use Rattle.agreement.specs.Choice.{ChoiceIsPort}
 use Rattle.agreement.specs.Call.{LentOffersAreOffers}
@@ -11,12 +10,11 @@ use Rattle.protocol.specs.Demand3.{Demand3}
 use Rattle.protocol.specs.Paths.{HopsAreLinks}
 use Rattle.protocol.specs.Examples.{ExamplesHold}
 use Rattle.protocol.specs.SettlingMet.{SettlingCanBeMet}
-use Rattle.protocol.specs.Applied.{DemandsApply}
 use Rattle.bench.specs.Contracts.{RefusedChangesNothing, AskingChangesNothing}
 use Rattle.bench.specs.Demand2.{StatesTell}
 use Rattle.bench.specs.Whole.{WholeLists}
 use Rattle.bench.specs.Batches.{BatchesAreRuns}
-use Rattle.messages.specs.SliceLists.{WholeSlices}
+use Rattle.messages.specs.SliceLists.{WholeSlices, SlicesLead}
 use Rattle.text.specs.Decimal.{DecimalTells}
 use Rattle.runner.specs.Fills.{FillPrints}
 use Rattle.runner.specs.Whole.{ReadingEnds, PlanFilled, EveryLine}
@@ -43,13 +41,13 @@ pub record Claims : Type 0 where
   pub lists : WholeLists
   pub batches : BatchesAreRuns
   pub slices : WholeSlices
-  -- the program: a plan is read to its end, what is filled is the page's output, and demand 3 is about each line of it; numbers in decimal
+  -- the program: a plan is read to its end, what is filled from it is `output` (runner/specs/Program.antt), demands 2 and 3 are about each line of
+  -- that, and numbers are in decimal
   pub reading : ReadingEnds
   pub fills : FillPrints
   pub filled : PlanFilled
   pub lines : EveryLine
   pub decimal : DecimalTells
-  -- the premises of the settling statement can be met, and what layer 1's claim and demands 2 and 3 tell of the triangle of the examples
+  -- premises that can be met: those of the settling statement, and those of lists of calls over a slice
   pub settlingMet : SettlingCanBeMet
-  pub distancesApply : DistancesApply
-  pub demandsApply : DemandsApply
+  pub slicesLead : SlicesLead

@@ -20,3 +20,4 @@ pub mod PlainCalls
 pub mod SliceForms
 pub mod SliceWhole
 pub mod Told
+pub mod SliceLeads

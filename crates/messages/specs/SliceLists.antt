@@ -55,3 +55,8 @@ pub record Starts (first s : Kept) : Type 0 where
 -- demand 3, of the network that stands in what is kept at the end
 abbrev pub WholeSlices : Type 0
 WholeSlices = (first s t : Kept) (cs : List Call) → Starts first s → Lead s cs t → Meets (numbered t) (network (numbered first) .plan) cs
+
+-- whoever lends 64 messages or more can begin so, and every list of calls leads somewhere
+pub record SlicesLead : Type 0 where
+  pub begin : (first : Kept) → mostMessages ≤ length (first .messages) → freshOf (numbered first) .reply ≡ says tt → (s : Kept) × (mostMessages ≤ length (s .messages)) × Starts first s
+  pub go : (s : Kept) → mostMessages ≤ length (s .messages) → (cs : List Call) → (t : Kept) × Lead s cs t

@@ -8,14 +8,14 @@ use Rattle.play.specs.declared.Input.{Input}
 use Rattle.play.specs.declared.Reply.{Reply}
 use Rattle.runner.specs.Sizes.{longestPlan}
 
--- of a text: all of it was handed on; or a write failed after a proper beginning
+-- of a text: as many bytes were counted as it has; or a write failed after fewer
 abbrev pub Handed : Reply → List ℕ → Type 0
 Handed (Reply.Printed n) text = n ≡ length text
 Handed (Reply.Stopped n) text = n < length text
 Handed Reply.Unread text = ⊥
 
--- of a descriptor, of which these bytes were read: it could not be read on; or so of the output of a plan that begins with them, at most one
--- byte longer than a plan may be. Of the bytes behind them no contract can say that they are those that were read
+-- of a descriptor, of which these bytes were read: it could not be read on; or the count is that of the output of a plan which begins with
+-- them and is at most one byte longer than a plan may be. Of the bytes behind them no contract can say that they are those that were read
 pub data Played (begun : List ℕ) : Reply → Type 0 where
   unread : Played begun Reply.Unread
   read : {r : Reply} (more : List ℕ) → length (begun ++ more) ≤ suc longestPlan → Handed r (output (begun ++ more)) → Played begun r
@@ -25,6 +25,6 @@ abbrev pub ReadBehind : ℕ → Input → List ℕ → List ℕ → Type 0
 ReadBehind from (Input.Read end) before after = (from ≤ end) × (end ≤ length after) × (take from after ≡ take from before)
 ReadBehind from Input.Failed before after = Unit {0}
 
--- these bytes come next in a plan's output, behind the first `from` of it
-abbrev pub IsNext : List ℕ → ℕ → List ℕ → Type 0
-IsNext plan from bytes = take (length bytes) (drop from (output plan)) ≡ bytes
+-- these bytes stand in a plan's output, behind the first `from` of it
+abbrev pub StandsAt : List ℕ → ℕ → List ℕ → Type 0
+StandsAt plan from bytes = take (length bytes) (drop from (output plan)) ≡ bytes

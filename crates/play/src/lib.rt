@@ -12,7 +12,7 @@ ghost use mathlib.Core.Bool.{false};
 ghost use mathlib.Core.List.{[]};
 ghost use Prim.Native.Nat.{suc, _≤_, _<_};
 ghost use lib.ListN.{length};
-ghost use Rattle.play.specs.Output.{Handed, Played, ReadBehind, IsNext};
+ghost use Rattle.play.specs.Output.{Handed, Played, ReadBehind, StandsAt};
 ghost use Rattle.runner.specs.Plans.{firstRunner, firstBuffers, prints};
 ghost use Rattle.runner.specs.Program.{output};
 ghost use Rattle.text.specs.Lines.{refusedText};
@@ -176,10 +176,10 @@ fn run_plan(plan: &[u8]) -> Reply
     Reply::Printed(printed)
 }
 
-// Writes the bytes that come next in a plan's output, behind the first `from`, to standard output; false where that failed. Without a byte to
+// Writes bytes that stand in a plan's output, behind the first `from`, to standard output; false where that failed. Without a byte to
 // write nothing fails. The plan is handed over for the contract; nothing else here writes.
 fn hand_on(plan: &[u8], from: usize, bytes: &[u8]) -> bool
-    requires { ⌜ IsNext (now plan) from (now bytes) ⌝ }
+    requires { ⌜ StandsAt (now plan) from (now bytes) ⌝ }
     ensures { λ r. ⌜ (r ≡ false → 0 < length (now (bytes .entry))) ⌝ }
 {
     if bytes.len() == 0 {

@@ -2,12 +2,12 @@
 use Prim.Native.Nat.{ℕ}
 use native.Mathlib.Omega.{arith}
 use mathlib.Core.Path.{_≡_, refl, sym}
-use mathlib.Core.Logic.{inl, inr}
+use mathlib.Core.Logic.{_⊎_, inl, inr}
 use mathlib.Core.List.{List, []}
 use Rattle.distances.specs.View.{NONE}
 use Rattle.distances.specs.Meaning.{IsLeast, IsDistance}
 use Rattle.distances.specs.Examples.{triangle, view1}
-use Rattle.protocol.specs.Ports.{Trail.stay, Trail.cross}
+use Rattle.protocol.specs.Ports.{stays, hop, Trail.stay, Trail.cross}
 use Rattle.protocol.specs.Demand2.{ByTheRule, Demand2}
 use Rattle.protocol.specs.Demand3.{Demand3}
 use Rattle.protocol.specs.Calls.{Call}
@@ -28,6 +28,7 @@ rule-applies claim =
     let four = reached (at callsE4 .distance 1 0 (omega arith)) (λ e. omega arith) in
     let three = reached (at callsE4 .others 1 2 0 (omega arith)) (λ e. omega arith) in
     let by = at callsE3 .forwards 2 0 1 refl in
+    let stop = at callsE4 .paths 2 0 in
     record {
       attained = four .attained;
       least = four .least;
@@ -35,10 +36,15 @@ rule-applies claim =
       forwards = by;
       opens = at callsE3 .opens 2 0 1 (by .0) (by .1);
       closed = at [] .closed 2 0 (λ l e w. omega (arith, w .allowed .held));
-      stops = at callsE4 .paths 2 0;
+      arrives = at callsE3 .paths 2 0;
+      stops = (stop .0, over (stop .2));
       sent = sym (claim .limits plan callsE6 2 0 .sent);
       held = sym (claim .limits plan callsE6 2 0 .held);
     }
+  where
+    over : (hop (after callsE4) 0 1 ≡ stays) ⊎ (_≡_ {A = ℕ} 1 2) → hop (after callsE4) 0 1 ≡ stays
+    over (inl here) = here
+    over (inr two) = absurd (omega arith)
 
 lists-apply : Demand3 → ListsAtExamples
 unfolding computing

@@ -1,8 +1,7 @@
--- Demands 2 and 3 applied to the triangle of document 01's examples: a premise that nobody can meet, or a conclusion that says nothing, would
--- not give these. Assumes nothing.
+-- Demands 2 and 3 applied to the triangle of document 01's examples. The proofs of these statements go by the demands, so that a premise which
+-- nobody can meet, or a conclusion that says nothing, breaks them. Assumes nothing.
 use Prim.Native.Nat.{ℕ, _≤_}
 use mathlib.Core.Path.{_≡_}
-use mathlib.Core.Logic.{_⊎_}
 use mathlib.Core.List.{List, [], _++_}
 use lib.ListN.{length}
 use Rattle.distances.specs.Meaning.{IsPath, total}
@@ -30,8 +29,9 @@ pub record RuleAtExamples : Type 0 where
   pub opens : forwardingPort (after callsE3) 2 0 ≡ Open 1
   -- E2: fresh, bridge 2 forwards on no link, and so its port is closed
   pub closed : forwardingPort (after []) 2 0 ≡ Closed
-  -- E4: the path from 2 crosses one link, to bridge 1, which is not bridge 0 and from which no frame crosses a link
-  pub stops : Trail (after callsE4) 0 2 1 1 × (_≡_ {A = ℕ} 1 0 → ⊥) × ((hop (after callsE4) 0 1 ≡ stays) ⊎ (_≡_ {A = ℕ} 1 2))
+  -- E3: the path from 2 goes to bridge 0 by two hops; E4: by one hop to bridge 1, from which no frame crosses a link
+  pub arrives : Trail (after callsE3) 0 2 2 0
+  pub stops : Trail (after callsE4) 0 2 1 1 × (hop (after callsE4) 0 1 ≡ stays)
   -- E6: bridge 1's sent limit on link 1 is 2, the least of its offers over the views since the last clearing; it holds 4, the far bridge's offer
   -- in the view held
   pub sent : leastOver (λ t. offerIn plan t 2 0) (viewsRun (fresh plan) 2 freshViews callsE6 .since) ≡ 2

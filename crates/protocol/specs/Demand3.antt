@@ -38,7 +38,10 @@ pub record Holds (p : Plan) (cs : List Call) : Type 0 where
   -- its hop count is the number of links crossed
   pub pathCounted : (s d : ℕ) → hops (path (run (fresh p) cs) s d) ≡ length (linksCrossed (run (fresh p) cs) s d)
   -- settling: from any point of the list, the start included
-  pub settles : (ks xs ys : List Call) (t : ℕ) → cs ≡ ks ++ (xs ++ ys) → Settling (run (fresh p) ks) t xs ys → (y d : ℕ) → (y ≡ d → ⊥) → (distanceIn p t y d ≡ NONE → ⊥) → Settled (run (fresh p) cs) t y d
+  pub settles :
+      (ks xs ys : List Call) (t : ℕ) → cs ≡ ks ++ (xs ++ ys) →
+      Settling (run (fresh p) ks) t xs ys →
+      (y d : ℕ) → (y ≡ d → ⊥) → (distanceIn p t y d ≡ NONE → ⊥) → Settled (run (fresh p) cs) t y d
 
 -- the demand: for every plan in the ranges and every list of calls
 abbrev pub Demand3 : Type 0

@@ -1,5 +1,6 @@
 -- The two limits as document 01 defines them ("Records of a bridge"), by the views since the last clearing and the one view held. Those
--- views are read off the list of calls as "Events" tells them; no row of limits is looked at. Assumes nothing.
+-- views are followed through the list of calls as "Events" tells them: whether a message is stale or clears, and which view was received
+-- last, is by the numbers and views in the records of the network then; no row of limits is looked at. Assumes nothing.
 use Prim.Native.Nat.{ℕ, min}
 use mathlib.Core.Path.{_≡_}
 use mathlib.Core.Bool.{cond, _&&_, not}

@@ -224,7 +224,7 @@ module _
     events-made = sym (ap (λ (l : List Event). take (b .made) l) (sym (is-listed .head)) ∙ take-take (b .made) (length xs) events few)
 
     sizes : length (b .answers) ≡ answerSizes (r .bench .bridges) made-events
-    sizes = batches-are-runs numbers (stateAt from) (eventsOf xs) .1
+    sizes = batches-are-runs numbers (stateAt from) (eventsOf xs) .sizes
 
     module _ (more : List ℕ) where
       texts-are : textsOf (r .bench .bridges) (take (b .made) events) (answers' ++ more) ≡ textsOf (r .bench .bridges) made-events (b .answers)

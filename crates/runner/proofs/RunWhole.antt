@@ -10,6 +10,7 @@ use lib.ListN.{length, length-append, length-replicate}
 use Rattle.distances.proofs.Booleans.{both-true}
 use Rattle.protocol.specs.Net.{Network, Plan, fresh}
 use Rattle.protocol.specs.Calls.{accepted, step, run}
+use Rattle.protocol.proofs.Rules.{demand2}
 use Rattle.protocol.proofs.Theorem.{demand3}
 use Rattle.text.specs.Lines.{refusedText}
 use Rattle.runner.specs.Plans.{firstRunner, firstBuffers, prints}
@@ -81,6 +82,7 @@ every-line plan few first next more events all =
     let inRange = plan-carried plan few .inRange (λ none. some-event first next more (sym events ∙ none)) in
     record {
       inRange = inRange;
+      rule = demand2 .rule _ (demand2 .inRange (readPlan plan .setup) inRange (callsIn first));
       holds = demand3 (readPlan plan .setup) inRange (callsIn first);
       printed =
           rw (le-ltb 61440 (length plan) few)

@@ -43,7 +43,8 @@ listFits r left = eqb (r .stage) 3 && (leb (r .events + mostEvents) longestPlan 
 abbrev pub answerRoom : ℕ → ℕ
 answerRoom bytes = min mostAnswers ((bytes - longestText) / bytesForANumber)
 
--- how many fields are carried out at once: the events of a list, as long as their answers have room; one where no list fits
+-- how many fields are carried out at once: the events of a list, as long as their answers have room; 1 where no list fits, and 0 where no
+-- event comes next, and then one field too: its step
 unfoldable pub fieldsAtOnce : Runner → Buffers → List ℕ → ℕ
 fieldsAtOnce r k rest =
     cond (listFits r (length rest) && buffersLong k)

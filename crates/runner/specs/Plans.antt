@@ -1,4 +1,4 @@
--- A plan carried out step by step, on the buffers of the code. What it prints is the page's output (specs/Program.antt): `PlanFilled`.
+-- A plan carried out step by step, on the buffers of the code. What it prints is `output` (specs/Program.antt), by the law `output-carried`.
 -- Assumes nothing.
 use Prim.Native.Nat.{ℕ, zero, suc}
 use mathlib.Core.Bool.{false, cond}

@@ -96,7 +96,8 @@ readOn on g rest (Read.Field (Field.Event e) used) =
     withEvent (record { call = callOf e; offset = g .offset }) (on (reading 3 (g .setup) (g .offset + used)) (drop used rest))
 readOn on g rest (Read.Stop number) = readTo g number
 
--- field after field, with fuel for so many; a field has bytes, so that fuel for one more than there are bytes is enough: `ReadingEnds` (specs/Whole.antt)
+-- field after field, with fuel for so many; a field has bytes, so that fuel for one more than there are bytes is enough: `ReadingEnds`
+-- (specs/Whole.antt)
 unfoldable pub readFrom : ℕ → Reading → List ℕ → PlanRead
 readFrom zero g rest = readTo g 0
 readFrom (suc fuel) g rest = readOn (readFrom fuel) g rest (readOf rest (progressIn g))
@@ -110,7 +111,7 @@ abbrev pub pathLine : ℕ → ℕ → paths.PathResult → List ℕ
 pathLine s d (paths.delivered h) = deliveredText s d h
 pathLine s d (paths.stops b h) = stopsText s d b h
 
--- what an accepted call prints of network n; `-` is for NONE, as the number of no port
+-- what an accepted call prints of network n; NONE is printed as `-`, and it is the number of no port
 unfoldable pub linesOf : Network → Call → List ℕ
 linesOf n (report d) = reportLines d (n .plan .graph .bridges) (λ y. ownDistance n y d) (λ y. linkNumber (forwardingPort n y d))
 linesOf n (path s d) = pathLine s d (paths.path n s d)

@@ -112,12 +112,12 @@ first-digits (suc k) n p h =
 pub decimal-first : (n : ℕ) → 0 < n → n < 2 ^ 32 → 48 < getD (decimal n) 0 0
 decimal-first n p h = first-digits 9 n p (omega arith)
 
-pub decimal-tells : DecimalTells
-decimal-tells = record { value = value-decimal; digits = digits-bytes 9; first = decimal-first }
-
 pub decimal-zero : decimal 0 ≡ 48 ∷ []
 unfolding digits
 decimal-zero = refl
+
+pub decimal-tells : DecimalTells
+decimal-tells = record { value = value-decimal; digits = digits-bytes 9; zero = decimal-zero; first = decimal-first }
 
 -- `-`, or ten digits at most
 pub dash : (n : ℕ) → n ≡ 4294967295 → orDash n ≡ 45 ∷ []

@@ -24,8 +24,9 @@ unfoldable pub valueFrom : ℕ → List ℕ → ℕ
 valueFrom v [] = v
 valueFrom v (b ∷ bs) = valueFrom (10 * v + (b % 48)) bs
 
--- the claim: the bytes of a number of 32 bits are digits, `0` to `9`, that stand for it, and the first is no `0` but for 0 itself
+-- the claim: the bytes of a number of 32 bits are digits, `0` to `9`, that stand for it; 0 is `0`, and no other begins with `0`
 pub record DecimalTells : Type 0 where
   pub value : (n : ℕ) → n < 2 ^ 32 → valueFrom 0 (decimal n) ≡ n
   pub digits : (n i : ℕ) → i < length (decimal n) → (48 ≤ getD (decimal n) i 0) × (getD (decimal n) i 0 ≤ 57)
+  pub zero : decimal 0 ≡ 48 ∷ []
   pub first : (n : ℕ) → 0 < n → n < 2 ^ 32 → 48 < getD (decimal n) 0 0

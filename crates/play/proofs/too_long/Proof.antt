@@ -1,7 +1,7 @@
 -- `too_long` meets its contract: the text has room, and is handed on whole or not at all. Assumes nothing.
 use Rattle.runner.proofs.EventSteps.{counted}
 use Rattle.runner.proofs.RunWhole.{output-refused}
-use Rattle.play.specs.Output.{IsNext}
+use Rattle.play.specs.Output.{StandsAt}
 use Rattle.runner.specs.Steps.{countOf}
 use Rattle.runner.specs.Events.{Line, line, lineOf}
 use Rattle.text.proofs.Laws.{length-refusedText}
@@ -43,7 +43,7 @@ within n m e =
     omega (arith, counts n m e, ap (λ (l : Line). length (l .out)) e, length-sets lent 0 text, length-refusedText 18 61440, length-replicate {A = ℕ} 544 0)
 
 -- it is all that such a plan prints
-is-next : (plan : List ℕ) (n : ℕ) (m : List ℕ) → 61440 < length plan → line n m ≡ lineOf text lent → IsNext plan 0 (take n m)
+is-next : (plan : List ℕ) (n : ℕ) (m : List ℕ) → 61440 < length plan → line n m ≡ lineOf text lent → StandsAt plan 0 (take n m)
 is-next plan n m many e =
     let room : 0 + length text ≤ length lent = omega (arith, length-refusedText 18 61440, length-replicate {A = ℕ} 544 0) in
     let written : take n m ≡ text =

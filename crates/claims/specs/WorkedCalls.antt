@@ -1,0 +1,87 @@
+-- Worked cases of layer 3: document 01's examples in a caller's numbers. Assumes nothing.
+use Prim.Native.Nat.{ℕ}
+use mathlib.Core.Path.{_≡_}
+use mathlib.Core.Bool.{true}
+use mathlib.Core.List.{List, [], _∷_, _++_}
+use lib.ListN.{getD, replicate}
+use Rattle.distances.specs.View.{NONE}
+use Rattle.distances.specs.Table.{cell}
+use Rattle.agreement.specs.Call.{says}
+use Rattle.agreement.specs.Record.{freshRecord}
+use Rattle.agreement.specs.declared.Answer.the-variants.{Stale}
+use Rattle.agreement.specs.declared.Port.the-variants.{Open}
+use Rattle.protocol.specs.Calls as calls
+use Rattle.protocol.specs.Calls.{Call, change, cut, answerAt}
+use Rattle.protocol.specs.Ports.{ownDistance, forwardingPort}
+use Rattle.protocol.specs.Paths.{delivered, path}
+use Rattle.protocol.specs.Examples.{callsE3, callsE4, callsE6, callsE7}
+use Rattle.bench.specs.State.{State, state, network}
+use Rattle.bench.specs.Contracts.{refusalOf, readyFor, outcome, outcomeOf, leftBy, reportOf, freshOf}
+use Rattle.bench.specs.Whole.{runIn}
+use Rattle.bench.specs.Batches.{batchFrom}
+use Rattle.bench.specs.declared.Bench.{Bench}
+use Rattle.bench.specs.declared.Event.{Event}
+use Rattle.bench.specs.declared.Event.the-variants.{Cut, Report}
+use Rattle.messages.specs.SliceLists.{Kept, kept, numbered, Lead, Starts}
+use Rattle.messages.specs.declared.Message.{Message}
+
+-- the triangle with its two views in a caller's numbers, of which the others held something else before
+abbrev pub bench : Bench
+bench =
+    record {
+      bridges = 3;
+      links = 3;
+      views = 2;
+      messages = 5;
+      ends = 0 ∷ 1 ∷ 1 ∷ 2 ∷ 0 ∷ 2 ∷ replicate 58 0;
+      view = replicate 16 9;
+      number = replicate 16 7;
+      records = replicate 64 freshRecord;
+      cut = replicate 32 true;
+    }
+
+abbrev pub costs : List ℕ
+costs = (1 ∷ 1 ∷ 3 ∷ replicate 29 0) ++ ((0 ∷ 1 ∷ 3 ∷ replicate 29 0) ++ replicate 960 0)
+
+abbrev pub lentState : State
+lentState = state bench costs (replicate 1024 8) (replicate 1024 8) (replicate 320 6)
+
+-- what `fresh` makes of it, and any calls after that
+abbrev pub started : State
+started = freshOf lentState .state
+
+abbrev pub left : List Call → State
+left cs = runIn started cs
+
+-- the same with a slice of messages
+abbrev pub leftover : Message
+leftover = record { link = 6; direction = 6; view = 6; number = 6; discarded = 6 }
+
+abbrev pub lentSlice : Kept
+lentSlice = kept bench costs (replicate 1024 8) (replicate 1024 8) (replicate 64 leftover)
+
+-- a list of events: the third is refused, and the fourth is not looked at
+abbrev pub events : List Event
+events = Report 0 ∷ Cut 0 ∷ Cut 0 ∷ Cut 1 ∷ []
+
+pub record WorkedCalls : Type 0 where
+  -- E3: the call replies that bridge 2's port is open on link 1, that its path is delivered after two hops, and that its distance is 2
+  pub port : outcomeOf (left callsE3) (calls.port 2 0) (λ n. forwardingPort n 2 0) ≡ outcome (says (Open 1)) (left callsE3)
+  pub path : outcomeOf (left callsE3) (calls.path 2 0) (λ n. path n 2 0) ≡ outcome (says (delivered 2)) (left callsE3)
+  pub report : (let rows = reportOf (left callsE3) 0 (replicate 32 5) .rows in (getD rows 4 0 ≡ 2) × (getD rows 5 0 ≡ 1))
+  -- E4: bridge 1 has distance 4
+  pub distance : ownDistance (network (left callsE4)) 1 0 ≡ 4
+  -- E6: at bridge 1's end of link 1 the caller's tables have the limits 2, sent, and 4, held
+  pub sent : cell (left callsE6 .sent) 2 0 ≡ 2
+  pub held : cell (left callsE6 .held) 2 0 ≡ 4
+  -- E8: the delivery is accepted, and stale
+  pub accepted : refusalOf (readyFor (left callsE7) (calls.deliver 0)) (network (left callsE7)) (calls.deliver 0) ≡ 0
+  pub stale : answerAt (network (left callsE7)) 0 ≡ Stale
+  -- a cut of a link that is not there changes nothing, and asking neither
+  pub refused : leftBy started (change (cut 9)) ≡ started
+  pub asking : (leftBy started (calls.port 2 0) ≡ started) × (leftBy started (calls.report 0) ≡ started) × (leftBy started (calls.path 2 0) ≡ started)
+  -- of the list of events the report and one cut are made: its state, and the report's distances without a port
+  pub batch : batchFrom 6 started events .state ≡ left (calls.report 0 ∷ change (cut 0) ∷ [])
+  pub answers : batchFrom 6 started events .answers ≡ 0 ∷ NONE ∷ 1 ∷ NONE ∷ 2 ∷ NONE ∷ []
+  -- over the slice, after `fresh` and the calls of E3: bridge 2's port is open on link 1
+  pub slices : (first t : Kept) × Starts lentSlice first × Lead first callsE3 t × (forwardingPort (network (numbered t)) 2 0 ≡ Open 1)

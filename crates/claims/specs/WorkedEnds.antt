@@ -1,0 +1,55 @@
+-- Worked cases of layers 1 and 2, on the triangle of document 01's examples. Assumes nothing.
+use Prim.Native.Nat.{ℕ, _≤_}
+use mathlib.Core.Path.{_≡_}
+use mathlib.Core.List.{List, [], _∷_}
+use lib.ListN.{length, replicate}
+use Rattle.distances.specs.View.{NONE, maxDistance}
+use Rattle.distances.specs.Meaning.{IsDistance}
+use Rattle.distances.specs.Distance.{dist}
+use Rattle.distances.specs.Table.{cell}
+use Rattle.distances.specs.Call.{distancesOf}
+use Rattle.distances.specs.Examples.{triangle, view0, view1}
+use Rattle.agreement.specs.Call.{ViewData, viewData, lentOffer}
+use Rattle.agreement.specs.Choice.{portBy, choiceBelow}
+use Rattle.agreement.specs.Ends.{betweenAt, updateBetween, deliverBetween}
+use Rattle.agreement.specs.Record.{freshRecord}
+use Rattle.agreement.specs.Rule.{Forwards}
+use Rattle.agreement.specs.declared.Agreement.{Agreement}
+use Rattle.agreement.specs.declared.Port.the-variants.{Open}
+use Rattle.protocol.specs.Calls as calls
+use Rattle.protocol.specs.Paths.{linksCrossed}
+use Rattle.protocol.specs.Examples.{after, callsE3, callsE7, answered}
+
+-- the triangle's view 1 as it is lent to layer 2, with its distances; limits that are all absent; a message of a bridge on view 1
+abbrev pub lent : ViewData
+lent =
+    let ends : List ℕ = 0 ∷ 1 ∷ 1 ∷ 2 ∷ 0 ∷ 2 ∷ [] in
+    let costs : List ℕ = 0 ∷ 1 ∷ 3 ∷ [] in
+    viewData 3 3 ends costs (distancesOf 3 3 ends costs (replicate 256 0) .table)
+
+abbrev pub limits : List ℕ
+limits = replicate 1024 NONE
+
+abbrev pub message : Agreement
+message = record { view = 1; number = 1; discarded = 0 }
+
+pub record WorkedEnds : Type 0 where
+  -- no other number than 4 is the distance of bridge 1 to bridge 0 in view 1, and that is not too great
+  pub noOther : (x : ℕ) → IsDistance triangle view1 1 0 x → x ≡ 4
+  pub greatest : dist triangle view1 1 0 ≤ maxDistance
+  -- E3: bridge 2 uses link 1: by the rule, and by the choice of one end after another
+  pub rule : (e : ℕ) × Forwards triangle view0 (dist triangle view0) (after callsE3 .records) 2 0 1 e
+  pub choice : portBy (choiceBelow triangle view0 (dist triangle view0) (after callsE3 .records) 2 0 6) ≡ Open 1
+  -- bridge 2's offer over link 1 for bridge 0 in view 1 is 4, of a lent view too
+  pub lentOffers : lentOffer lent 3 0 ≡ 4
+  -- by plain numbers: bridge 2's end of link 1, end 3, goes to view 1, and its sent limit falls to that offer; the message arrives at bridge 1's
+  -- end of link 1, end 2, and bridge 1, on view 1 with number 1, holds 4
+  pub plainUpdate : cell (updateBetween (betweenAt lent 3) 2 1 3 freshRecord limits limits .sent) 3 0 ≡ 4
+  pub plainDelivery : cell (deliverBetween (betweenAt lent 2) 2 1 1 2 freshRecord message limits limits .held) 2 0 ≡ 4
+  -- E3: the path from bridge 2 crosses two links
+  pub hops : length (linksCrossed (after callsE3) 2 0) ≡ 2
+  -- E8: bridge 1's message over link 1 is of number 1, and its delivery is accepted and stale
+  pub e8 :
+      (let m = calls.messageAt (after callsE7) 0 in
+      m .link ∷ m .direction ∷ m .agreement .number ∷ calls.refuse (after callsE7) (calls.deliver 0) ∷ answered callsE7 0 ∷ [])
+      ≡ 1 ∷ 0 ∷ 1 ∷ 0 ∷ 0 ∷ []

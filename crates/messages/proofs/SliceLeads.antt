@@ -44,22 +44,24 @@ leads-on [] s full = (s, refl)
 leads-on (c ∷ cs) s full =
     let u : State = leftBy (numbered s) c in
     let many = left-messages (numbered s) c in
-    let later = leads-on cs (keptIn u (s .messages)) (kept-full u (s .messages) full many) in
-    (later .0,
-    record {
-      left = keptIn u (s .messages);
-      leads = record { numbers = kept-numbers u (s .messages) full many; rest = kept-behind u (s .messages) full many };
-      later = later .1;
-    })
+    let later = leads-on cs (keptIn u (s .messages)) (kept-full u (s .messages) full many) in (
+      later .0,
+      record {
+        left = keptIn u (s .messages);
+        leads = record { numbers = kept-numbers u (s .messages) full many; rest = kept-behind u (s .messages) full many };
+        later = later .1;
+      },
+    )
 
 pub slices-lead : SlicesLead
 slices-lead =
     record {
       begin = λ first full accepted.
           let u : State = freshOf (numbered first) .state in
-          let many = fresh-messages (numbered first) in
-          (keptIn u (first .messages),
-          kept-full u (first .messages) full many,
-          record { accepted = accepted; room = full; numbers = kept-numbers u (first .messages) full many });
+          let many = fresh-messages (numbered first) in (
+            keptIn u (first .messages),
+            kept-full u (first .messages) full many,
+            record { accepted = accepted; room = full; numbers = kept-numbers u (first .messages) full many },
+          );
       go = λ s full cs. leads-on cs s full;
     }

@@ -1,6 +1,7 @@
 -- The program on one page (document 01, "Plan file"): from the bytes of a plan to the bytes that are printed, by the protocol's networks
 -- alone. A plan is read; the fresh network of what it sets up makes its events one after the other; each line tells of the network as it
--- then is. What the code keeps in its buffers has no part in it. Assumes nothing.
+-- then is, so demands 2 and 3 are about each line (`EveryLine`, specs/Whole.antt). What the code keeps in its buffers has no part in it.
+-- Assumes nothing.
 use Prim.Native.Nat.{ℕ, zero, suc, _+_, _*_}
 use mathlib.Core.Bool.{cond, _&&_}
 use mathlib.Core.List.{List, [], _∷_, _++_}

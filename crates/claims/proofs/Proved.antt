@@ -1,5 +1,5 @@
 -- Every claim is proved, and applied to the worked cases. Assumes nothing.
-use Rattle.distances.proofs.Laws.{dist-is-distance, nothing-else-is}
+use Rattle.distances.proofs.Laws.{dist-is-distance, nothing-else-is, none-iff}
 use Rattle.distances.proofs.Greatest.{greatest-distance}
 use Rattle.distances.proofs.Known.{distances-apply}
 use Rattle.agreement.proofs.Forwards.{port-follows-rule}
@@ -33,6 +33,7 @@ claims =
     record {
       distances = dist-is-distance;
       noOther = nothing-else-is;
+      none = none-iff;
       greatest = greatest-distance;
       rule = port-follows-rule;
       choice = choice-is-port;
@@ -62,8 +63,8 @@ claims-apply : ClaimsApply
 claims-apply c =
     record {
       distances = distances-apply (c .distances);
-      demand2 = demands-apply .demand2 (c .demand2);
-      demand3 = demands-apply .demand3 (c .demand3);
+      demand2 = demands-apply .demand2 (c .demand2) (c .settlingMet);
+      demand3 = demands-apply .demand3 (c .demand3) (c .settlingMet);
       ends = worked-ends c;
       calls = worked-calls c;
       program = worked-program c;

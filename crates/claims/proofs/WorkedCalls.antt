@@ -2,10 +2,10 @@
 -- Assumes nothing.
 use Prim.Native.Nat.{ℕ, _<_, _≤_}
 use native.Mathlib.Omega.{arith}
-use mathlib.Core.Path.{_≡_, refl, sym, ap, _∙_}
+use mathlib.Core.Path.{_≡_, refl, sym, ap, _∙_, subst}
 use mathlib.Core.Bool.{Bool, true, false, cond}
 use mathlib.Core.List.{List, [], _∷_}
-use lib.ListN.{length, take, replicate, length-replicate}
+use lib.ListN.{length, getD, take, drop, replicate, length-replicate}
 use Rattle.distances.specs.View.{NONE}
 use Rattle.distances.specs.Call.{linkPasses, linkInRange, graphPasses, costsPass}
 use Rattle.distances.specs.Table.{rewrittenFrom, rewritten}
@@ -18,18 +18,21 @@ use Rattle.encoding.specs.Numbers.{linkNumber}
 use Rattle.protocol.specs.Net.{Network, Plan, offerIn, fresh}
 use Rattle.protocol.specs.Calls as calls
 use Rattle.protocol.specs.Calls.{Call, change, cut, refuse, run, answerAt}
-use Rattle.protocol.specs.Ports.{ownDistance, forwardingPort}
+use Rattle.protocol.specs.Ports.{ownDistance, forwardingPort, crosses, hop, Trail.stay, Trail.cross}
 use Rattle.protocol.specs.Paths.{delivered, path}
 use Rattle.protocol.specs.LimitViews.{viewsRun, freshViews, leastOver, offerHeld}
 use Rattle.protocol.specs.Examples.{callsE3, callsE4, callsE6, callsE7}
 use Rattle.protocol.proofs.Example.{computing}
-use Rattle.bench.specs.State.{network, messagesFrom}
+use Rattle.bench.specs.State.{State, network, messagesFrom}
 use Rattle.bench.specs.Ranges.{graphInRange, benchInRange, costsInRange, limitsLong, messagePasses, messagesInRange, partsInRange, networkInRange}
 use Rattle.bench.specs.Standing.{withFirst, withRows, numberIn, standingBench, standing, stepIn}
 use Rattle.bench.specs.Contracts.{readyFor, refusalOf, outcome, reportNumbers, freshOf}
 use Rattle.bench.specs.Demand2.{Tells}
 use Rattle.bench.specs.Whole.{runIn, Meets}
-use Rattle.bench.specs.Batches.{replyOf, answersOf, answerSize, eventBatch, eventBatchIn, batchFrom, callsOf, answersBy}
+use Rattle.bench.specs.Batches.{replyOf, answersOf, answerSize, answerSizes, eventBatch, eventBatchIn, batchFrom, callsOf, eachAccepted, answersBy, Ended}
+use Rattle.bench.specs.declared.Event.{Event}
+use Rattle.bench.specs.declared.Event.the-variants.{Cut}
+use Rattle.bench.specs.declared.Disposition.the-variants.{Refused}
 use Rattle.messages.specs.SliceLists.{Kept, numbered, Lead, Starts}
 use Rattle.claims.specs.Claims.{Claims}
 use Rattle.claims.specs.WorkedCalls.{lentState, started, left, leftover, lentSlice, events, WorkedCalls}
@@ -76,7 +79,7 @@ module _ (claims : Claims) where
 
 record Facts : Type 0 where
   bridges : (made callsE3 .plan .graph .bridges ≡ 3) × (made callsE4 .plan .graph .bridges ≡ 3)
-  none : refuse (made callsE3) (calls.port 2 0) ≡ 0
+  none : (refuse (made callsE3) (calls.port 2 0) ≡ 0) × (refuse (made callsE3) (calls.report 0) ≡ 0)
   port : forwardingPort (made callsE3) 2 0 ≡ Open 1
   path : path (made callsE3) 2 0 ≡ delivered 2
   distance : (ownDistance (made callsE3) 2 0 ≡ 2) × (ownDistance (made callsE4) 1 0 ≡ 4)
@@ -90,7 +93,7 @@ unfolding all
 facts =
     record {
       bridges = (refl, refl);
-      none = refl;
+      none = (refl, refl);
       port = refl;
       path = refl;
       distance = (refl, refl);
@@ -125,6 +128,27 @@ report-answers : answersBy started (take 2 events) ≡ 0 ∷ NONE ∷ 1 ∷ NONE
 unfolding all answersBy
 report-answers = refl
 
+-- the list ended at the second cut
+twelve : batchFrom 6 started events .disposition ≡ Refused 12
+unfolding all
+twelve = refl
+
+next-refused : Claims → replyOf (batchFrom 6 started events .state) (Cut 0) ≡ 12
+next-refused claims =
+    let b = batchFrom 6 started events in
+    let end : Ended 6 events b (Refused 12) = subst (Ended 6 events b) twelve (claims .batches 6 started events .ended) in
+    let at : drop 2 events ≡ end .0 ∷ end .1 = ap (λ (k : ℕ). drop k events) (sym two-made) ∙ end .2 in
+    ap (replyOf (b .state)) (ap (λ (l : List Event). getD l 0 (Cut 0)) at) ∙ end .3
+
+six : answerSizes (started .bench .bridges) (take 2 events) ≡ 6
+unfolding all answerSizes
+six = refl
+
+-- bridge 1's frame in E7
+crossing : hop (made callsE7) 0 1 ≡ crosses 1 2
+unfolding all
+crossing = refl
+
 two-calls : callsOf (take 2 events) ≡ calls.report 0 ∷ change (cut 0) ∷ []
 unfolding callsOf
 two-calls = refl
@@ -143,6 +167,14 @@ slice-port claims =
     let bridge = low (facts .bridges .0) in
     (begun .0, led .0, begun .2, led .1, m .replies .ports 2 0 (bridge 2 (omega arith)) (bridge 0 (omega arith)) ∙ facts .port)
 
+one-message : length (made callsE3 .messages) ≡ 1
+unfolding all
+one-message = refl
+
+standing-there : Claims → left callsE3 .bench .messages ≡ 1
+unfolding standing standingBench
+standing-there claims = ap (λ (s : State). s .bench .messages) (meets claims callsE3 .stands .state) ∙ one-message
+
 -- ---- all of it
 
 module _ (claims : Claims) where
@@ -156,7 +188,7 @@ module _ (claims : Claims) where
   pub worked-calls : WorkedCalls
   worked-calls =
       let m = meets claims callsE3 .replies in
-      let t = tells claims callsE3 (facts .none) in
+      let t = tells claims callsE3 (facts .none .0) in
       let bridge = low (facts .bridges .0) in
       let there = low (three claims callsE3 (facts .bridges .0)) in
       let two = bridge 2 (omega arith) in
@@ -170,6 +202,8 @@ module _ (claims : Claims) where
           rows .distances 2 (there 2 (omega arith)) ∙ m .distances 2 0 two zero ∙ facts .distance .0,
           rows .ports 2 (there 2 (omega arith)) ∙ ap linkNumber (m .ports 2 0 two zero ∙ facts .port),
         );
+        rule = t .rule .forwards 2 0 1 (m .ports 2 0 two zero ∙ facts .port);
+        inFlight = standing-there claims;
         distance =
             meets claims callsE4 .replies .distances 1 0 (low (facts .bridges .1) 1 (omega arith)) (low (facts .bridges .1) 0 (omega arith)) ∙ facts .distance .1;
         sent = limits .sent ∙ limits-at-e6 .0;
@@ -178,10 +212,15 @@ module _ (claims : Claims) where
         stale = meets claims callsE7 .replies .deliveries 0 (facts .inFlight) ∙ facts .stale;
         refused = claims .refused started (change (cut 9)) none-cut;
         asking = (claims .asking started 2 0 .0, claims .asking started 2 0 .1, claims .asking started 2 0 .2);
+        noRing = λ l e. meets claims callsE7 .holds .noRing 0 1 1 (cross crossing (cross e stay));
+        reported = meets claims callsE3 .replies .reports 0 (replicate 40 5) (omega (arith, length-replicate {A = ℕ} 40 5)) ∙ facts .none .1;
+        made = ap (λ (k : ℕ). eachAccepted started (take k events)) (sym two-made) ∙ claims .batches 6 started events .accepted;
         batch =
             claims .batches 6 started events .state
             ∙ ap (λ (k : ℕ). runIn started (callsOf (take k events))) two-made
             ∙ ap (runIn started) two-calls;
         answers = claims .batches 6 started events .answers ∙ ap (λ (k : ℕ). answersBy started (take k events)) two-made ∙ report-answers;
+        sizes = claims .batches 6 started events .sizes ∙ ap (λ (k : ℕ). answerSizes (started .bench .bridges) (take k events)) two-made ∙ six;
+        ended = next-refused claims;
         slices = slice-port claims;
       }

@@ -3,7 +3,7 @@ use Prim.Native.Nat.{ℕ, _<_}
 use native.Mathlib.Omega.{arith}
 use mathlib.Core.Path.{_≡_, refl, sym, ap}
 use mathlib.Core.Bool.{Bool, true}
-use mathlib.Core.List.{List·Memᴰ·head as head, List·Memᴰ·tail as tail}
+use mathlib.Core.List.{[], List·Memᴰ·head as head, List·Memᴰ·tail as tail}
 use Rattle.distances.specs.View.{costsOf}
 use Rattle.distances.specs.Distance.{dist}
 use Rattle.distances.specs.Table.{cell, rewrittenFrom, rewritten, isInRow, isPair, withPairs}
@@ -43,10 +43,15 @@ holds i j hi hj =
 pub worked-ends : Claims → WorkedEnds
 unfolding all
 worked-ends claims =
+    let by = claims .rule triangle (triangle-in-range .differ) view0 (dist triangle view0) (after callsE3 .records) 2 0 in
     record {
       noOther = λ x is. claims .noOther triangle view1 1 0 x 4 is (claims .distances triangle view1 triangle-in-range view1-in-range 1 0);
       greatest = claims .greatest .most triangle view1 triangle-in-range view1-in-range 1 0 (λ e. omega arith);
-      rule = claims .rule triangle (triangle-in-range .differ) view0 (dist triangle view0) (after callsE3 .records) 2 0 .0 1 refl;
+      apart = claims .none triangle (λ l. 0) triangle-in-range (record { most = λ l h. omega arith }) 1 0 .0 refl;
+      none = λ no. omega (arith, claims .none triangle view1 triangle-in-range view1-in-range 1 0 .1 no);
+      rule = by .0 1 refl;
+      opens = by .1 1 (by .0 1 refl);
+      closes = claims .rule triangle (triangle-in-range .differ) view0 (dist triangle view0) (after [] .records) 2 0 .2 (λ l e w. omega (arith, w .allowed .held));
       choice = claims .choice triangle view0 (dist triangle view0) (after callsE3 .records) 2 0;
       lentOffers = claims .lentOffers lent lent-ready holds 3 0 (omega arith) (omega arith);
       plainUpdate = ap (λ (o : Outcome ℕ). cell (o .sent) 3 0) (sym (claims .plainEnds .update lent 2 1 3 freshRecord limits limits refl));

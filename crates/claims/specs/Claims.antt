@@ -1,6 +1,6 @@
 -- Every claim of the repository beyond the functions' contracts, one field each; `claims` (proofs/Proved.antt) is a value of this record, so that
 -- a claim without a proof fails the check. What they come to in worked cases: specs/Worked.antt. Assumes nothing.
-use Rattle.distances.specs.Theorem.{DistIsDistance, NothingElseIs, GreatestDistance}
+use Rattle.distances.specs.Theorem.{DistIsDistance, NothingElseIs, NoneIsApart, GreatestDistance}
 use Rattle.agreement.specs.Rule.{PortFollowsRule}
 use Rattle.agreement.specs.Choice.{ChoiceIsPort}
 use Rattle.agreement.specs.Call.{LentOffersAreOffers}
@@ -20,9 +20,10 @@ use Rattle.runner.specs.Fills.{FillPrints}
 use Rattle.runner.specs.Whole.{ReadingEnds, PlanFilled, EveryLine}
 
 pub record Claims : Type 0 where
-  -- layer 1: the computed distance is the least sum of costs of any path, nothing else is, and how great it can be
+  -- layer 1: the computed distance is the least sum of costs of any path, nothing else is, where it is NONE, and how great it can be
   pub distances : DistIsDistance
   pub noOther : NothingElseIs
+  pub none : NoneIsApart
   pub greatest : GreatestDistance
   -- layer 2: the port follows the forwarding rule; so does the choice by one end after another; what is lent or plain comes to the same
   pub rule : PortFollowsRule

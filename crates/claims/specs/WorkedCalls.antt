@@ -1,24 +1,27 @@
 -- Worked cases of layer 3: document 01's examples in a caller's numbers. Assumes nothing.
 use Prim.Native.Nat.{ℕ}
 use mathlib.Core.Path.{_≡_}
-use mathlib.Core.Bool.{true}
+use mathlib.Core.Bool.{true, _&&_}
 use mathlib.Core.List.{List, [], _∷_, _++_}
-use lib.ListN.{getD, replicate}
+use lib.ListN.{length, getD, take, replicate}
+use lib.Dec.{leb}
 use Rattle.distances.specs.View.{NONE}
 use Rattle.distances.specs.Table.{cell}
 use Rattle.agreement.specs.Call.{says}
 use Rattle.agreement.specs.Record.{freshRecord}
 use Rattle.agreement.specs.declared.Answer.the-variants.{Stale}
 use Rattle.agreement.specs.declared.Port.the-variants.{Open}
+use Rattle.protocol.specs.Net.{fresh}
 use Rattle.protocol.specs.Calls as calls
 use Rattle.protocol.specs.Calls.{Call, change, cut, answerAt}
-use Rattle.protocol.specs.Ports.{ownDistance, forwardingPort}
+use Rattle.protocol.specs.Ports.{ownDistance, forwardingPort, crosses, hop}
 use Rattle.protocol.specs.Paths.{delivered, path}
+use Rattle.protocol.specs.Demand2.{ForwardsBy}
 use Rattle.protocol.specs.Examples.{callsE3, callsE4, callsE6, callsE7}
 use Rattle.bench.specs.State.{State, state, network}
 use Rattle.bench.specs.Contracts.{refusalOf, readyFor, outcome, outcomeOf, leftBy, reportOf, freshOf}
 use Rattle.bench.specs.Whole.{runIn}
-use Rattle.bench.specs.Batches.{batchFrom}
+use Rattle.bench.specs.Batches.{replyOf, batchFrom, eachAccepted}
 use Rattle.bench.specs.declared.Bench.{Bench}
 use Rattle.bench.specs.declared.Event.{Event}
 use Rattle.bench.specs.declared.Event.the-variants.{Cut, Report}
@@ -69,6 +72,9 @@ pub record WorkedCalls : Type 0 where
   pub port : outcomeOf (left callsE3) (calls.port 2 0) (λ n. forwardingPort n 2 0) ≡ outcome (says (Open 1)) (left callsE3)
   pub path : outcomeOf (left callsE3) (calls.path 2 0) (λ n. path n 2 0) ≡ outcome (says (delivered 2)) (left callsE3)
   pub report : (let rows = reportOf (left callsE3) 0 (replicate 32 5) .rows in (getD rows 4 0 ≡ 2) × (getD rows 5 0 ≡ 1))
+  -- by document 01's conditions, on what stands in the caller's numbers; and one message is in flight there
+  pub rule : (e : ℕ) × ForwardsBy (network (left callsE3)) 2 0 1 e
+  pub inFlight : left callsE3 .bench .messages ≡ 1
   -- E4: bridge 1 has distance 4
   pub distance : ownDistance (network (left callsE4)) 1 0 ≡ 4
   -- E6: at bridge 1's end of link 1 the caller's tables have the limits 2, sent, and 4, held
@@ -80,8 +86,16 @@ pub record WorkedCalls : Type 0 where
   -- a cut of a link that is not there changes nothing, and asking neither
   pub refused : leftBy started (change (cut 9)) ≡ started
   pub asking : (leftBy started (calls.port 2 0) ≡ started) × (leftBy started (calls.report 0) ≡ started) × (leftBy started (calls.path 2 0) ≡ started)
-  -- of the list of events the report and one cut are made: its state, and the report's distances without a port
+  -- E7: bridge 1's frame goes to bridge 2, and so none of bridge 2 goes to bridge 1
+  pub noRing : (l : ℕ) → hop (calls.run (fresh (network lentState .plan)) callsE7) 0 2 ≡ crosses l 1 → ⊥
+  -- a report is not refused where there is room for its rows
+  pub reported : refusalOf (readyFor (left callsE3) (calls.report 0) && leb 32 40) (network (left callsE3)) (calls.report 0) ≡ 0
+  -- of the list of events the report and one cut are made: both accepted, the state that they leave, the report's distances without a port; and the
+  -- next, the same cut again, is refused with 12
+  pub made : eachAccepted started (take 2 events) ≡ true
   pub batch : batchFrom 6 started events .state ≡ left (calls.report 0 ∷ change (cut 0) ∷ [])
   pub answers : batchFrom 6 started events .answers ≡ 0 ∷ NONE ∷ 1 ∷ NONE ∷ 2 ∷ NONE ∷ []
+  pub sizes : length (batchFrom 6 started events .answers) ≡ 6
+  pub ended : replyOf (batchFrom 6 started events .state) (Cut 0) ≡ 12
   -- over the slice, after `fresh` and the calls of E3: bridge 2's port is open on link 1
   pub slices : (first t : Kept) × Starts lentSlice first × Lead first callsE3 t × (forwardingPort (network (numbered t)) 2 0 ≡ Open 1)

@@ -4,7 +4,7 @@ use mathlib.Core.Path.{_≡_}
 use mathlib.Core.List.{List, [], _∷_}
 use lib.ListN.{length, replicate}
 use Rattle.distances.specs.View.{NONE, maxDistance}
-use Rattle.distances.specs.Meaning.{IsDistance}
+use Rattle.distances.specs.Meaning.{IsPath, IsDistance}
 use Rattle.distances.specs.Distance.{dist}
 use Rattle.distances.specs.Table.{cell}
 use Rattle.distances.specs.Call.{distancesOf}
@@ -13,9 +13,10 @@ use Rattle.agreement.specs.Call.{ViewData, viewData, lentOffer}
 use Rattle.agreement.specs.Choice.{portBy, choiceBelow}
 use Rattle.agreement.specs.Ends.{betweenAt, updateBetween, deliverBetween}
 use Rattle.agreement.specs.Record.{freshRecord}
+use Rattle.agreement.specs.Forwarding.{port}
 use Rattle.agreement.specs.Rule.{Forwards}
 use Rattle.agreement.specs.declared.Agreement.{Agreement}
-use Rattle.agreement.specs.declared.Port.the-variants.{Open}
+use Rattle.agreement.specs.declared.Port.the-variants.{Closed, Open}
 use Rattle.protocol.specs.Calls as calls
 use Rattle.protocol.specs.Paths.{linksCrossed}
 use Rattle.protocol.specs.Examples.{after, callsE3, callsE7, answered}
@@ -37,8 +38,13 @@ pub record WorkedEnds : Type 0 where
   -- no other number than 4 is the distance of bridge 1 to bridge 0 in view 1, and that is not too great
   pub noOther : (x : ℕ) → IsDistance triangle view1 1 0 x → x ≡ 4
   pub greatest : dist triangle view1 1 0 ≤ maxDistance
-  -- E3: bridge 2 uses link 1: by the rule, and by the choice of one end after another
+  -- in a view that gives no link a cost no path leads from bridge 1 to bridge 0, and where none does the distance is NONE
+  pub apart : (ls : List ℕ) → IsPath triangle (λ l. 0) 1 ls 0 → ⊥
+  pub none : ((ls : List ℕ) → IsPath triangle view1 1 ls 0 → ⊥) → ⊥
+  -- E3: bridge 2 uses link 1: by the rule, both ways, and by the choice of one end after another; E2: fresh, it uses none
   pub rule : (e : ℕ) × Forwards triangle view0 (dist triangle view0) (after callsE3 .records) 2 0 1 e
+  pub opens : port triangle view0 (dist triangle view0) (after callsE3 .records) 2 0 ≡ Open 1
+  pub closes : port triangle view0 (dist triangle view0) (after [] .records) 2 0 ≡ Closed
   pub choice : portBy (choiceBelow triangle view0 (dist triangle view0) (after callsE3 .records) 2 0 6) ≡ Open 1
   -- bridge 2's offer over link 1 for bridge 0 in view 1 is 4, of a lent view too
   pub lentOffers : lentOffer lent 3 0 ≡ 4

@@ -8,7 +8,7 @@ use native.Mathlib.Omega.{arith}
 use Rattle.distances.specs.View.{Graph, Costs, NONE, maxCost, maxDistance, InRange, CostsInRange}
 use Rattle.distances.specs.Meaning.{Joins, IsPath, IsPath.here, IsPath.hop, total, IsDistance}
 use Rattle.distances.specs.Distance.{unjoined, joinedBelow, dist}
-use Rattle.distances.specs.Theorem.{DistIsDistance, NothingElseIs}
+use Rattle.distances.specs.Theorem.{DistIsDistance, NothingElseIs, NoneIsApart}
 use Rattle.distances.proofs.Count.{nearer-less, falls-bound}
 use Rattle.distances.proofs.Relaxed.{relaxed-le, relaxed-triangle, relaxed-symmetric, relaxed-attained}
 use Rattle.distances.proofs.Joined.{unjoined-self, unjoined-le, crossing-le, joined-le, joined-le-crossing, joined-symmetric, joined-told}
@@ -128,15 +128,12 @@ module _ (g : Graph) (c : Costs) (range : InRange g) (costs : CostsInRange g c) 
   path-bound (hop {l} {x} {y} {z} h p) =
       dist-bound x z (λ e. absurd (omega (arith, dist-relax g c range h z, path-bound p, costs .most l (h .listed))))
 
-  -- NONE exactly where there is no path
-  pub none-iff :
-      (i j : ℕ) →
-      (dist g c i j ≡ NONE → (ls : List ℕ) → IsPath g c i ls j → ⊥) × (((ls : List ℕ) → IsPath g c i ls j → ⊥) → dist g c i j ≡ NONE)
-  none-iff i j = (λ e ls p. omega (arith, path-bound p), λ apart. go apart (ℕ-discrete (dist g c i j) NONE))
-    where
-      go : ((ls : List ℕ) → IsPath g c i ls j → ⊥) → Dec (dist g c i j ≡ NONE) → dist g c i j ≡ NONE
-      go apart (yes e) = e
-      go apart (no n) = let t = dist-attained g c i j n in absurd (apart (t .0) (t .1))
+pub none-iff : NoneIsApart
+none-iff g c range costs i j = (λ e ls p. omega (arith, path-bound g c range costs p), λ apart. go apart (ℕ-discrete (dist g c i j) NONE))
+  where
+    go : ((ls : List ℕ) → IsPath g c i ls j → ⊥) → Dec (dist g c i j ≡ NONE) → dist g c i j ≡ NONE
+    go apart (yes e) = e
+    go apart (no n) = let t = dist-attained g c i j n in absurd (apart (t .0) (t .1))
 
 pub dist-is-distance : DistIsDistance
 dist-is-distance g c range costs i j = go (ℕ-discrete (dist g c i j) NONE)

@@ -12,19 +12,19 @@ use Rattle.protocol.specs.Demand2.{ByTheRule, Demand2}
 use Rattle.protocol.specs.Demand3.{Demand3}
 use Rattle.protocol.specs.Calls.{Call}
 use Rattle.protocol.specs.Examples.{plan, after, callsE3, callsE4, callsE6, callsE7}
-use Rattle.protocol.specs.SettlingMet.{before, first, second}
+use Rattle.protocol.specs.SettlingMet.{before, first, second, SettlingCanBeMet}
 use Rattle.protocol.specs.Applied.{RuleAtExamples, ListsAtExamples, DemandsApply}
-use Rattle.protocol.proofs.Example.{computing, settling-can-be-met}
+use Rattle.protocol.proofs.Example.{computing}
 
 -- a distance that is not NONE
 reached : {i x : ℕ} → IsDistance triangle view1 i 0 x → (x ≡ NONE → ⊥) → IsLeast triangle view1 i 0 x
 reached (inl p) some = p
 reached (inr q) some = absurd (some (q .none))
 
-rule-applies : Demand2 → RuleAtExamples
+rule-applies : Demand2 → SettlingCanBeMet → RuleAtExamples
 unfolding computing
-rule-applies claim =
-    let at : (cs : List Call) → ByTheRule (after cs) = λ cs. claim .rule (after cs) (claim .inRange plan (settling-can-be-met .inRange) cs) in
+rule-applies claim met =
+    let at : (cs : List Call) → ByTheRule (after cs) = λ cs. claim .rule (after cs) (claim .inRange plan (met .inRange) cs) in
     let four = reached (at callsE4 .distance 1 0 (omega arith)) (λ e. omega arith) in
     let three = reached (at callsE4 .others 1 2 0 (omega arith)) (λ e. omega arith) in
     let by = at callsE3 .forwards 2 0 1 refl in
@@ -46,11 +46,11 @@ rule-applies claim =
     over (inl here) = here
     over (inr two) = absurd (omega arith)
 
-lists-apply : Demand3 → ListsAtExamples
+lists-apply : Demand3 → SettlingCanBeMet → ListsAtExamples
 unfolding computing
-lists-apply claim =
-    let at = claim plan (settling-can-be-met .inRange) in
-    let settled = at _ .settles before first second 1 refl (settling-can-be-met .premises) 1 0 (λ e. omega arith) (λ e. omega arith) in
+lists-apply claim met =
+    let at = claim plan (met .inRange) in
+    let settled = at _ .settles before first second 1 refl (met .premises) 1 0 (λ e. omega arith) (λ e. omega arith) in
     record {
       noRing = λ l e. at callsE7 .noRing 0 1 1 (cross {l = 1} refl (cross e stay));
       short = at callsE7 .pathShort 1 0;

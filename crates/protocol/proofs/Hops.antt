@@ -9,7 +9,7 @@ use Rattle.agreement.specs.declared.Port.{Port}
 use Rattle.agreement.specs.declared.Port.the-variants.{Closed, Open}
 use Rattle.agreement.proofs.Ends.{opposite-below, bridge-in-range}
 use Rattle.agreement.proofs.Forwards.{open-forwards}
-use Rattle.protocol.specs.Net.{Network, distanceIn}
+use Rattle.protocol.specs.Net.{Network}
 use Rattle.protocol.specs.Demand2.{ForwardsBy}
 use Rattle.protocol.specs.Ports.{crosses, ownDistance, forwardingPort, across, hopBy, hop}
 use Rattle.protocol.proofs.Invariant.{InvariantBy, far}

@@ -15,7 +15,7 @@ use Rattle.protocol.specs.LimitViews.{viewsRun, freshViews, leastOver, o
 use Rattle.protocol.specs.Demand2.{ForwardsBy, Demand2}
 use Rattle.protocol.specs.Demand3.{Demand3}
 use Rattle.protocol.specs.Examples.{plan, after, callsE3, callsE4, callsE6, callsE7}
-use Rattle.protocol.specs.SettlingMet.{before, first, second}
+use Rattle.protocol.specs.SettlingMet.{before, first, second, SettlingCanBeMet}
 
 -- demand 2
 pub record RuleAtExamples : Type 0 where
@@ -55,7 +55,7 @@ pub record ListsAtExamples : Type 0 where
   pub arrives : (h : ℕ) × (path settledThere 1 0 ≡ delivered h)
   pub shortest : total view1 (linksCrossed settledThere 1 0) ≡ 4
 
--- the demands tell so
+-- the demands tell so, of a plan in the ranges and a list that meets the premises
 pub record DemandsApply : Type 0 where
-  pub demand2 : Demand2 → RuleAtExamples
-  pub demand3 : Demand3 → ListsAtExamples
+  pub demand2 : Demand2 → SettlingCanBeMet → RuleAtExamples
+  pub demand3 : Demand3 → SettlingCanBeMet → ListsAtExamples

@@ -1,7 +1,6 @@
 -- Worked cases of the program: document 01's plan, its example E3 as a plan, and plans that are refused. Assumes nothing.
 use Prim.Native.Nat.{ℕ, suc, _≤_, _<_}
 use mathlib.Core.Path.{_≡_}
-use mathlib.Core.Bool.{false}
 use mathlib.Core.List.{List, [], _∷_, _++_}
 use lib.ListN.{length, getD, take, drop, replicate}
 use Rattle.distances.specs.View.{NONE}
@@ -11,8 +10,8 @@ use Rattle.protocol.specs.Ports.{crosses, hop}
 use Rattle.protocol.specs.Demand2.{ForwardsBy}
 use Rattle.text.specs.Decimal.{decimal, valueFrom}
 use Rattle.runner.specs.Plans.{firstRunner, firstBuffers, prints}
-use Rattle.agreement.specs.Record.{freshRecord}
 use Rattle.runner.specs.Buffers.{Buffers}
+use Rattle.runner.specs.Steps.{withBridges, withLink, withView}
 use Rattle.runner.specs.declared.Runner.{Runner}
 use Rattle.runner.specs.Fills.{buffersWithOut, fieldsAtOnce, fillOf, printsAfter, printsFilled}
 use Rattle.runner.specs.Program.{nothingSetUp, reading, PlanEvent, readFrom, readPlan, output}
@@ -79,23 +78,7 @@ printedBy plan = printsFilled (suc (length plan)) firstRunner (buffersWithOut (r
 -- behind the first event of document 01's plan, with 700 bytes to fill, and the bytes of the plan that are left
 abbrev pub behindFirst : Runner
 behindFirst =
-    record {
-      bench =
-          record {
-            bridges = 2;
-            links = 1;
-            views = 1;
-            messages = 0;
-            ends = 0 ∷ 1 ∷ replicate 62 0;
-            view = replicate 16 0;
-            number = replicate 16 1;
-            records = replicate 64 freshRecord;
-            cut = replicate 32 false;
-          };
-      stage = 3;
-      events = 1;
-      offset = 20;
-    }
+    record { bench = withView (withLink (withBridges (firstRunner .bench) 2) 0 1); stage = 3; events = 1; offset = 20 }
 
 abbrev pub lentBytes : Buffers
 lentBytes = buffersWithOut (replicate 700 7) firstBuffers

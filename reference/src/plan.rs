@@ -19,8 +19,8 @@ pub enum Event {
     Deliver { place: u8 },
     Repeat { place: u8 },
     Lose { place: u8 },
-    Cut { link: u8 },
-    Restore { link: u8 },
+    Cut { bridge: u8, link: u8 },
+    Restore { bridge: u8, link: u8 },
     Report { destination: u8 },
     Path { start: u8, destination: u8 },
 }
@@ -66,8 +66,8 @@ impl Phase {
 /// The length of a value of this tag; nothing for an unknown tag.
 fn value_length(tag: u8, links: usize) -> Option<usize> {
     match tag {
-        1 | 6..=11 => Some(1),
-        2 | 4 | 5 | 12 => Some(2),
+        1 | 6..=8 | 11 => Some(1),
+        2 | 4 | 5 | 9 | 10 | 12 => Some(2),
         3 => Some(4 * links),
         _ => None,
     }
@@ -84,8 +84,8 @@ fn field(tag: u8, value: &[u8]) -> Result<Field<'_>, Refusal> {
         (6, &[place]) => Event::Deliver { place },
         (7, &[place]) => Event::Repeat { place },
         (8, &[place]) => Event::Lose { place },
-        (9, &[link]) => Event::Cut { link },
-        (10, &[link]) => Event::Restore { link },
+        (9, &[bridge, link]) => Event::Cut { bridge, link },
+        (10, &[bridge, link]) => Event::Restore { bridge, link },
         (11, &[destination]) => Event::Report { destination },
         (12, &[start, destination]) => Event::Path { start, destination },
         // Not reached: the header check lets only the lengths above through.

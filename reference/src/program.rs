@@ -63,8 +63,8 @@ fn apply(network: &mut Network, event: Event, text: &mut String) -> Result<(), R
         Event::Deliver { place } => network.deliver(place).map(|_| ()),
         Event::Repeat { place } => network.repeat(place).map(|_| ()),
         Event::Lose { place } => network.lose(place),
-        Event::Cut { link } => network.set_cut(link, true),
-        Event::Restore { link } => network.set_cut(link, false),
+        Event::Cut { bridge, link } => network.set_end(bridge, link, true),
+        Event::Restore { bridge, link } => network.set_end(bridge, link, false),
         Event::Report { destination } => report(network, destination, text),
         Event::Path { start, destination } => path(network, start, destination, text),
     }

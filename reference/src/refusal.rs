@@ -19,9 +19,10 @@ pub enum Refusal {
     /// No such bridge, view or link.
     NoSuch = 10,
     NotOnLink = 11,
-    /// Cut of a cut link, restore of a link that is not cut.
+    /// Cut of an end that is down, restore of an end that is up.
     AlreadySo = 12,
-    LinkCut = 13,
+    /// The sender's end for a send, the receiver's for a delivery or a repeat.
+    EndDown = 13,
     FlightFull = 14,
     NoMessage = 15,
     NumbersUsedUp = 16,

@@ -33,7 +33,7 @@ pub const LIMITS: usize = 1024;
 pub const RECORD: usize = 4;
 pub const MESSAGE: usize = 3;
 pub const UPDATE: usize = 2;
-pub const FLAGS: usize = 32;
+pub const FLAGS: usize = 64;
 pub const RECORDS: usize = 256;
 
 // A slice passes as a pointer and then a length. Nothing checks these declarations against crates/exports_bridge/src/records.rt.
@@ -132,8 +132,8 @@ extern "C" {
         table: *const u32,
         table_len: usize,
         views: usize,
-        cut: *const u8,
-        cut_len: usize,
+        down: *const u8,
+        down_len: usize,
         records: *const u32,
         records_len: usize,
         sent: *const u32,
@@ -282,7 +282,8 @@ pub fn deliver_end(v: Lent, r: Receiver, message: &[u32], b: EndBuffers, out: &m
 #[derive(Clone, Copy)]
 pub struct Known<'a> {
     pub views: usize,
-    pub cut: &'a [u8],
+    /// A flag for each end: any number but 0 says that it is down.
+    pub down: &'a [u8],
     pub records: &'a [u32],
     pub sent: &'a [u32],
     pub held: &'a [u32],
@@ -300,8 +301,8 @@ pub fn port(v: Lent, k: Known, bridge: usize, dest: usize, out: &mut [u32]) -> u
             v.table.as_ptr(),
             v.table.len(),
             k.views,
-            k.cut.as_ptr(),
-            k.cut.len(),
+            k.down.as_ptr(),
+            k.down.len(),
             k.records.as_ptr(),
             k.records.len(),
             k.sent.as_ptr(),

@@ -30,7 +30,7 @@ pub struct Case {
     pub sent: Vec<u32>,
     pub held: Vec<u32>,
     pub out: Vec<u32>,
-    pub cut: Vec<u8>,
+    pub down: Vec<u8>,
     pub records: Vec<u32>,
     /// Whether the lent table holds the view's distances. No call is told.
     pub true_distances: bool,
@@ -76,7 +76,7 @@ impl Case {
     /// Makes the compiled call, on copies of the buffers.
     pub fn run(&self, which: Call) -> Outcome {
         let [costs, table] = [&self.lent.costs, &self.lent.table].map(|b| Buffer::of(b));
-        let [ends, cut] = [&self.lent.ends, &self.cut].map(|b| Buffer::of(b));
+        let [ends, down] = [&self.lent.ends, &self.down].map(|b| Buffer::of(b));
         let [message, records] = [&self.message, &self.records].map(|b| Buffer::of(b));
         let [mut fields, mut sent, mut held, mut out] = [&self.fields, &self.sent, &self.held, &self.out].map(|b| Buffer::of(b));
         let Arguments { bridges, links, .. } = self.lent;
@@ -92,7 +92,7 @@ impl Case {
             Call::Deliver => call::deliver_end(v, receiver, message.numbers(), b, out_numbers),
             Call::Port => {
                 let known =
-                    Known { views: self.views, cut: cut.numbers(), records: records.numbers(), sent: b.sent, held: b.held };
+                    Known { views: self.views, down: down.numbers(), records: records.numbers(), sent: b.sent, held: b.held };
                 call::port(v, known, self.bridge, self.dest, out_numbers)
             }
         };
@@ -100,7 +100,7 @@ impl Case {
         unchanged(&costs, &self.lent.costs);
         unchanged(&table, &self.lent.table);
         unchanged(&message, &self.message);
-        unchanged(&cut, &self.cut);
+        unchanged(&down, &self.down);
         unchanged(&records, &self.records);
         Outcome { reply, fields: fields.back(), sent: sent.back(), held: held.back(), out: out.back() }
     }

@@ -191,7 +191,8 @@ impl Case {
                 *records = records_in(&fields, &self.sent, &self.held, end, self.lent.bridges);
             }
         }
-        network.cut = self.cut[..self.lent.links].iter().map(|&flag| flag != 0).collect();
+        let flags = self.down.chunks_exact(2).take(self.lent.links);
+        network.down = flags.map(|flags| [flags[0], flags[1]].map(|flag| flag != 0)).collect();
         network
     }
 
@@ -201,23 +202,54 @@ impl Case {
         o.out[0] = port.map_or(NONE, |end| end.link as u32);
         let failed = failed_conditions(&network, self.bridge, self.dest);
         assert!(flaw.is_some() || port.is_none() != failed.is_empty(), "{port:?} beside {failed:?}");
-        let ends = &network.ends[self.bridge];
-        match failed[..] {
-            [] => vec![
-                if ends.len() > 1 { "open, of several links" } else { "open, of one link" },
-                if ends.iter().any(|end| network.cut[end.link]) { "open beside a cut link" } else { "open with every link up" },
-                if self.true_distances { "open by true distances" } else { "open by other distances" },
-            ],
+        let mut events = match failed[..] {
+            [] => self.open_events(&network),
             [one] => vec![one],
             _ => vec!["closed by several"],
-        }
+        };
+        events.extend(self.far_events(&network, &failed));
+        events
+    }
+
+    fn open_events(&self, network: &Network) -> Vec<&'static str> {
+        let ends = &network.ends[self.bridge];
+        let up = ends.iter().all(|&end| network.is_up(end));
+        vec![
+            if ends.len() > 1 { "open, of several links" } else { "open, of one link" },
+            if up { "open with every own end up" } else { "open beside an own end that is down" },
+            if self.true_distances { "open by true distances" } else { "open by other distances" },
+        ]
+    }
+
+    /// What a look at the far ends, which the choice does not take, would turn round.
+    fn far_events(&self, network: &Network, failed: &[&str]) -> Vec<&'static str> {
+        let Some(chosen) = chosen(network, self.bridge, self.dest) else { return Vec::new() };
+        let own = network.distance(self.bridge, self.dest);
+        let is_low = |end: &&End| network.records[end.link][end.side].sent[self.dest] <= own;
+        let far_up = |end: &End| network.is_up(end.far());
+        let low: Vec<&End> = network.ends[self.bridge].iter().filter(|&&end| end != chosen).filter(is_low).collect();
+        let events = [
+            ("open, the far end down", failed.is_empty() && !far_up(&chosen)),
+            ("open, a low limit where only the far end is up", failed.is_empty() && low.iter().any(|end| far_up(end))),
+            ("closed by OwnEnd alone, the far end up", failed == [OWN_END] && far_up(&chosen)),
+            ("closed by SentOnOther alone, no far end up", failed == [SENT_ON_OTHER] && !low.iter().any(|end| far_up(end))),
+        ];
+        events.into_iter().filter(|event| event.1).map(|event| event.0).collect()
     }
 }
 
+/// The bridge's end of its chosen link, if it has one.
+fn chosen(network: &Network, bridge: usize, dest: usize) -> Option<End> {
+    (network.distance(bridge, dest) != NONE).then(|| network.chosen(bridge, dest)).flatten()
+}
+
+pub(crate) const OWN_END: &str = "closed by OwnEnd alone";
+const SENT_ON_OTHER: &str = "closed by SentOnOther alone";
+
 /// Every condition of the forwarding rule that fails for a bridge, to be counted.
-fn failed_conditions(network: &Network, bridge: usize, dest: usize) -> Vec<&'static str> {
+pub(crate) fn failed_conditions(network: &Network, bridge: usize, dest: usize) -> Vec<&'static str> {
     let own = network.distance(bridge, dest);
-    let chosen = if own == NONE { None } else { network.chosen(bridge, dest) };
+    let chosen = chosen(network, bridge, dest);
     let mut conditions = vec![
         ("closed by Destination alone", bridge == dest),
         ("closed by NoPath alone", own == NONE),
@@ -226,14 +258,14 @@ fn failed_conditions(network: &Network, bridge: usize, dest: usize) -> Vec<&'sta
     if let Some(chosen) = chosen {
         let records = &network.records[chosen.link][chosen.side];
         let nothing_held = records.held == Held::Nothing;
-        let blocks = |end: &&End| !network.cut[end.link] && network.records[end.link][end.side].sent[dest] <= own;
+        let blocks = |end: &&End| network.is_up(**end) && network.records[end.link][end.side].sent[dest] <= own;
         let blocking: Vec<&End> = network.ends[bridge].iter().filter(blocks).collect();
         conditions.extend([
-            ("closed by Cut alone", network.cut[chosen.link]),
+            (OWN_END, !network.is_up(chosen)),
             ("closed by NothingHeld alone", nothing_held),
             ("closed by HeldAbove alone", !nothing_held && records.held_limit(&network.map, chosen, dest) > own),
             ("closed by SentOnChosen alone", blocking.contains(&&chosen)),
-            ("closed by SentOnOther alone", blocking.iter().any(|&&end| end != chosen)),
+            (SENT_ON_OTHER, blocking.iter().any(|&&end| end != chosen)),
         ]);
     }
     conditions.into_iter().filter(|condition| condition.1).map(|condition| condition.0).collect()

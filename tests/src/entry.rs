@@ -125,7 +125,7 @@ impl Case {
 
     fn port_causes(&self, causes: &mut Causes) {
         add(causes, "no such bridge", self.bridge >= self.lent.bridges);
-        add(causes, "flags short", self.cut.len() < FLAGS);
+        add(causes, "flags short", self.down.len() < FLAGS);
         add(causes, "records short", self.records.len() < RECORDS);
         let ends = if is_link_count(self.lent.links) { 2 * self.lent.links } else { 0 };
         for (end, record) in self.records.chunks_exact(RECORD).take(RECORDS / RECORD).enumerate() {

@@ -2,6 +2,7 @@
 
 use crate::view::NONE;
 use reference::distances::plus;
+use reference::forwarding::PathEnd;
 use reference::map::{End, Map};
 use reference::network::Network;
 use reference::records::{offer, offers, Answer, Bridge, Held, Message, Records};
@@ -24,19 +25,28 @@ pub enum Flaw {
     AgreedKeepsDiscarded,
     // of the forwarding choice
     SentOnChosenOnly,
-    SentOfCutLinks,
+    SentOfDownEnds,
+    SentByFarEnds,
     SentMayBeEqual,
     HeldMustBeBelow,
     HoldingIgnored,
     HighestLink,
-    // of sends, cuts and taking out
+    OwnEndIgnored,
+    FarEndShuts,
+    // of paths
+    FrameNeedsNoFarEnd,
+    // of sends, deliveries, cuts and taking out
     ClearsOnSending,
+    SendsByFarEnd,
+    DeliversBySender,
     CutForgets,
+    CutsBothEnds,
+    RestoresBothEnds,
     LatestKeepsPlace,
 }
 
 /// Those that calls of layer 3 notice.
-pub const FLAWS: [Flaw; 17] = [
+pub const FLAWS: [Flaw; 25] = [
     Flaw::SentMayBeEqual,
     Flaw::ClearsOnSending,
     Flaw::SentOnChosenOnly,
@@ -51,9 +61,17 @@ pub const FLAWS: [Flaw; 17] = [
     Flaw::NotedDiscards,
     Flaw::AgreedKeepsDiscarded,
     Flaw::LatestKeepsPlace,
-    Flaw::SentOfCutLinks,
+    Flaw::SentOfDownEnds,
     Flaw::HeldMustBeBelow,
     Flaw::HighestLink,
+    Flaw::FrameNeedsNoFarEnd,
+    Flaw::SendsByFarEnd,
+    Flaw::DeliversBySender,
+    Flaw::CutsBothEnds,
+    Flaw::SentByFarEnds,
+    Flaw::RestoresBothEnds,
+    Flaw::OwnEndIgnored,
+    Flaw::FarEndShuts,
 ];
 
 /// A link end, its bridge, and its records before a call.
@@ -120,42 +138,67 @@ impl Flaw {
 
 // ---- the forwarding choice
 
+const OF_CHOICES: [Flaw; 8] = [
+    Flaw::SentOnChosenOnly,
+    Flaw::SentOfDownEnds,
+    Flaw::SentByFarEnds,
+    Flaw::SentMayBeEqual,
+    Flaw::HeldMustBeBelow,
+    Flaw::HighestLink,
+    Flaw::OwnEndIgnored,
+    Flaw::FarEndShuts,
+];
+
 /// What is asked about a destination, by a network in which the right choice is the wrong one of the flaw. It is put back afterwards.
 pub fn ask<T>(flaw: Option<Flaw>, network: &mut Network, dest: usize, question: impl FnOnce(&Network) -> T) -> T {
-    let Some(flaw) = flaw.filter(|flaw| flaw.is_of_choices()) else { return question(network) };
-    let (records, ends) = (network.records.clone(), network.ends.clone());
+    let Some(flaw) = flaw.filter(|flaw| OF_CHOICES.contains(flaw)) else { return question(network) };
+    let (records, ends, down) = (network.records.clone(), network.ends.clone(), network.down.clone());
     for bridge in 0..network.map.bridge_count() {
         flaw.spoil_choice(network, bridge, dest);
     }
     let answer = question(network);
-    (network.records, network.ends) = (records, ends);
+    (network.records, network.ends, network.down) = (records, ends, down);
     answer
 }
 
-impl Flaw {
-    fn is_of_choices(self) -> bool {
-        use Flaw::{HeldMustBeBelow, HighestLink, SentMayBeEqual, SentOfCutLinks, SentOnChosenOnly};
-        matches!(self, SentOnChosenOnly | SentOfCutLinks | SentMayBeEqual | HeldMustBeBelow | HighestLink)
+/// Where a path ends. By the flaw a frame crosses a link by its port alone.
+pub fn path(flaw: Option<Flaw>, network: &Network, start: usize, dest: usize) -> PathEnd {
+    if flaw != Some(Flaw::FrameNeedsNoFarEnd) {
+        return network.path(start, dest);
     }
+    let mut end = PathEnd { last: start, hops: 0 };
+    while end.last != dest && end.hops + 1 < network.map.bridge_count() {
+        let Some(port) = network.port(end.last, dest) else { break };
+        end = PathEnd { last: network.map.bridge_at(port.far()), hops: end.hops + 1 };
+    }
+    end
+}
 
+impl Flaw {
     fn spoil_choice(self, network: &mut Network, bridge: usize, dest: usize) {
         if self == Flaw::HighestLink {
             network.ends[bridge].reverse();
         }
         let own = network.distance(bridge, dest);
         let Some(chosen) = (own != NONE).then(|| network.chosen(bridge, dest)).flatten() else { return };
+        if self == Flaw::OwnEndIgnored {
+            network.down[chosen.link][chosen.side] = false;
+        }
         let ends = network.ends[bridge].clone();
-        let least = ends.iter().map(|end| network.records[end.link][end.side].sent[dest]).min();
+        let tested = ends.iter().filter(|end| self == Flaw::SentOfDownEnds || network.is_up(end.far()));
+        let least = tested.map(|end| network.records[end.link][end.side].sent[dest]).min().unwrap_or(NONE);
         for end in ends {
+            let far_up = network.is_up(end.far());
             let records = &mut network.records[end.link][end.side];
             let held = records.held_limit(&network.map, end, dest);
             let sent = &mut records.sent[dest];
             match self {
                 Flaw::SentOnChosenOnly if end != chosen => *sent = NONE,
-                Flaw::SentOfCutLinks => *sent = least.expect("the bridge has an end"),
+                Flaw::SentOfDownEnds | Flaw::SentByFarEnds => *sent = least,
                 Flaw::SentMayBeEqual if *sent == own => *sent += 1,
                 // of this row only the destination's limit is asked for
                 Flaw::HeldMustBeBelow if held == own => records.held = Held::Limits(vec![own + 1; dest + 1]),
+                Flaw::FarEndShuts if end == chosen && !far_up => records.held = Held::Limits(vec![NONE; dest + 1]),
                 _ => {}
             }
         }

@@ -6,7 +6,7 @@ use crate::list_call::{List, COUNTS, MOST_EVENTS};
 use crate::model::{Call, Model};
 use crate::network_call::{ANSWER, ROWS};
 use crate::network_entry::{holds_bench, is_turned_down, needed};
-use crate::network_event::event;
+use crate::network_event::{end_of, events};
 use crate::network_numbers::{compare, compare_buffer, expect, put_bench};
 use crate::plan_bytes::first_event;
 use std::mem::replace;
@@ -77,8 +77,9 @@ fn expect_calls(model: &mut Model, list: &mut List, met: &mut Met) -> (u8, Stop)
             met.note_times("no room for a refused event", model.clone().call(call).is_err().into());
             break (0, Stop::Room);
         };
+        let at = end_of(&model.network, call);
         let outcome = expect(model, call, &mut list.lent);
-        met.note(event(call, &outcome));
+        events(&model.network, call, at, &outcome).into_iter().for_each(|event| met.note(event));
         if let Err(number) = outcome {
             met.note_times("the last event refused", (rest.len() == length).into());
             break (number, Stop::Refused);

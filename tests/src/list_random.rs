@@ -9,14 +9,16 @@ use crate::network_run::Run;
 use crate::plan_bytes::{event_field, field};
 use crate::random::Random;
 
-/// A link is cut that a message is on, and then mostly comes an event that the cut does not allow.
+/// An end of a link is cut that a message is on, and then mostly comes an event that depends on which end it is.
 fn cut(random: &mut Random, run: &mut Run) -> Result<(), String> {
-    let Some(link) = run.any_link(random) else { return run.call(Call::Cut(0)) };
-    let send = Call::Send(pair(run.map(), link)[0], link);
-    run.call(send)?;
-    run.call(Call::Cut(link))?;
+    let Some(link) = run.any_link(random) else { return run.call(Call::Cut(0, 0)) };
+    let both = pair(run.map(), link);
+    let [sender, cut, other] = [0; 3].map(|_: u8| random.pick(&both));
+    run.call(Call::Send(sender, link))?;
+    run.call(Call::Cut(cut, link))?;
     let last = run.network().flight.len().max(1) - 1;
-    run.call(random.pick(&[Call::Cut(link), Call::Restore(link), send, Call::Deliver(last), Call::Repeat(last)]))
+    let at_ends = [Call::Cut(other, link), Call::Restore(other, link), Call::Send(other, link)];
+    run.call(random.pick(&[&at_ends[..], &[Call::Deliver(last), Call::Repeat(last)]].concat()))
 }
 
 /// Calls by a run, most of which are accepted.
@@ -34,10 +36,10 @@ fn make_calls(random: &mut Random, run: &mut Run) -> Result<(), String> {
                 run.call(Call::Path(start, dest))?;
             }
             16..=17 => cut(random, run)?,
-            // mostly over a link that the bridge is not at
-            18 => {
-                let [bridge, link] = [run.map().bridge_count(), run.map().link_count().max(1)].map(|n| random.below(n));
-                run.call(Call::Send(bridge, link))?;
+            // mostly about a link that the bridge is not at, or about no bridge
+            18..=19 => {
+                let [bridge, link] = [run.map().bridge_count() + 1, run.map().link_count().max(1)].map(|n| random.below(n));
+                run.call(random.pick(&[Call::Send, Call::Cut, Call::Restore])(bridge, link))?;
             }
             _ => {
                 let call = random_call(random, run.network());

@@ -1,6 +1,6 @@
 //! The calls of layer 3 by reference/. A flaw is an error put around them, for tests of the tests.
 
-use crate::flaw::{ask, Flaw, Site};
+use crate::flaw::{ask, path, Flaw, Site};
 use crate::view::NONE;
 use reference::forwarding::PathEnd;
 use reference::network::Network;
@@ -10,8 +10,8 @@ use reference::refusal::Refusal;
 #[derive(Clone, Copy, Debug, PartialEq)]
 pub enum Call {
     Update(usize, usize),
-    Cut(usize),
-    Restore(usize),
+    Cut(usize, usize),
+    Restore(usize, usize),
     Send(usize, usize),
     Deliver(usize),
     Repeat(usize),
@@ -54,7 +54,11 @@ impl Model {
 
     pub fn call(&mut self, call: Call) -> Result<Reply, Refusal> {
         let before = self.flaw.map(|flaw| (flaw, Before::of(&self.network)));
-        let reply = self.right_call(call)?;
+        let turned = self.flaw.and_then(|flaw| flaw.turned_link(call, &self.network));
+        self.turn(turned);
+        let reply = self.right_call(call);
+        self.turn(turned);
+        let reply = reply?;
         Ok(match before {
             None => reply,
             Some((flaw, before)) => flaw.spoil(call, before, reply, &mut self.network),
@@ -65,8 +69,8 @@ impl Model {
         let network = &mut self.network;
         match call {
             Call::Update(bridge, view) => network.update(byte(bridge), byte(view)).map(|()| Reply::Done),
-            Call::Cut(link) => network.set_cut(byte(link), true).map(|()| Reply::Done),
-            Call::Restore(link) => network.set_cut(byte(link), false).map(|()| Reply::Done),
+            Call::Cut(bridge, link) => network.set_end(byte(bridge), byte(link), true).map(|()| Reply::Done),
+            Call::Restore(bridge, link) => network.set_end(byte(bridge), byte(link), false).map(|()| Reply::Done),
             Call::Send(bridge, link) => network.send(byte(bridge), byte(link)).map(|()| Reply::Done),
             Call::Lose(place) => network.lose(byte(place)).map(|()| Reply::Done),
             Call::Deliver(place) => self.receive(place, Network::deliver),
@@ -83,8 +87,16 @@ impl Model {
             }
             Call::Path(start, dest) => {
                 let (start, dest) = (network.bridge(byte(start))?, network.bridge(byte(dest))?);
-                Ok(Reply::Path(self.ask(dest, |network| network.path(start, dest))))
+                let flaw = self.flaw;
+                Ok(Reply::Path(self.ask(dest, |network| path(flaw, network, start, dest))))
             }
+        }
+    }
+
+    /// The flags of a link's ends change places.
+    fn turn(&mut self, link: Option<usize>) {
+        if let Some(link) = link {
+            self.network.down[link].reverse();
         }
     }
 
@@ -124,6 +136,17 @@ impl Before {
 }
 
 impl Flaw {
+    /// The link of which the call looks at the other end.
+    fn turned_link(self, call: Call, network: &Network) -> Option<usize> {
+        match (self, call) {
+            (Flaw::SendsByFarEnd, Call::Send(_, link)) => Some(link).filter(|&link| link < network.map.link_count()),
+            (Flaw::DeliversBySender, Call::Deliver(place) | Call::Repeat(place)) => {
+                network.flight.get(place).map(|message| message.from.link)
+            }
+            _ => None,
+        }
+    }
+
     /// The reply to a call that the reference has carried out, and the network after it.
     fn spoil(self, call: Call, mut before: Before, reply: Reply, network: &mut Network) -> Reply {
         match (self, call) {
@@ -131,12 +154,14 @@ impl Flaw {
                 let end = network.map.end_at(bridge, link).expect("an accepted send is of an end");
                 network.records[link][end.side].sent = offers(&network.map, end, network.bridges[bridge].view);
             }
-            (Flaw::CutForgets, Call::Cut(link)) => {
-                for records in &mut network.records[link] {
-                    records.held = Held::Nothing;
-                    records.sent.fill(NONE);
-                }
+            (Flaw::CutForgets, Call::Cut(bridge, link)) => {
+                let end = network.map.end_at(bridge, link).expect("an accepted cut is of an end");
+                let records = &mut network.records[link][end.side];
+                records.held = Held::Nothing;
+                records.sent.fill(NONE);
             }
+            (Flaw::CutsBothEnds, Call::Cut(_, link)) => network.down[link] = [true; 2],
+            (Flaw::RestoresBothEnds, Call::Restore(_, link)) => network.down[link] = [false; 2],
             (Flaw::LatestKeepsPlace, Call::Deliver(place) | Call::Lose(place)) => {
                 before.flight.swap_remove(place);
                 network.flight = before.flight;

@@ -5,19 +5,20 @@ use crate::guard::Buffer;
 use crate::model::Call;
 
 /// The lengths that the calls need.
-pub const BENCH: usize = 388;
+pub const BENCH: usize = 420;
 pub const COSTS: usize = 1024;
 pub const LIMITS: usize = 1024;
 pub const MESSAGES: usize = 320;
 pub const ANSWER: usize = 3;
 pub const ROWS: usize = 32;
 
-/// Where each part of a bench begins. Before them stand the counts of bridges, links, views and messages in flight.
+/// Where each part of a bench begins. Before them stand the counts of bridges, links, views and messages in flight. The last part has a
+/// flag for each end: any number but 0 says that it is down.
 pub const ENDS: usize = 4;
 pub const VIEW: usize = 68;
 pub const NUMBER: usize = 84;
 pub const RECORDS: usize = 100;
-pub const CUT: usize = 356;
+pub const DOWN: usize = 356;
 
 // A slice passes as a pointer and then a length. Nothing checks these declarations against crates/exports_network/src/network.rt.
 extern "C" {
@@ -43,8 +44,8 @@ extern "C" {
         bridge: usize,
         view: usize,
     ) -> u8;
-    fn bench_net_cut(bench: *mut u32, bench_len: usize, link: usize) -> u8;
-    fn bench_net_restore(bench: *mut u32, bench_len: usize, link: usize) -> u8;
+    fn bench_net_cut(bench: *mut u32, bench_len: usize, bridge: usize, link: usize) -> u8;
+    fn bench_net_restore(bench: *mut u32, bench_len: usize, bridge: usize, link: usize) -> u8;
     fn bench_net_send(
         bench: *mut u32,
         bench_len: usize,
@@ -192,8 +193,8 @@ impl Lent {
     pub fn call(&mut self, call: Call) -> u8 {
         match call {
             Call::Update(bridge, view) => self.update(bridge, view),
-            Call::Cut(link) => self.cut(link),
-            Call::Restore(link) => self.restore(link),
+            Call::Cut(bridge, link) => self.cut(bridge, link),
+            Call::Restore(bridge, link) => self.restore(bridge, link),
             Call::Send(bridge, link) => self.send(bridge, link),
             Call::Deliver(place) => self.delivery(Delivery::Deliver, place),
             Call::Repeat(place) => self.delivery(Delivery::Repeat, place),
@@ -204,14 +205,14 @@ impl Lent {
         }
     }
 
-    fn cut(&mut self, link: usize) -> u8 {
+    fn cut(&mut self, bridge: usize, link: usize) -> u8 {
         let b = self.bench.numbers_mut();
-        unsafe { bench_net_cut(b.as_mut_ptr(), b.len(), link) }
+        unsafe { bench_net_cut(b.as_mut_ptr(), b.len(), bridge, link) }
     }
 
-    fn restore(&mut self, link: usize) -> u8 {
+    fn restore(&mut self, bridge: usize, link: usize) -> u8 {
         let b = self.bench.numbers_mut();
-        unsafe { bench_net_restore(b.as_mut_ptr(), b.len(), link) }
+        unsafe { bench_net_restore(b.as_mut_ptr(), b.len(), bridge, link) }
     }
 
     fn send(&mut self, bridge: usize, link: usize) -> u8 {

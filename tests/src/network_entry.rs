@@ -4,13 +4,13 @@
 use crate::call::RECORD;
 use crate::entry::{is_bridge_count, is_link_count, is_received_view, is_view, is_view_count};
 use crate::model::Call;
-use crate::network_call::{Lent, ANSWER, BENCH, COSTS, CUT, ENDS, LIMITS, MESSAGES, NUMBER, RECORDS, ROWS, VIEW};
+use crate::network_call::{Lent, ANSWER, BENCH, COSTS, DOWN, ENDS, LIMITS, MESSAGES, NUMBER, RECORDS, ROWS, VIEW};
 use crate::records_numbers::{Field, BYTES, NUMBERS, RECORD_FIELDS};
 use crate::view::MAX_COST;
 use reference::network::MOST_IN_FLIGHT;
 
 pub fn reads_views(call: Call) -> bool {
-    !matches!(call, Call::Cut(_) | Call::Restore(_) | Call::Send(..) | Call::Lose(_))
+    !matches!(call, Call::Cut(..) | Call::Restore(..) | Call::Send(..) | Call::Lose(_))
 }
 
 pub fn reads_messages(call: Call) -> bool {
@@ -52,7 +52,7 @@ pub fn field_at(place: usize) -> Option<Field> {
         _ if (ENDS..VIEW).contains(&place) => Some(("end", BYTES)),
         _ if (VIEW..NUMBER).contains(&place) => Some(("view", BYTES)),
         _ if (NUMBER..RECORDS).contains(&place) => Some(("number", NUMBERS)),
-        _ if (RECORDS..CUT).contains(&place) => RECORD_FIELDS.get((place - RECORDS) % RECORD).copied(),
+        _ if (RECORDS..DOWN).contains(&place) => RECORD_FIELDS.get((place - RECORDS) % RECORD).copied(),
         _ => None,
     }
 }
@@ -98,7 +98,7 @@ fn costs_in_range(lent: &Lent) -> bool {
 fn records_in_range(lent: &Lent) -> bool {
     let [bridges, links, views, flight] = lent.counts();
     let bench = lent.bench.numbers();
-    let mut records = bench[RECORDS..CUT].chunks_exact(RECORD).take(2 * links);
+    let mut records = bench[RECORDS..DOWN].chunks_exact(RECORD).take(2 * links);
     flight <= MOST_IN_FLIGHT
         && bench[VIEW..VIEW + bridges].iter().all(|&view| is_view(view, views))
         && records.all(|record| is_received_view(record[1], views))

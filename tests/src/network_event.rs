@@ -1,7 +1,10 @@
 //! What is counted of calls on layer 3 and their outcomes.
 
+use crate::case_expected::{failed_conditions, OWN_END};
 use crate::model::{Call, Reply};
 use reference::forwarding::PathEnd;
+use reference::map::End;
+use reference::network::Network;
 
 /// An error is document 01's number.
 pub type Outcome = Result<Reply, u8>;
@@ -29,15 +32,17 @@ pub fn event(call: Call, outcome: &Outcome) -> String {
 }
 
 /// All that `event` says.
-pub const EVENTS: [&str; 37] = [
+pub const EVENTS: [&str; 39] = [
     "update done",
     "update 10",
     "update 16",
     "cut done",
     "cut 10",
+    "cut 11",
     "cut 12",
     "restore done",
     "restore 10",
+    "restore 11",
     "restore 12",
     "send done",
     "send 10",
@@ -68,3 +73,119 @@ pub const EVENTS: [&str; 37] = [
     "path stops on the way",
     "path 10",
 ];
+
+// ---- the ends of links
+
+/// The end that a call is about: the bridge's of a send, a cut or a restore, and the receiver's of a message in flight.
+pub fn end_of(network: &Network, call: Call) -> Option<End> {
+    match call {
+        Call::Send(bridge, link) | Call::Cut(bridge, link) | Call::Restore(bridge, link) => {
+            let link = Some(link).filter(|&link| link < network.map.link_count())?;
+            network.map.end_at(bridge, link)
+        }
+        Call::Deliver(place) | Call::Repeat(place) | Call::Lose(place) => {
+            network.flight.get(place).map(|message| message.from.far())
+        }
+        _ => None,
+    }
+}
+
+/// What is counted of a call about this end that has left this network: what `event` says, and what it was like at the ends of the link.
+pub fn events(network: &Network, call: Call, end: Option<End>, outcome: &Outcome) -> Vec<String> {
+    let event = event(call, outcome);
+    let more = at_ends(network, call, end, outcome).map(|more| match outcome {
+        Ok(Reply::Answered(..)) => format!("{} done, {more}", name(call)),
+        _ => format!("{event}, {more}"),
+    });
+    [Some(event), more].into_iter().flatten().collect()
+}
+
+fn at_ends(network: &Network, call: Call, end: Option<End>, outcome: &Outcome) -> Option<&'static str> {
+    match (call, outcome) {
+        (Call::Send(bridge, link) | Call::Cut(bridge, link) | Call::Restore(bridge, link), Err(10)) => {
+            Some(missing(bridge < network.map.bridge_count(), link < network.map.link_count()))
+        }
+        (Call::Lose(_), Ok(_)) => end.map(|end| if network.is_up(end) { "end up" } else { "end down" }),
+        (_, Ok(Reply::Done | Reply::Answered(..)) | Err(12 | 13)) => {
+            end.map(|end| if network.is_up(end.far()) { "far end up" } else { "far end down" })
+        }
+        (Call::Port(bridge, dest), Ok(Reply::Port(port))) => of_port(network, bridge, dest, port.is_some()),
+        (Call::Report(dest), Ok(Reply::Report(rows))) => {
+            let dies = |bridge: usize| rows[bridge].1.is_some() && network.hop(bridge, dest).is_none();
+            (0..rows.len()).any(dies).then_some("frame dies")
+        }
+        (Call::Path(_, dest), Ok(Reply::Path(end))) if end.last != dest => Some(of_stop(network, end.last, dest)),
+        _ => None,
+    }
+}
+
+fn missing(has_bridge: bool, has_link: bool) -> &'static str {
+    match (has_bridge, has_link) {
+        (false, false) => "no such bridge and link",
+        (false, true) => "no such bridge",
+        _ => "no such link",
+    }
+}
+
+fn of_port(network: &Network, bridge: usize, dest: usize, open: bool) -> Option<&'static str> {
+    match network.hop(bridge, dest) {
+        Some(_) => Some("frame crosses"),
+        None if open => Some("frame dies"),
+        None => (failed_conditions(network, bridge, dest) == [OWN_END]).then_some("own end down"),
+    }
+}
+
+/// Why a path stops at a bridge.
+fn of_stop(network: &Network, last: usize, dest: usize) -> &'static str {
+    match (network.port(last, dest), network.hop(last, dest)) {
+        (None, _) => "no port",
+        (_, None) => "frame dies",
+        _ => "by its length",
+    }
+}
+
+/// What `events` says beside what `event` says, from any network that a fresh one leads to.
+pub const END_EVENTS: [&str; 39] = [
+    "cut done, far end up",
+    "cut done, far end down",
+    "cut 10, no such bridge",
+    "cut 10, no such link",
+    "cut 10, no such bridge and link",
+    "cut 12, far end up",
+    "cut 12, far end down",
+    "restore done, far end up",
+    "restore done, far end down",
+    "restore 10, no such bridge",
+    "restore 10, no such link",
+    "restore 10, no such bridge and link",
+    "restore 12, far end up",
+    "restore 12, far end down",
+    "send done, far end up",
+    "send done, far end down",
+    "send 10, no such bridge",
+    "send 10, no such link",
+    "send 10, no such bridge and link",
+    "send 13, far end up",
+    "send 13, far end down",
+    "deliver done, far end up",
+    "deliver done, far end down",
+    "deliver 13, far end up",
+    "deliver 13, far end down",
+    "repeat done, far end up",
+    "repeat done, far end down",
+    "repeat 13, far end up",
+    "repeat 13, far end down",
+    "lose done, end up",
+    "lose done, end down",
+    "port open, frame crosses",
+    "port open, frame dies",
+    "port closed, own end down",
+    "report with ports, frame dies",
+    "path stops at once, no port",
+    "path stops at once, frame dies",
+    "path stops on the way, no port",
+    "path stops on the way, frame dies",
+];
+
+/// What it says besides from one that no fresh one leads to.
+pub const STOPPED_BY_LENGTH: &str = "path stops on the way, by its length";

@@ -1,9 +1,10 @@
-//! Networks that no fresh one leads to: any views, numbers, records, limits, cuts and messages in flight that are in range.
+//! Networks that no fresh one leads to: any views, numbers, records, limits, ends that are down and messages in flight that are in range.
 
 use crate::call::RECORD;
-use crate::network_call::{Lent, CUT, NUMBER, RECORDS, VIEW};
+use crate::network_call::{Lent, DOWN, NUMBER, RECORDS, VIEW};
 use crate::network_random::{fill, pair};
 use crate::random::Random;
+use crate::random_case::random_down;
 use crate::records_numbers::{NO_VIEW, NUMBERS};
 use crate::view::NONE;
 use reference::map::Map;
@@ -49,7 +50,7 @@ pub fn hand_in(random: &mut Random, map: &Map, lent: &mut Lent) -> Limits {
     limits
 }
 
-/// Where it is loose, something is held at each end, and no link is cut.
+/// Where it is loose, something is held at each end, and few ends are down.
 fn hand_in_bench(random: &mut Random, map: &Map, lent: &mut Lent, numbers: Numbers, loose: bool) {
     let (links, views) = (map.link_count(), map.view_count());
     let b = lent.bench.numbers_mut();
@@ -58,14 +59,15 @@ fn hand_in_bench(random: &mut Random, map: &Map, lent: &mut Lent, numbers: Numbe
         b[VIEW + y] = random.below(views) as u32;
         b[NUMBER + y] = numbers.number(random);
     }
-    for record in b[RECORDS..CUT].chunks_exact_mut(RECORD).take(2 * links) {
+    for record in b[RECORDS..DOWN].chunks_exact_mut(RECORD).take(2 * links) {
         let seen = if random.one_in(4) { NO_VIEW } else { random.below(views) as u32 };
         let [highest, discarded] = [0; 2].map(|_: u32| numbers.number(random));
         let holding = if loose { 1 } else { random.pick(&[0, 1, 1, 2, NONE]) };
         record.copy_from_slice(&[highest, seen, discarded, holding]);
     }
-    for flag in &mut b[CUT..CUT + links] {
-        *flag = if loose { 0 } else { random.pick(&[0, 0, 0, 0, 1, 3]) };
+    for flags in b[DOWN..].chunks_exact_mut(2).take(links) {
+        let down = random_down(random, if loose { 10 } else { 2 });
+        flags.copy_from_slice(&down.map(|down| if down { random.pick(&[1, 3, NONE]) } else { 0 }));
     }
 }
 
@@ -83,9 +85,12 @@ fn hand_in_limits(random: &mut Random, map: &Map, lent: &mut Lent, limits: Limit
     for end in 0..2 * map.link_count() {
         let bridge = pair(map, end / 2)[end % 2];
         let view = lent.bench.numbers()[VIEW + bridge] as usize;
+        let down = lent.bench.numbers()[DOWN + end] != 0;
         for dest in 0..map.bridge_count() {
             let distance = map.distance(view, dest, bridge);
-            lent.sent.numbers_mut()[16 * end + dest] = limit(random, limits, NONE, distance);
+            // at an end that is down any sent limit lets a frame pass
+            let passes = if down { random.pick(&[0, NONE]) } else { NONE };
+            lent.sent.numbers_mut()[16 * end + dest] = limit(random, limits, passes, distance);
             lent.held.numbers_mut()[16 * end + dest] = limit(random, limits, 1, distance);
         }
     }

@@ -4,7 +4,7 @@
 use crate::call::RECORD;
 use crate::guard::{Buffer, Guard};
 use crate::model::{byte, Call, Model, Reply};
-use crate::network_call::{Lent, BENCH, CUT, NUMBER, RECORDS, VIEW};
+use crate::network_call::{Lent, BENCH, DOWN, NUMBER, RECORDS, VIEW};
 use crate::network_entry::{reads_messages, reads_views};
 use crate::network_random::map_of;
 use crate::records_numbers::{agreement_number, answer_numbers, fields_of, put_fresh_limits, put_limits, records_in, NO_VIEW};
@@ -37,7 +37,7 @@ pub fn network_in(lent: &Lent) -> Network {
         let records = records_in(fields, lent.sent.numbers(), lent.held.numbers(), end, bridges);
         network.records[end / 2][end % 2] = records;
     }
-    network.cut = b[CUT..CUT + links].iter().map(|&flag| flag != 0).collect();
+    network.down = b[DOWN..].chunks_exact(2).take(links).map(|flags| [flags[0], flags[1]].map(|flag| flag != 0)).collect();
     network.flight = lent.messages.numbers().chunks_exact(5).take(flight).map(message_in).collect();
     network
 }
@@ -69,18 +69,18 @@ fn put_network(network: &Network, call: Call, lent: &mut Lent) {
 
 /// All flags of a bench that is written are 0 or 1, also those past its counts.
 pub(crate) fn put_bench(network: &Network, b: &mut [u32]) {
-    let holding = (RECORDS..CUT).skip(RECORD - 1).step_by(RECORD);
-    holding.chain(CUT..BENCH).for_each(|flag| b[flag] = u32::from(b[flag] != 0));
+    let holding = (RECORDS..DOWN).skip(RECORD - 1).step_by(RECORD);
+    holding.chain(DOWN..BENCH).for_each(|flag| b[flag] = u32::from(b[flag] != 0));
     b[3] = network.flight.len() as u32;
     for (y, bridge) in network.bridges.iter().enumerate() {
         b[VIEW + y] = bridge.view as u32;
         b[NUMBER + y] = bridge.number.into();
     }
-    for (record, records) in b[RECORDS..CUT].chunks_exact_mut(RECORD).zip(network.records.iter().flatten()) {
+    for (record, records) in b[RECORDS..DOWN].chunks_exact_mut(RECORD).zip(network.records.iter().flatten()) {
         record.copy_from_slice(&fields_of(records));
     }
-    for (flag, &cut) in b[CUT..BENCH].iter_mut().zip(&network.cut) {
-        *flag = cut.into();
+    for (flag, &down) in b[DOWN..BENCH].iter_mut().zip(network.down.iter().flatten()) {
+        *flag = down.into();
     }
 }
 
@@ -90,8 +90,8 @@ pub fn put_fresh(map: &Map, lent: &mut Lent) -> Network {
     let b = lent.bench.numbers_mut();
     b[VIEW..NUMBER].fill(0);
     b[NUMBER..RECORDS].fill(1);
-    b[RECORDS..CUT].chunks_exact_mut(RECORD).for_each(|record| record.copy_from_slice(&[0, NO_VIEW, 0, 0]));
-    b[CUT..BENCH].fill(0);
+    b[RECORDS..DOWN].chunks_exact_mut(RECORD).for_each(|record| record.copy_from_slice(&[0, NO_VIEW, 0, 0]));
+    b[DOWN..BENCH].fill(0);
     put_bench(&network, b);
     for &end in network.ends.iter().flatten() {
         let records = &network.records[end.link][end.side];

@@ -4,7 +4,7 @@ use crate::call::RECORD;
 use crate::entry::too_great;
 use crate::guard::Buffer;
 use crate::model::Call;
-use crate::network_call::{Lent, BENCH, COSTS, CUT, ENDS, LIMITS, MESSAGES, NUMBER, RECORDS, ROWS, VIEW};
+use crate::network_call::{Lent, BENCH, COSTS, DOWN, ENDS, LIMITS, MESSAGES, NUMBER, RECORDS, ROWS, VIEW};
 use crate::network_entry::{field_at, is_counted};
 use crate::random::Random;
 use crate::random_case::any_record;
@@ -70,8 +70,8 @@ pub fn random_map(random: &mut Random) -> Map {
 pub(crate) fn fill(random: &mut Random, b: &mut [u32], from: usize) {
     b[from..NUMBER].iter_mut().for_each(|x| *x = random.below(BYTES as usize) as u32);
     b[NUMBER..RECORDS].iter_mut().for_each(|x| *x = random.below(NUMBERS as usize) as u32);
-    b[RECORDS..CUT].chunks_exact_mut(RECORD).for_each(|record| record.copy_from_slice(&any_record(random)));
-    b[CUT..BENCH].iter_mut().for_each(|flag| *flag = random.number());
+    b[RECORDS..DOWN].chunks_exact_mut(RECORD).for_each(|record| record.copy_from_slice(&any_record(random)));
+    b[DOWN..BENCH].iter_mut().for_each(|flag| *flag = random.number());
 }
 
 /// The map's counts, ends and costs in buffers with unlike numbers in all other places, those of a bench such that they fit. Some
@@ -190,8 +190,8 @@ fn loose_call(random: &mut Random, network: &Network) -> Call {
     let dest = loose(random, counts[0]);
     match random.below(10) {
         0 => Call::Update(bridge, view),
-        1 => Call::Cut(link),
-        2 => Call::Restore(link),
+        1 => Call::Cut(bridge, link),
+        2 => Call::Restore(bridge, link),
         3 => Call::Send(bridge, link),
         4 => Call::Deliver(place),
         5 => Call::Repeat(place),
@@ -202,25 +202,39 @@ fn loose_call(random: &mut Random, network: &Network) -> Call {
     }
 }
 
+/// A restore of an end that is down, or now and then of any.
+fn restore(random: &mut Random, network: &Network) -> Call {
+    let ends = network.ends.concat();
+    let down: Vec<End> = ends.iter().copied().filter(|&end| !network.is_up(end)).collect();
+    let any = down.is_empty() || random.one_in(4);
+    let end = random.pick(if any { &ends } else { &down });
+    Call::Restore(network.map.bridge_at(end), end.link)
+}
+
 /// A call that is mostly accepted.
 pub fn random_call(random: &mut Random, network: &Network) -> Call {
     let map = &network.map;
     let [bridge, dest, view] = [map.bridge_count(), map.bridge_count(), map.view_count()].map(|count| random.below(count));
+    let any_bridge = loose(random, map.bridge_count());
     if map.link_count() == 0 {
         return if random.one_in(4) { Call::Update(bridge, view) } else { loose_call(random, network) };
     }
     let link = random.below(map.link_count());
-    let sender = random.pick(&pair(map, link));
+    let on_link = random.pick(&pair(map, link));
     let place = random.below(network.flight.len().max(1));
     match random.below(100) {
-        0..=24 => Call::Send(sender, link),
+        0..=24 => Call::Send(on_link, link),
         25..=47 => Call::Deliver(place),
         48..=55 => Call::Repeat(place),
         56..=59 => Call::Lose(place),
         60..=68 => Call::Update(bridge, view),
-        69..=73 => Call::Cut(link),
-        74..=79 => Call::Restore(link),
-        80..=82 => Call::Port(bridge, dest),
+        69..=73 => Call::Cut(on_link, link),
+        74..=77 => restore(random, network),
+        // mostly at a link that the bridge is not at
+        78 => Call::Cut(bridge, link),
+        79 => Call::Restore(bridge, link),
+        80..=81 => random.pick(&[Call::Send, Call::Cut, Call::Restore])(any_bridge, link),
+        82 => Call::Port(bridge, dest),
         83..=84 => Call::Report(dest),
         85..=86 => Call::Path(bridge, dest),
         87 => Call::Send(bridge, link),

@@ -3,7 +3,7 @@
 use crate::count::Met;
 use crate::model::{Call, Model, Reply};
 use crate::network_call::Lent;
-use crate::network_event::{event, Outcome};
+use crate::network_event::{end_of, events, Outcome};
 use crate::network_handed::hand_in;
 use crate::network_numbers::{compare, expect, is_question, network_in, put_fresh};
 use crate::network_random::{lend, pair};
@@ -75,6 +75,7 @@ impl Run {
         let clearings = self.model.clearings;
         self.trail.push(call);
         self.asked += usize::from(is_question(call));
+        let end = end_of(self.network(), call);
         let outcome = expect(&mut self.model, call, &mut self.expected);
         let reply = self.found.call(call);
         let number = outcome.as_ref().err().copied().unwrap_or(0);
@@ -82,7 +83,7 @@ impl Run {
             return Err(format!("{call:?}: reply {reply} in place of {number}"));
         }
         compare(&self.expected, &self.found).map_err(|difference| format!("{call:?}: {difference}"))?;
-        self.met.note(event(call, &outcome));
+        events(&self.model.network, call, end, &outcome).into_iter().for_each(|event| self.met.note(event));
         self.met.note_times("clearing", self.model.clearings - clearings);
         Ok(outcome)
     }
@@ -96,10 +97,10 @@ impl Run {
         self.trail.len() - self.asked
     }
 
-    /// A deliver or repeat of any message that no cut stops.
+    /// A deliver or repeat of any message whose receiver's end is up.
     fn receive(&mut self, random: &mut Random) -> Result<bool, String> {
         let network = self.network();
-        let open = |p: &usize| !network.cut[network.flight[*p].from.link];
+        let open = |p: &usize| network.is_up(network.flight[*p].from.far());
         let places: Vec<usize> = (0..network.flight.len()).filter(open).collect();
         let Some(&first) = places.first() else { return Ok(false) };
         let place = if random.one_in(2) { first } else { random.pick(&places) };
@@ -110,10 +111,10 @@ impl Run {
         Ok(true)
     }
 
-    /// Every bridge sends over each of its uncut links, and all is delivered that no cut stops.
+    /// Every bridge sends over each of its links that is up at its end, and all is delivered where the receiver's end is up.
     pub fn round(&mut self, random: &mut Random) -> Result<(), String> {
         let mut ends: Vec<End> = self.network().ends.concat();
-        ends.retain(|end| !self.network().cut[end.link]);
+        ends.retain(|&end| self.network().is_up(end));
         for k in (1..ends.len()).rev() {
             ends.swap(k, random.below(k + 1));
         }
@@ -136,7 +137,7 @@ impl Run {
     pub fn flood(&mut self, random: &mut Random) -> Result<(), String> {
         for _ in 0..70 {
             let Some(link) = self.any_link(random) else { return Ok(()) };
-            self.call(Call::Send(pair(self.map(), link)[0], link))?;
+            self.call(Call::Send(random.pick(&pair(self.map(), link)), link))?;
         }
         Ok(())
     }
@@ -174,14 +175,59 @@ impl Run {
         Ok(())
     }
 
-    /// A link fails, and all the others agree on another view.
+    /// An end of a link goes down, and for a while calls are about this link. Then the end is restored, or the other one goes down too,
+    /// or neither.
+    pub fn pull(&mut self, random: &mut Random) -> Result<(), String> {
+        let Some(link) = self.any_link(random) else { return Ok(()) };
+        let both = pair(self.map(), link);
+        let pulled = random.pick(&both);
+        self.call(Call::Send(random.pick(&both), link))?;
+        self.call(Call::Cut(pulled, link))?;
+        for _ in 0..4 + random.below(8) {
+            let call = self.call_at(random, link);
+            self.call(call)?;
+        }
+        match random.below(6) {
+            0..=1 => self.call(Call::Restore(pulled, link)),
+            2 => self.call(Call::Cut(across(self.map(), link, pulled), link)),
+            _ => Ok(()),
+        }
+    }
+
+    /// A call that depends on which of the link's ends are down.
+    fn call_at(&self, random: &mut Random, link: usize) -> Call {
+        let bridge = random.pick(&pair(self.map(), link));
+        let flight = &self.network().flight;
+        let over = (0..flight.len()).filter(|&place| flight[place].from.link == link).collect::<Vec<_>>();
+        let place = if over.is_empty() { 0 } else { random.pick(&over) };
+        let [dest, view] = [self.map().bridge_count(), self.map().view_count()].map(|count| random.below(count));
+        match random.below(16) {
+            0..=2 => Call::Send(bridge, link),
+            3..=5 => Call::Deliver(place),
+            6..=8 => Call::Repeat(place),
+            9 => Call::Lose(place),
+            10 => Call::Update(bridge, view),
+            11 => Call::Cut(bridge, link),
+            12 => Call::Restore(bridge, link),
+            13 => Call::Port(bridge, dest),
+            14 => Call::Report(dest),
+            _ => Call::Path(bridge, dest),
+        }
+    }
+
+    /// An end of a link fails, and the bridges agree on another view; half of the time then the far end, and they agree anew.
     pub fn fail_link(&mut self, random: &mut Random) -> Result<(), String> {
         let Some(link) = self.any_link(random) else { return Ok(()) };
-        self.call(Call::Cut(link))?;
-        self.move_to_one_view(random)?;
-        self.round(random)?;
-        self.round(random)?;
-        self.reports()
+        let [a, b] = pair(self.map(), link);
+        let order = if random.one_in(2) { [a, b] } else { [b, a] };
+        for &bridge in &order[..1 + random.below(2)] {
+            self.call(Call::Cut(bridge, link))?;
+            self.move_to_one_view(random)?;
+            self.round(random)?;
+            self.round(random)?;
+            self.reports()?;
+        }
+        Ok(())
     }
 
     /// Two messages of one end, with an update between, are delivered the later one first.
@@ -200,7 +246,7 @@ impl Run {
         Ok(())
     }
 
-    /// All bridges on one view that has no cost for a cut link, then two rounds.
+    /// All bridges on one view, every link up at both ends or, if the view has no cost for it, down at both, then two rounds.
     pub fn settle(&mut self, random: &mut Random) -> Result<(), String> {
         let view = random.below(self.map().view_count());
         let bridges = self.map().bridge_count();
@@ -208,18 +254,29 @@ impl Run {
             self.call(Call::Update(bridge, view))?;
         }
         for link in 0..self.map().link_count() {
-            if self.network().cut[link] && self.map().cost(view, link) != 0 {
-                self.call(Call::Restore(link))?;
-            }
+            self.even_out(random, view, link)?;
         }
         self.round(random)?;
         self.round(random)?;
         self.met.note("settled");
+        self.met.note_times("settled around a cut link", self.network().down.contains(&[true; 2]).into());
         self.survey()?;
         for (start, dest) in pairs_of(bridges).filter(|(start, dest)| start != dest) {
             let distance = self.map().distance(view, dest, start);
             if distance != NONE {
                 self.is_shortest(view, start, dest, distance)?;
+            }
+        }
+        Ok(())
+    }
+
+    /// Both ends of the link go up, or where the view has no cost for it, both may go down.
+    fn even_out(&mut self, random: &mut Random, view: usize, link: usize) -> Result<(), String> {
+        let flags = self.network().down[link];
+        let down = self.map().cost(view, link) == 0 && random.one_in(2);
+        for (bridge, was) in pair(self.map(), link).into_iter().zip(flags) {
+            if was != down {
+                self.call(if down { Call::Cut(bridge, link) } else { Call::Restore(bridge, link) })?;
             }
         }
         Ok(())
@@ -233,8 +290,8 @@ impl Run {
         }
         let (mut at, mut sum) = (start, 0);
         while at != dest {
-            let Ok(Reply::Port(Some(link))) = self.ask(Call::Port(at, dest))? else {
-                return Err(format!("settled in view {view}: {at} does not forward to {dest}"));
+            let Some(link) = self.port(at, dest)?.filter(|&link| self.is_crossed(link)) else {
+                return Err(format!("settled in view {view}: no frame of {at} gets on to {dest}"));
             };
             sum += self.map().cost(view, link);
             at = across(self.map(), link, at);
@@ -246,16 +303,29 @@ impl Run {
         }
     }
 
-    /// Every report, port and path; ports close no ring, and paths end by themselves.
+    fn port(&mut self, bridge: usize, dest: usize) -> Result<Option<usize>, String> {
+        match self.ask(Call::Port(bridge, dest))? {
+            Ok(Reply::Port(port)) => Ok(port),
+            other => Err(format!("port of {bridge} for {dest}: {other:?}")),
+        }
+    }
+
+    /// Does a frame that is sent over the link get across: both ends are up.
+    fn is_crossed(&self, link: usize) -> bool {
+        self.network().down[link] == [false; 2]
+    }
+
+    /// Every report, port and path; the hops of frames close no ring, and paths end by themselves.
     pub fn survey(&mut self) -> Result<(), String> {
         let bridges = self.map().bridge_count();
         for dest in 0..bridges {
             self.call(Call::Report(dest))?;
-            let mut next = Vec::new();
-            for bridge in 0..bridges {
-                let Ok(Reply::Port(port)) = self.ask(Call::Port(bridge, dest))? else { return Err("no port".into()) };
-                next.push(port.map(|link| across(self.map(), link, bridge)));
-            }
+            let ports = (0..bridges).map(|bridge| self.port(bridge, dest)).collect::<Result<Vec<_>, _>>()?;
+            let hop = |(bridge, port): (usize, Option<usize>)| {
+                let link = port.filter(|&link| self.is_crossed(link))?;
+                Some(across(self.map(), link, bridge))
+            };
+            let next: Vec<Option<usize>> = ports.into_iter().enumerate().map(hop).collect();
             for start in 0..bridges {
                 let outcome = self.ask(Call::Path(start, dest))?;
                 ends_by_itself(&next, start, dest, &outcome)?;
@@ -287,7 +357,7 @@ fn ends_by_itself(next: &[Option<usize>], start: usize, dest: usize, outcome: &O
         at = to;
         hops += 1;
         if hops >= next.len() {
-            return Err(format!("the ports for {dest} close a ring that {start} leads to"));
+            return Err(format!("the frames for {dest} go round a ring that {start} leads to"));
         }
     }
     let end = PathEnd { last: at, hops };

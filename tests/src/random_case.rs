@@ -80,10 +80,21 @@ pub fn any_record(random: &mut Random) -> [u32; RECORD] {
     [received, view, discarded, random.number()]
 }
 
-/// The flags of the links: none is cut, or some, or many.
+/// Which ends of a link are down: neither, but once in `rarely` times one of them, or now and then both.
+pub(crate) fn random_down(random: &mut Random, rarely: usize) -> [bool; 2] {
+    let first = random.one_in(2);
+    match random.below(4) {
+        _ if !random.one_in(rarely) => [false; 2],
+        0 => [true; 2],
+        _ => [first, !first],
+    }
+}
+
+/// The flags of the ends: none is down, or some, or many.
 fn random_flags(random: &mut Random) -> Vec<u8> {
-    let rarely = random.pick(&[3, 12, 12, 1_000]);
-    (0..FLAGS).map(|_| if random.one_in(rarely) { 1 + random.below(255) as u8 } else { 0 }).collect()
+    let rarely = random.pick(&[2, 6, 12, 1_000]);
+    let down: Vec<[bool; 2]> = (0..FLAGS / 2).map(|_| random_down(random, rarely)).collect();
+    down.concat().into_iter().map(|down| if down { 1 + random.below(255) as u8 } else { 0 }).collect()
 }
 
 /// A bridge and a destination: any, or such that some link of the bridge leads on. In an arbitrary table they may be the same.
@@ -95,7 +106,7 @@ fn random_bridges(random: &mut Random, lent: &Arguments) -> (usize, usize) {
     for _ in 0..20 {
         let end = random.below(2 * lent.links);
         let (near, far) = (usize::from(lent.ends[end]), usize::from(lent.ends[end ^ 1]));
-        let dest = if random.one_in(4) { near } else { random.below(lent.bridges) };
+        let dest = if random.one_in(3) { near } else { random.below(lent.bridges) };
         let cost = lent.costs[end / 2];
         if cost != 0 && lent.table[16 * far + dest].checked_add(cost) == Some(lent.table[16 * near + dest]) {
             return (near, dest);
@@ -105,14 +116,18 @@ fn random_bridges(random: &mut Random, lent: &Arguments) -> (usize, usize) {
 }
 
 impl Case {
-    /// The limits of every end near the distances, and any numbers elsewhere.
+    /// The limits of every end near the distances, and any numbers elsewhere. Low sent limits are frequent where an end is down.
     fn random_limits(&mut self, random: &mut Random, rarely: usize) {
         for end in 0..2 * self.lent.links {
             let bridge = usize::from(self.lent.ends[end]);
+            let low = match (self.down[end], self.down[end ^ 1]) {
+                (0, 0) => rarely,
+                (0, _) => rarely.min(4),
+                _ => 2,
+            };
             for dest in 0..self.lent.bridges {
                 let distance = self.lent.table[16 * bridge + dest];
-                let rarely = if self.cut[end / 2] != 0 { 2 } else { rarely };
-                self.sent[16 * end + dest] = random_sent(random, rarely, distance, self.lent.costs[end / 2]);
+                self.sent[16 * end + dest] = random_sent(random, low, distance, self.lent.costs[end / 2]);
                 self.held[16 * end + dest] = random_held(random, rarely, distance);
             }
         }
@@ -128,7 +143,7 @@ impl Case {
             record.copy_from_slice(&if counted { known(random) } else { any_record(random) });
         }
         self.records = longer(random, &self.records);
-        self.cut.extend(spare(random).into_iter().map(|x| x as u8));
+        self.down.extend(spare(random).into_iter().map(|x| x as u8));
     }
 }
 
@@ -173,7 +188,7 @@ pub fn random_case(random: &mut Random, which: Call) -> Case {
         sent: random.numbers(LIMITS),
         held: random.numbers(LIMITS),
         out: random.numbers(if which.answer_length() == 1 { 1 } else { MESSAGE }),
-        cut: random_flags(random),
+        down: random_flags(random),
         records: vec![0; RECORDS],
         views,
         view,
@@ -229,7 +244,7 @@ impl Case {
             17 if with_views && with_record => self.view = (self.views + random.below(256 - self.views)) as u8,
             18 if with_views && with_record => self.fields[1] = unknown,
             19 if which == Call::Deliver => self.message[0] = other,
-            20 if which == Call::Port => self.cut.truncate(random.below(FLAGS)),
+            20 if which == Call::Port => self.down.truncate(random.below(FLAGS)),
             21 if which == Call::Port && random.one_in(2) => self.records.truncate(random.below(RECORDS)),
             21 if which == Call::Port && links > 0 => self.records[RECORD * end + 1] = unknown,
             _ => return false,

@@ -21,7 +21,7 @@ struct Network {
     records: Vec<u32>,
     sent: Vec<u32>,
     held: Vec<u32>,
-    cut: [u8; FLAGS],
+    down: [u8; FLAGS],
 }
 
 impl Network {
@@ -32,7 +32,7 @@ impl Network {
             table
         });
         let (records, sent, held) = (vec![7; RECORDS], vec![7; LIMITS], vec![7; LIMITS]);
-        let mut network = Network { tables, view: [0; BRIDGES], number: [1; BRIDGES], records, sent, held, cut: [0; FLAGS] };
+        let mut network = Network { tables, view: [0; BRIDGES], number: [1; BRIDGES], records, sent, held, down: [0; FLAGS] };
         for end in 0..6 {
             let (lent, buffers) = network.lend(0, end);
             assert_eq!(call::start_end(lent, end, buffers), 0);
@@ -104,7 +104,7 @@ impl Network {
     fn port(&self, bridge: usize) -> Option<usize> {
         let view = usize::from(self.view[bridge]);
         let lent = Lent { bridges: BRIDGES, links: 3, ends: &ENDS, costs: &COSTS[view], table: &self.tables[view] };
-        let known = Known { views: 2, cut: &self.cut, records: &self.records, sent: &self.sent, held: &self.held };
+        let known = Known { views: 2, down: &self.down, records: &self.records, sent: &self.sent, held: &self.held };
         let mut out = [0];
         assert_eq!(call::port(lent, known, bridge, DEST, &mut out), 0);
         (out[0] != NONE).then_some(out[0] as usize)
@@ -114,10 +114,11 @@ impl Network {
         [0, 1, 2].map(|bridge| self.port(bridge))
     }
 
-    /// The last bridge of the path, and the links crossed.
+    /// The last bridge of the path, and the links crossed: a frame crosses where both ends are up.
     fn path(&self, start: usize) -> (usize, usize) {
         let (mut at, mut hops) = (start, 0);
-        while let Some(link) = self.port(at).filter(|_| hops < BRIDGES) {
+        let is_crossed = |link: usize| self.down[2 * link..2 * link + 2] == [0; 2];
+        while let Some(link) = self.port(at).filter(|&link| hops < BRIDGES && is_crossed(link)) {
             at = usize::from(ENDS[Network::end(at, link) ^ 1]);
             hops += 1;
         }
@@ -139,7 +140,7 @@ fn known_examples_e1_to_e8() {
     let old = network.message(1, 1);
     assert_eq!(old[1], 1);
 
-    network.cut[0] = 1;
+    network.down[..2].fill(1);
     network.update(1, 1);
     assert_eq!(network.distance(1), 4, "E4");
     assert_eq!(network.port(1), None, "E4");
@@ -160,6 +161,21 @@ fn known_examples_e1_to_e8() {
     let before = [network.records.clone(), network.sent.clone(), network.held.clone()];
     assert_eq!(network.deliver(1, 1, old), STALE, "E8");
     assert_eq!([network.records, network.sent, network.held], before, "E8");
+}
+
+/// After E3 each end of link 0 down by itself: bridge 1's own end shuts its port, bridge 0's does not.
+#[test]
+fn a_port_looks_at_its_own_end() {
+    let mut network = Network::fresh();
+    network.round();
+    network.round();
+    for (end, flag, ports, path) in [(0, 1, [None, Some(0), Some(1)], (1, 1)), (1, 255, [None, None, Some(1)], (1, 1))] {
+        network.down[end] = flag;
+        assert_eq!(network.ports(), ports, "end {end}");
+        assert_eq!(network.path(2), path, "end {end}");
+        network.down[end] = 0;
+    }
+    assert_eq!(network.path(2), (0, 2));
 }
 
 /// A message of another view is noted, and held once the receiver goes to that view.

@@ -5,7 +5,7 @@ use bench_tests::flaw::{Flaw, FLAWS};
 use bench_tests::list_expected::run_both;
 use bench_tests::list_random::random_list;
 use bench_tests::model::Call;
-use bench_tests::network_event::EVENTS;
+use bench_tests::network_event::{END_EVENTS, EVENTS, STOPPED_BY_LENGTH};
 use bench_tests::network_random::{random_call, random_map};
 use bench_tests::network_run::{pairs_of, Run};
 use bench_tests::random::Random;
@@ -47,7 +47,7 @@ fn every_call_on_networks_handed_in() {
     }
     let limits = ["Any limits", "Loose limits", "Near limits"];
     let stops = ["list to End", "list to NoEvent", "list to Room", "list to Refused"];
-    met.only("handed in", &[&EVENTS[..], &["clearing"], &limits, &stops].concat(), 50);
+    met.only("handed in", &[&EVENTS[..], &END_EVENTS, &["clearing", STOPPED_BY_LENGTH], &limits, &stops].concat(), 50);
 }
 
 /// One network is enough to notice most of the flaws.

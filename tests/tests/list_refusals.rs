@@ -7,7 +7,7 @@ use bench_tests::list_expected::{answer_size, compare_lists, list_needs, run_bot
 use bench_tests::list_random::{accepted_calls, bytes_of, list_of, random_start, refused_call};
 use bench_tests::model::{Call, Model};
 use bench_tests::network_call::Lent;
-use bench_tests::network_event::{event, EVENTS};
+use bench_tests::network_event::{end_of, events, END_EVENTS, EVENTS};
 use bench_tests::network_random::{damage, random_call, random_map, widened, OUT_OF_RANGE};
 use bench_tests::network_run::Run;
 use bench_tests::plan_bytes::{event_field, field};
@@ -121,7 +121,8 @@ fn refused_calls(random: &mut Random, model: &Model) -> BTreeMap<String, (Call, 
         let call = random_call(random, &model.network);
         let outcome = model.clone().call(call).map_err(|refusal| refusal.number());
         if let (Some(_), Err(number)) = (event_field(call), &outcome) {
-            found.insert(event(call, &outcome), (call, *number));
+            let kinds = events(&model.network, call, end_of(&model.network, call), &outcome);
+            found.extend(kinds.into_iter().map(|kind| (kind, (call, *number))));
         }
     }
     found
@@ -156,8 +157,8 @@ fn the_first_event_is_refused() {
             met.note(kind);
         }
     }
-    let is_refused = |event: &&str| event.ends_with(|last: char| last.is_ascii_digit()) && !event.starts_with("port");
-    met.only("first", &EVENTS.into_iter().filter(is_refused).collect::<Vec<_>>(), 20);
+    let is_refused = |event: &&str| event.contains(|digit: char| digit.is_ascii_digit()) && !event.starts_with("port");
+    met.only("first", &EVENTS.into_iter().chain(END_EVENTS).filter(is_refused).collect::<Vec<_>>(), 20);
 }
 
 // ---- without an event

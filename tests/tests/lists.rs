@@ -12,7 +12,7 @@ use bench_tests::list_expected::{answer_size, compare_lists, run_both, Stop};
 use bench_tests::list_random::{accepted_calls, bytes_of, list_of, random_start, refused_call};
 use bench_tests::model::{Call, Model};
 use bench_tests::network_call::Lent;
-use bench_tests::network_event::EVENTS;
+use bench_tests::network_event::{END_EVENTS, EVENTS};
 use bench_tests::network_known::triangle;
 use bench_tests::network_random::{map_of, random_map};
 use bench_tests::network_run::Run;
@@ -54,8 +54,11 @@ fn random_lists() {
         ["after many events", "after few events", "at once"].map(|when| STOPS.map(|stop| format!("{stop:?} {when}")));
     let others = ["Most after many events", "the last event refused", "no room for a refused event"].map(String::from);
     // a list has no ports
-    let events = EVENTS.into_iter().filter(|event| !event.starts_with("port")).map(String::from).collect::<Vec<_>>();
-    met.only("lists", &[&events[..], &many, &few, &none, &others].concat(), 10);
+    let without_ports = |events: &[&str]| {
+        events.iter().filter(|event| !event.starts_with("port")).map(|event| event.to_string()).collect::<Vec<_>>()
+    };
+    let [events, at_ends] = [without_ports(&EVENTS), without_ports(&END_EVENTS)];
+    met.only("lists", &[&events[..], &at_ends, &many, &few, &none, &others].concat(), 10);
     met.at_least("lists", &events, 40);
     met.at_least("lists", &[few, none].concat(), 100);
 }
@@ -158,7 +161,8 @@ fn expect_answers(lent: &Lent, events: &[u8], count: usize, answers: &[u32], beh
     assert_eq!(list.answers.back(), room, "{behind:?}");
 }
 
-/// The plan of document 01, and behind it no such link, no message, no such bridge, a field of the setup, an event cut short, or nothing.
+/// The plan of document 01, and behind it no such link, no such bridge, an end that is up already, no message, a cut or a restore of one
+/// byte, a field of the setup, an event cut short, or nothing.
 // catches an error that the lists of src/list_expected.rs would share with the compiled ones
 #[test]
 fn known_plan() {
@@ -167,7 +171,10 @@ fn known_plan() {
     let events = [11, 0, 1, 0, 5, 0, 2, 0, 0, 6, 0, 1, 0, 11, 0, 1, 0];
     let answers = [0, NONE, 5, NONE, 1, 1, 0, 0, NONE, 5, 0];
     expect_answers(&run.found, &events, 4, &answers, &[], 0);
-    for (first, reply) in [(&[9, 0, 1, 1][..], 10), (&[7, 0, 1, 0], 15), (&[12, 0, 2, 1, 2], 10), (&[1, 0, 1, 2], 0)] {
+    let refused: [(&[u8], u8); 5] =
+        [(&[9, 0, 2, 0, 1], 10), (&[9, 0, 2, 2, 0], 10), (&[10, 0, 2, 1, 0], 12), (&[7, 0, 1, 0], 15), (&[12, 0, 2, 1, 2], 10)];
+    let unread: [(&[u8], u8); 3] = [(&[9, 0, 1, 0], 0), (&[10, 0, 1, 0], 0), (&[1, 0, 1, 2], 0)];
+    for (first, reply) in refused.into_iter().chain(unread) {
         expect_answers(&run.found, &events, 4, &answers, &[first, &events].concat(), reply);
     }
     (1..4).for_each(|length| expect_answers(&run.found, &events, 4, &answers, &events[..length], 0));
@@ -190,13 +197,17 @@ const ROUND: [(Call, &[u32]); 12] = [
 ];
 
 /// E3 to E8 after two rounds, and a message that is noted.
-const EXAMPLES: [(Call, &[u32]); 30] = [
+const EXAMPLES: [(Call, &[u32]); 36] = [
     (Call::Report(0), &[0, NONE, 1, 0, 2, 1]),
     (Call::Path(2, 0), &[0, 0, 2]),
     (Call::Path(0, 0), &[0, 0, 0]),
     // of number 1, and late
     (Call::Send(1, 1), &[]),
-    (Call::Cut(0), &[]),
+    (Call::Cut(0, 0), &[]),
+    // the frame dies
+    (Call::Report(0), &[0, NONE, 1, 0, 2, 1]),
+    (Call::Path(2, 0), &[1, 1, 1]),
+    (Call::Cut(1, 0), &[]),
     (Call::Update(1, 1), &[]),
     (Call::Report(0), &[0, NONE, 4, NONE, 2, 1]),
     (Call::Path(2, 0), &[1, 1, 1]),
@@ -218,8 +229,11 @@ const EXAMPLES: [(Call, &[u32]); 30] = [
     (Call::Send(0, 2), &[]),
     (Call::Repeat(0), &[2, 1, 0]),
     (Call::Lose(0), &[]),
-    (Call::Restore(0), &[]),
+    (Call::Restore(0, 0), &[]),
+    (Call::Path(0, 1), &[1, 0, 0]),
     (Call::Report(1), &[1, 0, 0, NONE, 1, 1]),
+    (Call::Restore(1, 0), &[]),
+    (Call::Path(0, 1), &[0, 0, 1]),
     (Call::Report(2), &[2, 0, 1, 1, 0, NONE]),
     (Call::Path(0, 2), &[0, 0, 2]),
     (Call::Path(1, 2), &[0, 0, 1]),
@@ -399,7 +413,7 @@ fn fields_right_and_wrong() -> Vec<Vec<u8>> {
 #[test]
 fn fields_of_every_tag() {
     let setup = [field(1, &[3]), field(2, &[0, 1]), field(2, &[1, 2]), field(3, &[0, 0, 0, 1, 0, 0, 0, 1])];
-    let events = [field(5, &[0, 0]), field(5, &[1, 1]), field(9, &[1])];
+    let events = [field(5, &[0, 0]), field(5, &[1, 1]), field(9, &[1, 1])];
     let start = [setup.concat(), events.concat()].concat();
     let (map, at) = setup_of(&start).expect("a setup");
     let random = &mut Random::new(170_000_000);

@@ -3,11 +3,11 @@
 use bench_tests::count::Met;
 use bench_tests::flaw::FLAWS;
 use bench_tests::model::Call;
-use bench_tests::network_event::EVENTS;
+use bench_tests::network_event::{END_EVENTS, EVENTS, STOPPED_BY_LENGTH};
 use bench_tests::network_random::{pair, random_call, random_map};
 use bench_tests::network_run::{pairs_of, Run};
 use bench_tests::random::Random;
-use reference::map::Map;
+use reference::map::{End, Map};
 use reference::network::Network;
 
 const LISTS: u64 = 600;
@@ -24,7 +24,7 @@ fn fail(label: &str, run: &Run, difference: &str) -> ! {
 /// A list from a fresh network.
 fn fresh_list(random: &mut Random, run: &mut Run, calls: usize) -> Result<(), String> {
     while run.events() < calls {
-        match random.below(160) {
+        match random.below(180) {
             0 => run.settle(random)?,
             1 => run.flood(random)?,
             2..=3 => run.round(random)?,
@@ -33,6 +33,7 @@ fn fresh_list(random: &mut Random, run: &mut Run, calls: usize) -> Result<(), St
             8..=22 => run.agree(random)?,
             23..=25 => run.overtake(random)?,
             26 => run.fail_link(random)?,
+            27..=46 => run.pull(random)?,
             _ => {
                 let call = random_call(random, run.network());
                 run.call(call)?;
@@ -59,10 +60,7 @@ fn handed_in_list(random: &mut Random, run: &mut Run, calls: usize) -> Result<()
     Ok(())
 }
 
-/// Some path stops though the bridge that it stops at forwards.
-fn stopped_by_its_length(network: &Network) -> bool {
-    pairs_of(network.map.bridge_count()).any(|(start, dest)| network.port(network.path(start, dest).last, dest).is_some())
-}
+const AROUND_CUT: &str = "settled around a cut link";
 
 /// Of the plans.
 const FEATURES: [&str; 7] = ["2 bridges", "16 bridges", "no link", "32 links", "parallel links", "32 views", "one view"];
@@ -97,10 +95,13 @@ fn fresh_lists(part: u64) {
         met.note_times("64 in flight", (run.met.times("send 14") > 0).into());
     }
     let label = format!("fresh lists, part {part}");
-    let mut frequent: Vec<&str> = EVENTS.into_iter().filter(|&event| event != LAST_NUMBER).collect();
+    let mut frequent: Vec<&str> = EVENTS.into_iter().filter(|&event| event != LAST_NUMBER).chain(END_EVENTS).collect();
     frequent.extend(["clearing", "settled", "parallel links"]);
-    met.only(&label, &[&frequent[..], &FEATURES, &["64 in flight"]].concat(), 4);
+    met.only(&label, &[&frequent[..], &FEATURES, &["64 in flight", AROUND_CUT]].concat(), 4);
     met.at_least(&label, &frequent, 100);
+    met.at_least(&label, &[AROUND_CUT], 40);
+    let [alone, second] = ["cut done, far end up", "cut done, far end down"].map(|cut| met.times(cut));
+    assert!(alone >= 2 * second, "{label}: {second} of {} cuts are of a second end", alone + second);
 }
 
 #[test]
@@ -131,18 +132,52 @@ fn lists_from_networks_handed_in() {
         let mut random = Random::new(seed);
         let map = random_map(&mut random);
         let mut run = Run::handed_in(&mut random, &map).unwrap_or_else(|difference| panic!("seed {seed}: {difference}\n{map:?}"));
-        let stopped = stopped_by_its_length(run.network());
         if let Err(difference) = handed_in_list(&mut random, &mut run, 120) {
             fail(&format!("seed {seed}"), &run, &difference);
         }
         met.add(&run.met);
-        met.note_times("path stopped by its length", stopped.into());
     }
-    let others = ["clearing", "path stopped by its length", "Any limits", "Loose limits", "Near limits"];
-    met.only("handed in", &[&EVENTS[..], &others].concat(), 50);
+    let others = ["clearing", STOPPED_BY_LENGTH, "Any limits", "Loose limits", "Near limits"];
+    met.only("handed in", &[&EVENTS[..], &END_EVENTS, &others].concat(), 50);
 }
 
 // ---- the tests themselves
+
+/// The steps of a bridge for a destination: its ports, or the hops of its frames.
+type Step = fn(&Network, usize, usize) -> Option<End>;
+
+/// A step of a ring: one of a walk that does not end within as many steps as there are bridges.
+fn step_of_ring(network: &Network, step: Step) -> Option<End> {
+    let bridges = network.map.bridge_count();
+    let next = |at: usize, dest: usize| step(network, at, dest).map(|end| network.map.bridge_at(end.far()));
+    pairs_of(bridges).find_map(|(start, dest)| {
+        let last = (0..bridges).try_fold(start, |at, _| next(at, dest))?;
+        step(network, last, dest)
+    })
+}
+
+/// A survey finds each ring that frames go round. One that is broken at the far end of a hop is none, though ports may still close it.
+#[test]
+fn surveys_notice_rings() {
+    let mut met = Met::default();
+    for seed in 60_000_000..60_000_600 {
+        let mut random = Random::new(seed);
+        let map = random_map(&mut random);
+        let mut run = Run::handed_in(&mut random, &map).expect("a network");
+        while let Some(hop) = step_of_ring(run.network(), Network::hop) {
+            let difference = run.survey().expect_err("a ring");
+            assert!(difference.contains("ring"), "seed {seed}: {difference}");
+            met.note("ring of hops");
+            run.make(Call::Cut(map.bridge_at(hop.far()), hop.link));
+        }
+        assert_eq!(run.survey(), Ok(()), "seed {seed}");
+        let of_ports = step_of_ring(run.network(), Network::port).is_some();
+        met.note(if of_ports { "ring of ports alone" } else { "no ring" });
+    }
+    // most rings go to and fro over one link, and then one of the two ports is shut
+    met.only("surveys", &["ring of hops", "ring of ports alone", "no ring"], 3);
+    met.at_least("surveys", &["ring of hops", "no ring"], 40);
+}
 
 type Start = fn(&mut Random, &Map) -> Result<Run, String>;
 type List = fn(&mut Random, &mut Run, usize) -> Result<(), String>;

@@ -2,12 +2,12 @@
 
 use bench_tests::count::Met;
 use bench_tests::model::{Call, Model, Reply};
-use bench_tests::network_call::{Lent, BENCH, ENDS, NUMBER};
+use bench_tests::network_call::{Lent, BENCH, DOWN, ENDS, NUMBER};
 use bench_tests::network_entry::{field_at, is_turned_down, needed};
 use bench_tests::network_event::name;
 use bench_tests::network_known::{known_run, triangle};
 use bench_tests::network_numbers::{compare, expect, put_fresh};
-use bench_tests::network_random::{damage, lend, random_call, random_map, widen, widened, OUT_OF_RANGE};
+use bench_tests::network_random::{damage, lend, map_of, random_call, random_map, widen, widened, OUT_OF_RANGE};
 use bench_tests::network_run::Run;
 use bench_tests::random::Random;
 use bench_tests::view::NONE;
@@ -20,8 +20,8 @@ use reference::records::Answer;
 const KINDS: [Option<Call>; 11] = [
     None,
     Some(Call::Update(0, 0)),
-    Some(Call::Cut(0)),
-    Some(Call::Restore(0)),
+    Some(Call::Cut(0, 0)),
+    Some(Call::Restore(2, 2)),
     Some(Call::Send(0, 0)),
     Some(Call::Deliver(0)),
     Some(Call::Repeat(0)),
@@ -88,7 +88,7 @@ fn short_buffers_are_refused() {
 fn exact_buffers_are_enough() {
     for call in KINDS.into_iter().flatten() {
         let mut run = triangle();
-        run.call(Call::Cut(2)).expect("a cut");
+        run.call(Call::Cut(2, 2)).expect("a cut");
         run.call(Call::Send(0, 0)).expect("a send");
         let mut exact = run.found.clone();
         for (which, length) in needed(Some(call)).into_iter().enumerate() {
@@ -233,7 +233,8 @@ fn known_examples_e2_to_e8() {
     assert_eq!(run.make(Call::Path(2, 0)), Reply::Path(PathEnd { last: 0, hops: 2 }), "E3");
     // of number 1, and late
     run.make(Call::Send(1, 1));
-    run.make(Call::Cut(0));
+    run.make(Call::Cut(0, 0));
+    run.make(Call::Cut(1, 0));
     run.make(Call::Update(1, 1));
     assert_eq!(run.distance_and_port(1, 0), (4, None), "E4");
     assert_eq!(run.make(Call::Path(2, 0)), Reply::Path(PathEnd { last: 1, hops: 1 }), "E4");
@@ -289,18 +290,144 @@ fn the_first_refusal_counts() {
     for _ in 0..64 {
         run.make(Call::Send(0, 0));
     }
-    run.make(Call::Cut(0));
-    run.make(Call::Cut(1));
+    run.make(Call::Cut(1, 0));
+    run.make(Call::Cut(1, 1));
     run.refused(Call::Send(3, 3), 10);
     run.refused(Call::Send(0, 1), 11);
     run.refused(Call::Send(1, 1), 13);
+    run.refused(Call::Send(2, 1), 14);
     run.refused(Call::Send(2, 2), 14);
     run.refused(Call::Deliver(0), 13);
+    run.refused(Call::Repeat(0), 13);
     run.refused(Call::Deliver(64), 15);
-    run.refused(Call::Cut(0), 12);
-    run.refused(Call::Restore(2), 12);
-    run.refused(Call::Cut(3), 10);
+    for (call, so) in [(Call::Cut as fn(usize, usize) -> Call, 1), (Call::Restore, 0)] {
+        for (bridge, link) in [(3, 0), (0, 3), (3, 3), (255, 0), (0, 255), (usize::MAX, 0), (0, usize::MAX)] {
+            run.refused(call(bridge, link), 10);
+        }
+        run.refused(call(2, 0), 11);
+        run.refused(call(0, 1), 11);
+        run.refused(call(so, 0), 12);
+    }
     run.make(Call::Lose(0));
+}
+
+/// Two rounds, so that each bridge forwards.
+fn after_rounds(mut run: Run) -> Run {
+    for _ in 0..2 {
+        run.round(&mut Random::new(3)).expect("a round");
+    }
+    run
+}
+
+fn ends(last: usize, hops: usize) -> Reply {
+    Reply::Path(PathEnd { last, hops })
+}
+
+/// A cut and a restore act on the end that they name, and no other number changes.
+#[test]
+fn a_cut_is_of_one_end() {
+    let mut run = triangle();
+    let mut bench = run.found.bench.numbers().to_vec();
+    let flags = [(0, 0, 0), (1, 0, 1), (1, 1, 2), (2, 1, 3), (0, 2, 4), (2, 2, 5)];
+    for (bridge, link, end) in flags {
+        run.make(Call::Cut(bridge, link));
+        run.refused(Call::Cut(bridge, link), 12);
+        bench[DOWN + end] = 1;
+        assert_eq!(run.found.bench.numbers(), bench, "cut of {bridge} at {link}");
+    }
+    for (bridge, link, end) in flags {
+        run.make(Call::Restore(bridge, link));
+        run.refused(Call::Restore(bridge, link), 12);
+        bench[DOWN + end] = 0;
+        assert_eq!(run.found.bench.numbers(), bench, "restore of {bridge} at {link}");
+    }
+}
+
+/// The bridge that a frame would reach has its end down: the port stays open, and the frame dies.
+#[test]
+fn a_frame_dies_where_only_the_far_end_is_down() {
+    let mut run = after_rounds(triangle());
+    run.make(Call::Cut(0, 0));
+    assert_eq!(run.ports(0), [None, Some(0), Some(1)]);
+    assert_eq!(run.make(Call::Path(2, 0)), ends(1, 1));
+    assert_eq!(run.make(Call::Path(1, 0)), ends(1, 0));
+    // bridge 0's own end is down, and it uses no other link
+    assert_eq!(run.ports(1), [None, None, Some(1)]);
+    run.make(Call::Restore(0, 0));
+    assert_eq!(run.make(Call::Path(2, 0)), ends(0, 2));
+    run.make(Call::Cut(1, 0));
+    assert_eq!(run.ports(0), [None, None, Some(1)]);
+    assert_eq!(run.make(Call::Path(2, 0)), ends(1, 1));
+    assert_eq!(run.make(Call::Path(1, 0)), ends(1, 0));
+    assert_eq!(run.ports(1), [Some(0), None, Some(1)]);
+    assert_eq!(run.make(Call::Path(0, 1)), ends(0, 0));
+}
+
+/// A send needs the sender's end, a delivery and a repeat the receiver's, and a loss neither.
+#[test]
+fn messages_need_one_end() {
+    let mut run = after_rounds(triangle());
+    run.make(Call::Send(0, 0));
+    run.make(Call::Send(1, 0));
+    run.make(Call::Cut(0, 0));
+    run.refused(Call::Send(0, 0), 13);
+    run.make(Call::Send(1, 0));
+    // to bridge 0 over its own end, which is down
+    for place in [1, 2] {
+        run.refused(Call::Deliver(place), 13);
+        run.refused(Call::Repeat(place), 13);
+    }
+    // to bridge 1, whose end is up
+    run.make(Call::Repeat(0));
+    run.make(Call::Deliver(0));
+    run.make(Call::Lose(1));
+    run.make(Call::Cut(1, 0));
+    run.refused(Call::Send(1, 0), 13);
+    run.make(Call::Restore(0, 0));
+    run.make(Call::Deliver(0));
+    run.make(Call::Send(0, 0));
+    run.refused(Call::Deliver(0), 13);
+    run.make(Call::Lose(0));
+}
+
+/// Bridge 1 goes to a view in which it is farther than its sent limit on link 1. That counts as long as its own end there is up.
+#[test]
+fn a_sent_limit_counts_by_the_own_end() {
+    let mut run = after_rounds(known_run([vec![1, 1, 3], vec![5, 1, 0]]));
+    run.make(Call::Update(0, 1));
+    run.make(Call::Update(1, 1));
+    assert_eq!(run.tell(0, 0), (Answer::Agreed, 2, 1));
+    assert_eq!(run.found.sent.numbers()[16 * 2], 2);
+    let calls =
+        [(Call::Cut(2, 1), None), (Call::Cut(1, 1), Some(0)), (Call::Restore(2, 1), Some(0)), (Call::Restore(1, 1), None)];
+    assert_eq!(run.distance_and_port(1, 0), (5, None));
+    for (call, port) in calls {
+        run.make(call);
+        assert_eq!(run.distance_and_port(1, 0), (5, port), "{call:?}");
+    }
+}
+
+/// Bridge 2 forwards to bridge 1 over a link that is down at bridge 1's end, and bridge 1 back over another link. So the ports close a
+/// ring, but bridge 2's frame dies. Once bridge 1's end is up again, its sent limit there shuts its port.
+#[test]
+fn a_ring_of_ports_that_no_frame_goes_round() {
+    let map = map_of(3, &[[0, 1], [0, 2], [1, 2], [1, 2]], &[vec![1, 9, 1, 0], vec![0, 5, 0, 1]]);
+    let mut run = Run::fresh(&mut Random::new(7), &map).expect("a fresh network");
+    run.make(Call::Update(2, 1));
+    assert_eq!(run.tell(2, 3), (Answer::Noted, 2, 1));
+    run.make(Call::Update(2, 0));
+    run.tell(0, 0);
+    run.tell(1, 2);
+    assert_eq!(run.make(Call::Path(2, 0)), ends(0, 2));
+    run.make(Call::Cut(1, 2));
+    run.make(Call::Update(1, 1));
+    assert_eq!(run.ports(0), [None, Some(3), Some(2)]);
+    assert_eq!(run.make(Call::Path(2, 0)), ends(2, 0));
+    assert_eq!(run.make(Call::Path(1, 0)), ends(2, 1));
+    assert_eq!(run.survey(), Ok(()));
+    run.make(Call::Restore(1, 2));
+    assert_eq!(run.ports(0), [None, None, Some(2)]);
+    assert_eq!(run.make(Call::Path(2, 0)), ends(1, 1));
 }
 
 /// 16 only where the view differs.

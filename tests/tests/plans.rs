@@ -188,6 +188,22 @@ impl Met {
         }
     }
 
+    /// The same of a plan that reports and paths to each bridge conclude: a path that stops at a bridge with a port has its frame die.
+    fn look_at_sensible(&mut self, output: &str) {
+        self.look(output);
+        let mut lines: Vec<Vec<&str>> = output.lines().map(|line| line.split(' ').collect()).collect();
+        if lines.pop().is_some_and(|last| last[0] != "end") {
+            return;
+        }
+        let bridges = lines.iter().rev().skip(1).take_while(|words| words[0] != "dest").count();
+        for report in lines.rchunks(bridges + 2).take(bridges) {
+            if let ["path", _, _, "stops", last, _] = report[bridges + 1][..] {
+                let row = &report[1 + last.parse::<usize>().expect("a bridge")];
+                self.note(if row[2] == "-" { "stop without a port" } else { "frame that dies" });
+            }
+        }
+    }
+
     fn has(&self, what: &str, least: usize) {
         let count = self.0.get(what).copied().unwrap_or(0);
         assert!(count >= least, "{what}: only {count} times\n{:?}", self.0);
@@ -195,7 +211,7 @@ impl Met {
 }
 
 /// Both programs on so many plans from these seeds.
-fn compare(first_seed: u64, plans: u64, make: fn(&mut Random) -> Vec<u8>) -> Met {
+fn compare(first_seed: u64, plans: u64, make: fn(&mut Random) -> Vec<u8>, look: fn(&mut Met, &str)) -> Met {
     let mut met = Met::default();
     for seed in first_seed..first_seed + plans {
         let plan = make(&mut Random::new(seed));
@@ -209,20 +225,21 @@ fn compare(first_seed: u64, plans: u64, make: fn(&mut Random) -> Vec<u8>) -> Met
             let [a, b] = [&found, &expected].map(|text| text.lines().nth(line).unwrap_or("nothing").to_string());
             panic!("seed {seed}, line {}: {a}, and by the reference {b}; the plan is {}", line + 1, path.display());
         }
-        met.look(&expected);
+        look(&mut met, &expected);
     }
     met
 }
 
 #[test]
 fn sensible_plans() {
-    let met = compare(1_000_000, 1_500, make::sensible);
+    let met = compare(1_000_000, 1_500, make::sensible, Met::look_at_sensible);
     for what in ["open port", "shut port", "short way", "stop at once"] {
         met.has(what, 2_000);
     }
-    for what in ["long way", "stop on the way", "end"] {
+    for what in ["long way", "stop on the way", "stop without a port", "end"] {
         met.has(what, 500);
     }
+    met.has("frame that dies", 100);
     for number in [10, 11, 12, 13, 14, 15] {
         met.has(&format!("refused {number}"), 10);
     }
@@ -230,7 +247,7 @@ fn sensible_plans() {
 
 #[test]
 fn damaged_plans() {
-    let met = compare(2_000_000, 2_000, spoil::damaged);
+    let met = compare(2_000_000, 2_200, spoil::damaged, Met::look);
     met.has("open port", 2_000);
     met.has("end", 200);
     for number in refusals_of_plans() {
@@ -240,7 +257,7 @@ fn damaged_plans() {
 
 #[test]
 fn arbitrary_plans() {
-    let met = compare(3_000_000, 2_000, spoil::arbitrary);
+    let met = compare(3_000_000, 2_000, spoil::arbitrary, Met::look);
     for what in ["open port", "shut port"] {
         met.has(what, 5_000);
     }

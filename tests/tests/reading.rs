@@ -1,4 +1,4 @@
-//! The plan file's reader as compiled: the costs of a view and their refusals, and how far a plan can have come.
+//! The plan file's reader as compiled: the costs of a view and their refusals, how far a plan can have come, the lengths of events.
 
 use bench_tests::count::Met;
 use bench_tests::plan_bytes::field;
@@ -152,6 +152,21 @@ fn progress_that_no_plan_leads_to() {
     }
     let refused = (0..5).map(|stage| format!("stage {stage}, refused"));
     met.only("progress", &refused.chain((0..4).map(|stage| format!("stage {stage}, led to"))).collect::<Vec<_>>(), 1);
+}
+
+/// An event has the length that its tag asks for. Any other is refused, and so is a value that is cut short.
+#[test]
+fn lengths_of_events() {
+    let p = Progress { stage: 2, bridges: 2, links: 1, views: 1 };
+    for (tag, length) in [(4, 2), (5, 2), (6, 1), (7, 1), (8, 1), (9, 2), (10, 2), (11, 1), (12, 2)] {
+        for said in 0..5 {
+            let expected = if said == length { (0, vec![(HEADER + said) as u32]) } else { (3, vec![7]) };
+            assert_eq!(read_field(&field(tag, &vec![0; said]), p, &[7]), expected, "tag {tag}, length {said}");
+        }
+        for there in 1..HEADER + length {
+            assert_eq!(read_field(&field(tag, &vec![0; length])[..there], p, &[7]), (1, vec![7]), "tag {tag}, {there} bytes");
+        }
+    }
 }
 
 /// No room for the bytes that the field takes is refused first; a plan's end takes none.

@@ -5,7 +5,7 @@ use bench_tests::count::Met;
 use bench_tests::model::Call;
 use bench_tests::network_call::{Lent, MESSAGES};
 use bench_tests::network_entry::{is_turned_down, needed};
-use bench_tests::network_event::name;
+use bench_tests::network_event::{name, END_EVENTS};
 use bench_tests::network_numbers::{compare, is_question};
 use bench_tests::network_random::{damage, map_of, random_call, random_map, widened};
 use bench_tests::network_run::Run;
@@ -75,8 +75,9 @@ fn random_list(random: &mut Random, run: &mut Run) -> Result<Vec<Call>, String> 
             2 => run.move_to_one_view(random)?,
             3..=6 => run.agree(random)?,
             7..=9 => run.overtake(random)?,
+            10..=13 => run.pull(random)?,
             // mostly over a link that the bridge is not at
-            10 => {
+            14 => {
                 let map = run.map();
                 let (bridge, link) = (random.below(map.bridge_count()), random.below(map.link_count().max(1)));
                 run.call(Call::Send(bridge, link))?;
@@ -98,6 +99,8 @@ fn one_list(seed: u64, map: &Map, random: &mut Random) -> Result<(usize, Met), S
     let past = run.found.messages.numbers()[MESSAGES..].to_vec();
     both.met.note(if past.is_empty() { "exact messages" } else { "longer messages" });
     let list = random_list(random, &mut run)?;
+    // of the same calls, as the list was made
+    END_EVENTS.into_iter().for_each(|event| both.met.note_times(event, run.met.times(event)));
     for (k, &call) in list.iter().enumerate() {
         let at = |difference: String| format!("call {k}: {difference}");
         both.make(call).map_err(at)?;
@@ -135,10 +138,14 @@ fn both_forms_do_the_same() {
     met.at_least("damaged", &too_great, 50);
     println!("{:?}", too_great.iter().map(|cause| (cause, met.times(cause))).collect::<Vec<_>>());
     // update, cut and restore have one form
-    met.0.retain(|event, _| REPLIES.iter().any(|(call, _)| event.starts_with(call)));
+    let has_forms = |event: &str| REPLIES.iter().any(|(call, _)| event.starts_with(call));
+    met.0.retain(|event, _| has_forms(event));
+    let at_ends = END_EVENTS.into_iter().filter(|event| has_forms(event)).map(String::from);
     let replies = REPLIES.iter().flat_map(|(call, replies)| replies.iter().map(move |reply| format!("{call} {reply}")));
     let answers = ["deliver", "repeat"].into_iter().flat_map(|call| ANSWERS.map(|answer| format!("{call} answers {answer}")));
-    met.only(&format!("{LISTS} lists, {calls} calls"), &replies.chain(answers).collect::<Vec<_>>(), 200);
+    let [frequent, at_ends] = [replies.chain(answers).collect::<Vec<_>>(), at_ends.collect()];
+    met.only(&format!("{LISTS} lists, {calls} calls"), &[&frequent[..], &at_ends].concat(), 100);
+    met.at_least("lists", &frequent, 200);
 }
 
 fn expect_refused(label: &str, lent: &Lent, call: Call) {

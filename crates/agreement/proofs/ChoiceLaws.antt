@@ -38,12 +38,12 @@ choice distance found link usable allowed =
 
 -- ---- one end more
 
-module _ (old : Choice) (link cost far : ℕ) (cut holding : Bool) (sent held : ℕ) where
+module _ (old : Choice) (link cost far : ℕ) (down holding : Bool) (sent held : ℕ) where
   abbrev usableBy : Bool
-  usableBy = not cut && leb (cond holding held NONE) (old .distance)
+  usableBy = not down && leb (cond holding held NONE) (old .distance)
 
   abbrev allowedBy : Bool
-  allowedBy = old .allowed && (cut || ltb (old .distance) sent)
+  allowedBy = old .allowed && (down || ltb (old .distance) sent)
 
   -- the tests as they are made: is its link the chosen one, and does it allow the bridge to forward
   module _
@@ -51,7 +51,7 @@ module _ (old : Choice) (link cost far : ℕ) (cut holding : Bool) (sent held : 
       (isFirst : first ≡ (not (old .found) && reach))
       (doesReach : reach ≡ reachesDistance old cost far)
       (isAllowed : allowed ≡ (old .allowed && allows))
-      (doesAllow : allows ≡ (cut || ltb (old .distance) sent)) where
+      (doesAllow : allows ≡ (down || ltb (old .distance) sent)) where
     first-is-chosen : first ≡ becomesChosen old cost far
     first-is-chosen = isFirst ∙ rw doesReach
 
@@ -61,9 +61,9 @@ module _ (old : Choice) (link cost far : ℕ) (cut holding : Bool) (sent held : 
     pub next-chosen :
         {usable suffices : Bool} →
         first ≡ true →
-        usable ≡ (not cut && suffices) →
+        usable ≡ (not down && suffices) →
         suffices ≡ leb (cond holding held NONE) (old .distance) →
-        choice (old .distance) true link usable allowed ≡ nextChoice old link cost far cut holding sent held
+        choice (old .distance) true link usable allowed ≡ nextChoice old link cost far down holding sent held
     unfolding nextChoice
     next-chosen t u s =
         let e : becomesChosen old cost far ≡ true = sym first-is-chosen ∙ t in
@@ -72,7 +72,7 @@ module _ (old : Choice) (link cost far : ℕ) (cut holding : Bool) (sent held : 
 
     pub next-kept :
         first ≡ false →
-        choice (old .distance) (old .found) (old .link) (old .usable) allowed ≡ nextChoice old link cost far cut holding sent held
+        choice (old .distance) (old .found) (old .link) (old .usable) allowed ≡ nextChoice old link cost far down holding sent held
     unfolding nextChoice
     next-kept t =
         let e : becomesChosen old cost far ≡ false = sym first-is-chosen ∙ t in
@@ -88,13 +88,13 @@ module _ (old : Choice) (link cost far : ℕ) (cut holding : Bool) (sent held : 
   -- an end that may be at another bridge
   next-if :
       (at : Bool) →
-      cond at (nextChoice old link cost far cut holding sent held) old
+      cond at (nextChoice old link cost far down holding sent held) old
       ≡ choice (old .distance) (old .found || (at && reachesDistance old cost far))
       (cond (not (old .found) && (at && reachesDistance old cost far)) link (old .link))
       (cond (not (old .found) && (at && reachesDistance old cost far)) usableBy (old .usable))
-      (old .allowed && (not (at && not cut) || ltb (old .distance) sent))
+      (old .allowed && (not (at && not down) || ltb (old .distance) sent))
   unfolding nextChoice
-  next-if true = go cut
+  next-if true = go down
     where
       go :
           (b : Bool) →
@@ -199,12 +199,12 @@ pub record IsEnd
     (f : ℕ → ℕ → ℕ)
     (r : Records)
     (d e link cost far : ℕ)
-    (cut holding : Bool)
+    (down holding : Bool)
     (sent held : ℕ) : Type 0 where
   pub isLink : link ≡ linkOf e
   pub isCost : cost ≡ c (linkOf e)
   pub isFar : far ≡ f (farBridge g e) d
-  pub isCut : cut ≡ r .cut (linkOf e)
+  pub isDown : down ≡ r .down e
   pub isHolding : holding ≡ r .ends e .holding
   pub isSent : sent ≡ r .sent e d
   pub isHeld : held ≡ r .held e d
@@ -216,11 +216,11 @@ module _ (g : Graph) (c : Costs) (f : ℕ → ℕ → ℕ) (r : Records) (y d : 
   choice-none e = rw e
 
   pub choice-here :
-      (e : ℕ) {old next : Choice} {link cost far : ℕ} {cut holding : Bool} {sent held : ℕ} →
+      (e : ℕ) {old next : Choice} {link cost far : ℕ} {down holding : Bool} {sent held : ℕ} →
       old ≡ choiceBelow g c f r y d e →
       g .bridgeAt e ≡ y →
-      IsEnd g c f r d e link cost far cut holding sent held →
-      next ≡ nextChoice old link cost far cut holding sent held →
+      IsEnd g c f r d e link cost far down holding sent held →
+      next ≡ nextChoice old link cost far down holding sent held →
       next ≡ choiceBelow g c f r y d (e + 1)
   unfolding choiceBelow choiceWith
   choice-here e so at told is =
@@ -229,7 +229,7 @@ module _ (g : Graph) (c : Costs) (f : ℕ → ℕ → ℕ) (r : Records) (y d : 
         told .isLink,
         told .isCost,
         told .isFar,
-        told .isCut,
+        told .isDown,
         told .isHolding,
         told .isSent,
         told .isHeld,

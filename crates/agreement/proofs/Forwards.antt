@@ -92,20 +92,20 @@ module _ (g : Graph) (c : Costs) (f : ℕ → ℕ → ℕ) (y d : ℕ) where
       go (inr p) = (2 * l + 1, omega (arith, listed), at (2 * l + 1) (omega arith) (p .1) (ap (g .bridgeAt) (omega arith) ∙ p .0))
 
 module _ (g : Graph) (f : ℕ → ℕ → ℕ) (r : Records) (y d : ℕ) where
-  sent-told : everySentAllows g f r y d ≡ true → (k : ℕ) → k < 2 * g .links → g .bridgeAt k ≡ y → r .cut (linkOf k) ≡ false → f y d < r .sent k d
+  sent-told : everySentAllows g f r y d ≡ true → (k : ℕ) → k < 2 * g .links → g .bridgeAt k ≡ y → r .down k ≡ false → f y d < r .sent k d
   unfolding everySentAllows sentAllows isUp
   sent-told t k low own up =
       ltb-true (f y d) (r .sent k d)
-      (otherwise (not (eqb (g .bridgeAt k) y && not (r .cut (linkOf k)))) (ltb (f y d) (r .sent k d))
+      (otherwise (not (eqb (g .bridgeAt k) y && not (r .down k))) (ltb (f y d) (r .sent k d))
       (allBelow-true (2 * g .links) (sentAllows g f r y d) t k low)
       (rw (eq-eqb (g .bridgeAt k) y own, up)))
 
-  told-sent : ((k : ℕ) → k < 2 * g .links → g .bridgeAt k ≡ y → r .cut (linkOf k) ≡ false → f y d < r .sent k d) → everySentAllows g f r y d ≡ true
+  told-sent : ((k : ℕ) → k < 2 * g .links → g .bridgeAt k ≡ y → r .down k ≡ false → f y d < r .sent k d) → everySentAllows g f r y d ≡ true
   unfolding everySentAllows sentAllows isUp
   told-sent sent =
       true-allBelow (2 * g .links) (sentAllows g f r y d)
       (λ k low. due (eqb (g .bridgeAt k) y) (isUp r k) (ltb (f y d) (r .sent k d))
-      (λ own up. lt-ltb (f y d) (r .sent k d) (sent k low (eqb-true (g .bridgeAt k) y own) (not-true (r .cut (linkOf k)) up))))
+      (λ own up. lt-ltb (f y d) (r .sent k d) (sent k low (eqb-true (g .bridgeAt k) y own) (not-true (r .down k) up))))
 
   conditions-told : (e : ℕ) → every (conditions g f r y d e) ≡ true → Conditions g f r y d e
   unfolding conditions isNotDestination hasPath isUp heldSuffices
@@ -113,7 +113,7 @@ module _ (g : Graph) (f : ℕ → ℕ → ℕ) (r : Records) (y d : ℕ) where
       record {
         notDestination = unequal y d (every-true 0 _ t);
         hasPath = unequal (f y d) NONE (every-true 1 _ t);
-        up = not-true (r .cut (linkOf e)) (every-true 2 _ t);
+        up = not-true (r .down e) (every-true 2 _ t);
         held = leb-true (heldLimit (r .ends e) (r .held e) d) (f y d) (every-true 3 _ t);
         sent = sent-told (every-true 4 _ t);
       }

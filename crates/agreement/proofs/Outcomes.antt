@@ -76,14 +76,14 @@ module _ (v : ViewData) (e : ℕ) (sent held : List ℕ) where
       deliver-refused ok = rw ok
 
 -- the forwarding choice by its ends
-module _ (old : Choice) (link cost far : ℕ) (cut holding : Bool) (sent held : ℕ) where
+module _ (old : Choice) (link cost far : ℕ) (down holding : Bool) (sent held : ℕ) where
   pub next-accepted :
       (ltb link 32 && leb cost maxCost) ≡ true →
-      nextOutcome old link cost far cut holding sent held ≡ says (nextChoice old link cost far cut holding sent held)
+      nextOutcome old link cost far down holding sent held ≡ says (nextChoice old link cost far down holding sent held)
   unfolding nextOutcome
   next-accepted ok = rw ok
 
-  pub next-refused : (ltb link 32 && leb cost maxCost) ≡ false → nextOutcome old link cost far cut holding sent held ≡ refused
+  pub next-refused : (ltb link 32 && leb cost maxCost) ≡ false → nextOutcome old link cost far down holding sent held ≡ refused
   unfolding nextOutcome
   next-refused ok = rw ok
 
@@ -96,17 +96,17 @@ unfolding choiceOutcome
 choice-refused c high = rw (le-ltb (c .link) 32 high)
 
 -- the forwarding port
-module _ (v : ViewData) (views : ℕ) (cut : List Bool) (records : List EndRecord) (sent held : List ℕ) (y d : ℕ) where
+module _ (v : ViewData) (views : ℕ) (down : List Bool) (records : List EndRecord) (sent held : List ℕ) (y d : ℕ) where
   abbrev pub portReady : Bool
   portReady = portInRange (v .bridges) (v .links) (v .ends) (v .costs) (v .table) views records (length sent) (length held) y d
 
   pub port-accepted :
       portReady ≡ true →
-      portOutcome v views cut records sent held y d
-      ≡ says (port (lentGraph v) (costsOf (v .costs)) (cell (v .table)) (lentRecords cut records sent held) y d)
+      portOutcome v views down records sent held y d
+      ≡ says (port (lentGraph v) (costsOf (v .costs)) (cell (v .table)) (lentRecords down records sent held) y d)
   unfolding portOutcome
   port-accepted ok = rw ok
 
-  pub port-refused : portReady ≡ false → portOutcome v views cut records sent held y d ≡ refused
+  pub port-refused : portReady ≡ false → portOutcome v views down records sent held y d ≡ refused
   unfolding portOutcome
   port-refused ok = rw ok

@@ -1,4 +1,4 @@
--- A forwarding port depends only on the distances of the bridges that there are, the costs and cuts of the links, and what stands at
+-- A forwarding port depends only on the distances of the bridges that there are, the costs of the links, and what stands at
 -- their ends for the destination. Assumes nothing.
 use Prim.Native.Nat.{ℕ, _*_, _<_}
 use native.Mathlib.Omega.{arith}
@@ -20,7 +20,7 @@ use Rattle.agreement.proofs.Ends.{opposite-below, bridge-in-range}
 pub record Alike (g : Graph) (c k : Costs) (f h : ℕ → ℕ → ℕ) (r q : Records) (d : ℕ) : Type 0 where
   pub distances : (i : ℕ) → i < g .bridges → f i d ≡ h i d
   pub costs : (l : ℕ) → l < g .links → c l ≡ k l
-  pub cut : (l : ℕ) → l < g .links → r .cut l ≡ q .cut l
+  pub down : (e : ℕ) → e < 2 * g .links → r .down e ≡ q .down e
   pub ends : (e : ℕ) → e < 2 * g .links → r .ends e ≡ q .ends e
   pub sent : (e : ℕ) → e < 2 * g .links → r .sent e d ≡ q .sent e d
   pub held : (e : ℕ) → e < 2 * g .links → r .held e d ≡ q .held e d
@@ -52,12 +52,12 @@ module _
   unfolding everySentAllows sentAllows isUp
   sent-same =
       all-cong (2 * g .links) (sentAllows g f r y d) (sentAllows g h q y d)
-      (λ e he. rw (same .cut (linkOf e) (omega arith), same .distances y low, same .sent e he))
+      (λ e he. rw (same .down e he, same .distances y low, same .sent e he))
 
   conditions-same : (e : ℕ) → e < 2 * g .links → conditions g f r y d e ≡ conditions g h q y d e
   unfolding conditions hasPath isUp heldSuffices
   conditions-same e he =
-      rw (same .distances y low, same .cut (linkOf e) (omega arith), same .ends e he, same .held e he, sent-same)
+      rw (same .distances y low, same .down e he, same .ends e he, same .held e he, sent-same)
 
   port-from-same : (e : ℕ) → portFrom g f r y d e ≡ portFrom g h q y d e
   unfolding portFrom

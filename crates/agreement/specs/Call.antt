@@ -148,13 +148,13 @@ deliverOutcome v views t n e r m sent held =
     (withLimits (v .bridges) e (heldDelivered t r m (lentOffer v (opposite e)) (cell held e)) held))
     (outcome refused r sent held)
 
--- The forwarding port of bridge y for destination d, y being on the lent view
+-- The forwarding port of bridge y for destination d, y being on the lent view: flags, records and limits by end
 abbrev pub lentRecords : List Bool → List EndRecord → List ℕ → List ℕ → Records
-lentRecords cut records sent held =
-    record { cut = λ l. getD cut l false; ends = λ e. getD records e freshRecord; sent = cell sent; held = cell held }
+lentRecords down records sent held =
+    record { down = λ e. getD down e false; ends = λ e. getD records e freshRecord; sent = cell sent; held = cell held }
 
 unfoldable pub portOutcome : ViewData → ℕ → List Bool → List EndRecord → List ℕ → List ℕ → ℕ → ℕ → Response Port
-portOutcome v views cut records sent held y d =
+portOutcome v views down records sent held y d =
     cond (portInRange (v .bridges) (v .links) (v .ends) (v .costs) (v .table) views records (length sent) (length held) y d)
-    (says (port (lentGraph v) (costsOf (v .costs)) (cell (v .table)) (lentRecords cut records sent held) y d))
+    (says (port (lentGraph v) (costsOf (v .costs)) (cell (v .table)) (lentRecords down records sent held) y d))
     refused

@@ -28,18 +28,18 @@ reachesDistance old cost far = not (eqb cost 0) && eqb (cost + far) (old .distan
 abbrev pub becomesChosen : Choice → ℕ → ℕ → Bool
 becomesChosen old cost far = not (old .found) && reachesDistance old cost far
 
--- with one end more of the bridge: its link, the link's cost and the far bridge's distance in the bridge's view, whether the link is cut,
--- whether a view is held from the neighbour, and the sent and held limits for the destination.
+-- with one end more of the bridge: its link, the link's cost and the far bridge's distance in the bridge's view, whether the link is down
+-- at the bridge's end, whether a view is held from the neighbour, and the sent and held limits for the destination.
 -- "the link is not cut; its held limit is at most Y's distance", of the chosen one;
--- "and Y's distance is below the sent limit of every uncut link of Y"
+-- "and Y's distance is below the sent limit of every uncut link of Y". Its own end governs
 unfoldable pub nextChoice : Choice → ℕ → ℕ → ℕ → Bool → Bool → ℕ → ℕ → Choice
-nextChoice old link cost far cut holding sent held =
+nextChoice old link cost far down holding sent held =
     record {
       distance = old .distance;
       found = old .found || reachesDistance old cost far;
       link = cond (becomesChosen old cost far) link (old .link);
-      usable = cond (becomesChosen old cost far) (not cut && leb (cond holding held NONE) (old .distance)) (old .usable);
-      allowed = old .allowed && (cut || ltb (old .distance) sent);
+      usable = cond (becomesChosen old cost far) (not down && leb (cond holding held NONE) (old .distance)) (old .usable);
+      allowed = old .allowed && (down || ltb (old .distance) sent);
     }
 
 -- the port by the ends so far
@@ -52,8 +52,8 @@ chosenResponse Chosen.Refused = refused
 chosenResponse (Chosen.So c) = says c
 
 unfoldable pub nextOutcome : Choice → ℕ → ℕ → ℕ → Bool → Bool → ℕ → ℕ → Response Choice
-nextOutcome old link cost far cut holding sent held =
-    cond (ltb link 32 && leb cost maxCost) (says (nextChoice old link cost far cut holding sent held)) refused
+nextOutcome old link cost far down holding sent held =
+    cond (ltb link 32 && leb cost maxCost) (says (nextChoice old link cost far down holding sent held)) refused
 
 unfoldable pub choiceOutcome : Choice → Response Port
 choiceOutcome c = cond (ltb (c .link) 32) (says (portBy c)) refused
@@ -61,7 +61,7 @@ choiceOutcome c = cond (ltb (c .link) 32) (says (portBy c)) refused
 -- the choice with end e of a bridge
 unfoldable pub choiceWith : Graph → Costs → (ℕ → ℕ → ℕ) → Records → ℕ → ℕ → Choice → Choice
 choiceWith g c f r d e old =
-    nextChoice old (linkOf e) (c (linkOf e)) (f (farBridge g e) d) (r .cut (linkOf e)) (r .ends e .holding) (r .sent e d) (r .held e d)
+    nextChoice old (linkOf e) (c (linkOf e)) (f (farBridge g e) d) (r .down e) (r .ends e .holding) (r .sent e d) (r .held e d)
 
 -- the choice of bridge y for destination d by its ends below n: f are the distances and c the costs of y's view
 unfoldable pub choiceBelow : Graph → Costs → (ℕ → ℕ → ℕ) → Records → ℕ → ℕ → ℕ → Choice

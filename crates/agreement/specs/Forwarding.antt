@@ -2,7 +2,8 @@
 -- f the distances and c the costs of y's view. An end at y stands for its link: the lowest end is on the lowest-numbered link.
 -- Assumes nothing.
 use Prim.Native.Nat.{ℕ, _+_, _*_}
-use mathlib.Core.Bool.{Bool, cond, _&&_, _||_, not}
+use mathlib.Core.Path.{_≡_}
+use mathlib.Core.Bool.{Bool, true, false, cond, _&&_, _||_, not}
 use mathlib.Core.List.{List, [], _∷_}
 use lib.Dec.{eqb, leb, ltb}
 use Rattle.distances.specs.View.{Graph, Costs, NONE}
@@ -15,12 +16,20 @@ use Rattle.agreement.specs.declared.EndRecord.{EndRecord}
 use Rattle.agreement.specs.declared.Port.{Port}
 use Rattle.agreement.specs.declared.Port.the-variants.{Closed, Open}
 
--- what a bridge knows of its links: which are cut, the record of each end, its "sent limits" and "held limits" by end and destination
+-- what a bridge knows of its links, by its end of each: whether it is down, its record, and by destination its "sent limits" and "held
+-- limits"
 pub record Records : Type 0 where
-  pub cut : ℕ → Bool
+  pub down : ℕ → Bool
   pub ends : ℕ → EndRecord
   pub sent : ℕ → ℕ → ℕ
   pub held : ℕ → ℕ → ℕ
+
+-- a link is up, or down, at end e (document 02, Change 1: "Each end sees its own cut")
+abbrev pub UpAt : Records → ℕ → Type 0
+UpAt r e = r .down e ≡ false
+
+abbrev pub DownAt : Records → ℕ → Type 0
+DownAt r e = r .down e ≡ true
 
 -- the bridge has end e; its link is present, and its cost plus the far bridge's distance equals the bridge's distance
 unfoldable pub reaches : Graph → Costs → (ℕ → ℕ → ℕ) → ℕ → ℕ → ℕ → Bool
@@ -37,13 +46,14 @@ isNotDestination y d = not (eqb y d)
 unfoldable pub hasPath : (ℕ → ℕ → ℕ) → ℕ → ℕ → Bool
 hasPath f y d = not (eqb (f y d) NONE)
 
+-- up at end e, as a test
 unfoldable pub isUp : Records → ℕ → Bool
-isUp r e = not (r .cut (linkOf e))
+isUp r e = not (r .down e)
 
 unfoldable pub heldSuffices : (ℕ → ℕ → ℕ) → Records → ℕ → ℕ → ℕ → Bool
 heldSuffices f r y d e = leb (heldLimit (r .ends e) (r .held e) d) (f y d)
 
--- at an end of the bridge whose link is up the distance is below the sent limit
+-- at an end of the bridge that is up the distance is below the sent limit
 unfoldable pub sentAllows : Graph → (ℕ → ℕ → ℕ) → Records → ℕ → ℕ → ℕ → Bool
 sentAllows g f r y d e = not (eqb (g .bridgeAt e) y && isUp r e) || ltb (f y d) (r .sent e d)
 

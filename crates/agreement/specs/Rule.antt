@@ -1,12 +1,11 @@
--- Document 01, "Forwarding", as propositions, to be read beside it, and the claim that the port of the contracts follows them.
+-- Document 01, "Forwarding", with document 02's Change 1, as propositions, to be read beside them, and the claim that the port of the contracts follows them.
 -- The bridge is y, the destination d, f the distances and c the costs of y's view. An end at y stands for its link. Assumes nothing.
 use Prim.Native.Nat.{ℕ, _+_, _*_, _<_, _≤_}
-use mathlib.Core.Bool.{false}
 use mathlib.Core.Path.{_≡_}
 use Rattle.distances.specs.View.{Graph, Costs, NONE}
 use Rattle.agreement.specs.Offer.{linkOf, farBridge}
 use Rattle.agreement.specs.Record.{heldLimit}
-use Rattle.agreement.specs.Forwarding.{Records, port}
+use Rattle.agreement.specs.Forwarding.{Records, UpAt, port}
 use Rattle.agreement.specs.declared.Port.the-variants.{Closed, Open}
 
 -- a link of y that may be chosen
@@ -32,12 +31,12 @@ pub record Conditions (g : Graph) (f : ℕ → ℕ → ℕ) (r : Records) (y d e
   pub notDestination : y ≡ d → ⊥
   -- "and its distance is not NONE"
   pub hasPath : f y d ≡ NONE → ⊥
-  -- "the link is not cut"
-  pub up : r .cut (linkOf e) ≡ false
+  -- "the link is not cut", by Y's own end (document 02, Change 1)
+  pub up : UpAt r e
   -- "its held limit is at most Y's distance"
   pub held : heldLimit (r .ends e) (r .held e) d ≤ f y d
-  -- "and Y's distance is below the sent limit of every uncut link of Y, the chosen one included"
-  pub sent : (k : ℕ) → k < 2 * g .links → g .bridgeAt k ≡ y → r .cut (linkOf k) ≡ false → f y d < r .sent k d
+  -- "and Y's distance is below the sent limit of every uncut link of Y, the chosen one included": every link that is up at Y's end
+  pub sent : (k : ℕ) → k < 2 * g .links → g .bridgeAt k ≡ y → UpAt r k → f y d < r .sent k d
 
 -- y forwards on link l, by its end e
 pub record Forwards (g : Graph) (c : Costs) (f : ℕ → ℕ → ℕ) (r : Records) (y d l e : ℕ) : Type 0 where

@@ -278,7 +278,8 @@ pub fn deliver_end(
     }
 }
 
-// The forwarding port of a bridge on the lent view for a destination. `cut` are the bridge's own flags of its links.
+// The forwarding port of a bridge on the lent view for a destination. `down` and `records` are by end; the
+// bridge looks at its own.
 pub fn port(
     bridges: usize,
     links: usize,
@@ -286,14 +287,14 @@ pub fn port(
     costs: &[u32],
     table: &[u32],
     views: usize,
-    cut: [bool; 32],
+    down: [bool; 64],
     records: [EndRecord; 64],
     sent: &[u32],
     held: &[u32],
     bridge: usize,
     dest: usize,
 ) -> Forwarding
-    ensures { λ r. ⌜ forwardingResponse r ≡ portOutcome (viewData bridges links (now (ends .entry)) (now (costs .entry)) (now (table .entry))) views cut records (now (sent .entry)) (now (held .entry)) bridge dest ⌝ }
+    ensures { λ r. ⌜ forwardingResponse r ≡ portOutcome (viewData bridges links (now (ends .entry)) (now (costs .entry)) (now (table .entry))) views down records (now (sent .entry)) (now (held .entry)) bridge dest ⌝ }
 {
     if ready::port_in_range(
         bridges,
@@ -314,7 +315,7 @@ pub fn port(
             ends,
             costs,
             table,
-            cut,
+            down,
             records,
             sent,
             held,

@@ -56,21 +56,21 @@ pub(crate) fn choice_with(
     link: u8,
     cost: u32,
     far: u32,
-    cut: bool,
+    down: bool,
     holding: bool,
     sent: u32,
     held: u32,
 ) -> Choice
-    ensures { λ r. ⌜ r ≡ nextChoice old link cost far cut holding sent held ⌝ }
+    ensures { λ r. ⌜ r ≡ nextChoice old link cost far down holding sent held ⌝ }
 {
     let distance = old.distance;
-    let allowed = both(old.allowed, either(cut, distance < sent));
+    let allowed = both(old.allowed, either(down, distance < sent));
     if both(!old.found, reaches(distance, cost, far)) {
         return Choice {
             distance,
             found: true,
             link,
-            usable: both(!cut, held_suffices(distance, holding, held)),
+            usable: both(!down, held_suffices(distance, holding, held)),
             allowed,
         };
     }
@@ -89,15 +89,15 @@ pub fn next_choice(
     link: u8,
     cost: u32,
     far: u32,
-    cut: bool,
+    down: bool,
     holding: bool,
     sent: u32,
     held: u32,
 ) -> Chosen
-    ensures { λ r. ⌜ chosenResponse r ≡ nextOutcome old link cost far cut holding sent held ⌝ }
+    ensures { λ r. ⌜ chosenResponse r ≡ nextOutcome old link cost far down holding sent held ⌝ }
 {
     if both(link < LINKS, cost <= MAX_COST) {
-        Chosen::So(choice_with(old, link, cost, far, cut, holding, sent, held))
+        Chosen::So(choice_with(old, link, cost, far, down, holding, sent, held))
     } else {
         Chosen::Refused
     }

@@ -40,8 +40,8 @@ pub enum Port {
 }
 
 // The forwarding choice of a bridge by some of its ends: the bridge's distance; whether some end reaches it; the link of the first such
-// end; whether that link is up and its held limit at most the distance; and whether the bridge is no destination, has a path, and its
-// distance is below the sent limit of every uncut link so far.
+// end; whether that link is up at the bridge's end and its held limit at most the distance; and whether the bridge is no destination, has a path, and its
+// distance is below the sent limit of every link so far that is up at its end.
 pub struct Choice {
     pub distance: u32,
     pub found: bool,

@@ -19,7 +19,7 @@ pub(crate) fn port_of(
     ends: &[u8],
     costs: &[u32],
     table: &[u32],
-    cut: [bool; 32],
+    down: [bool; 64],
     records: [EndRecord; 64],
     sent: &[u32],
     held: &[u32],
@@ -28,7 +28,7 @@ pub(crate) fn port_of(
 ) -> Port
     requires { ⌜ ViewReady bridges links (now ends) (now costs) (now table) ⌝ }
     requires { ⌜ (1024 ≤ length (now sent)) × (1024 ≤ length (now held)) × (bridge < bridges) × (dest < bridges) ⌝ }
-    ensures { λ r. ⌜ r ≡ port (graphOf bridges links (now (ends .entry))) (costsOf (now (costs .entry))) (cell (now (table .entry))) (lentRecords cut records (now (sent .entry)) (now (held .entry))) bridge dest ⌝ }
+    ensures { λ r. ⌜ r ≡ port (graphOf bridges links (now (ends .entry))) (costsOf (now (costs .entry))) (cell (now (table .entry))) (lentRecords down records (now (sent .entry)) (now (held .entry))) bridge dest ⌝ }
 {
     let own = table[ROW * bridge + dest];
     let mut choice = choices::first_choice(own, bridge == dest);
@@ -43,7 +43,7 @@ pub(crate) fn port_of(
                 (e / 2) as u8,
                 costs[e / 2],
                 table[ROW * far + dest],
-                cut[e / 2],
+                down[e],
                 records[e].holding,
                 sent[ROW * e + dest],
                 held[ROW * e + dest],

@@ -66,8 +66,8 @@ size-few s (Send b l) ok = omega arith
 size-few s (Deliver p) ok = omega arith
 size-few s (Repeat p) ok = omega arith
 size-few s (Lose p) ok = omega arith
-size-few s (Cut l) ok = omega arith
-size-few s (Restore l) ok = omega arith
+size-few s (Cut y l) ok = omega arith
+size-few s (Restore y l) ok = omega arith
 size-few s (Report d) ok = omega (arith, plan-in-range (s .bench) (s .costs) (told s ok .lasting) .graph .most)
 size-few s (Path y d) ok = omega arith
 
@@ -93,8 +93,8 @@ answers-length s (Send b l) = refl
 answers-length s (Deliver p) = answered-length (answerAt (network s) p)
 answers-length s (Repeat p) = answered-length (answerAt (network s) p)
 answers-length s (Lose p) = refl
-answers-length s (Cut l) = refl
-answers-length s (Restore l) = refl
+answers-length s (Cut y l) = refl
+answers-length s (Restore y l) = refl
 answers-length s (Report d) = report-length (network s) d (s .bench .bridges)
 answers-length s (Path y d) = path-length (path (network s) y d)
 

@@ -22,7 +22,7 @@ use Rattle.protocol.specs.Paths as paths
 use Rattle.bench.specs.State.{State, state, network}
 use Rattle.bench.specs.Private.Views.{networkOf}
 use Rattle.bench.specs.Ranges.{benchInRange}
-use Rattle.bench.specs.Private.Changes.{BenchOutcome, benchOutcome, ChangeOutcome, benchWithCut, updateOf, cutOf, restoreOf}
+use Rattle.bench.specs.Private.Changes.{BenchOutcome, benchOutcome, ChangeOutcome, benchWithEnd, ownEnd, switch, switchOf, updateOf}
 use Rattle.bench.specs.Contracts.{refusalOf, orRefused}
 use Rattle.bench.specs.Ranges.{networkInRange}
 use Rattle.bench.specs.Private.Queue.{QueueOutcome, queueOutcome, sendOf, loseOf}
@@ -37,20 +37,21 @@ use Rattle.bench.specs.Private.Effects.{queueChangeNumber, queueChangeBe
 use Rattle.bench.specs.Private.Steps.{ReportsTo, BatchLeft}
 use Rattle.bench.specs.declared.Bench.{Bench}
 use Rattle.bench.specs.declared.effects.EventResult.{EventResult}
+use Rattle.bench.specs.declared.effects.Effect.{Effect}
 use Rattle.bench.specs.declared.effects.Effect.the-variants.{Same}
-use Rattle.bench.specs.declared.effects.Effect.the-variants.{Cut as CutFlag}
+use Rattle.bench.specs.declared.effects.Effect.the-variants.{End as EndFlag}
 use Rattle.bench.specs.declared.effects.QueueChange.{QueueChange}
 use Rattle.bench.specs.declared.effects.Reception.{Reception}
 use Rattle.bench.specs.declared.effects.Updating.{Updating}
 use Rattle.bench.specs.declared.Disposition.{Disposition}
 use Rattle.bench.specs.declared.Disposition.the-variants.{Complete, Refused, Full}
-use Rattle.bench.proofs.CallKept.{update-kept, cut-kept, restore-kept, send-kept, lose-kept, deliver-kept, repeat-kept, deliver-says, repeat-says, deliver-silent, repeat-silent}
-use Rattle.bench.proofs.BatchReplies.{update-reply, cut-reply, restore-reply, send-reply, lose-reply, deliver-reply, repeat-reply, report-reply, path-reply}
+use Rattle.bench.proofs.CallKept.{update-kept, switch-kept, send-kept, lose-kept, deliver-kept, repeat-kept, deliver-says, repeat-says, deliver-silent, repeat-silent}
+use Rattle.bench.proofs.BatchReplies.{update-reply, switchEvent, switch-reply, send-reply, lose-reply, deliver-reply, repeat-reply, report-reply, path-reply}
 use Rattle.bench.proofs.CallReads.{reported-reads, path-reads}
-use Rattle.bench.proofs.CallSteps.{update-step, cut-step, restore-step, send-step, lose-step, deliver-step, repeat-step, path-step, report-step}
+use Rattle.bench.proofs.Switches.{switch-end}
+use Rattle.bench.proofs.CallSteps.{update-step, switch-step, send-step, lose-step, deliver-step, repeat-step, path-step, report-step}
 use Rattle.bench.proofs.TieRefusals.{refusal-ready}
 use Rattle.bench.proofs.TieRanges.{told, few, bench-ready}
-use Rattle.bench.proofs.EntryOutcomes.{link-listed}
 use Rattle.bench.proofs.Represents.{Typed}
 use Rattle.bench.proofs.EventStands.{event-is}
 use Rattle.bench.proofs.ReportRows.{rows-length, reported-head}
@@ -77,12 +78,19 @@ renumbered :
     BatchLeft done answers (cond (eqb k 0) 1 0) (cond (eqb k 0) Complete (Refused k)) next (cond (eqb k 0) n 0) out
 renumbered n number state leaves = rw (← number, ← state) leaves
 
-flag-told : (k l : ℕ) (so : Bool) (b : Bench) (known : List Bool) → (k ≡ 0 → l < 32) → CanApply (cond (eqb k 0) (CutFlag l so) Same) b known
-flag-told k l so b known low = go (eqb k 0) refl
+flag-told : (k e : ℕ) (down : Bool) (b : Bench) (known : List Bool) → (k ≡ 0 → e < 64) → CanApply (cond (eqb k 0) (EndFlag e down) Same) b known
+flag-told k e down b known low = go (eqb k 0) refl
   where
-    go : (t : Bool) → eqb k 0 ≡ t → CanApply (cond t (CutFlag l so) Same) b known
-    go true e = low (eqb-true k 0 e)
-    go false e = tt
+    go : (t : Bool) → eqb k 0 ≡ t → CanApply (cond t (EndFlag e down) Same) b known
+    go true q = low (eqb-true k 0 q)
+    go false q = tt
+
+-- an event that is refused by the number k, and one that is not, whatever would become of the bench
+pub refused-result : {k j : ℕ} (effect : Effect) → k ≡ j → (k ≡ 0 → ⊥) → eventResult k 0 Same ≡ eventResult j 0 effect
+refused-result {k} effect same some = rw (← same, ne-eqb k 0 some)
+
+pub done-result : {j : ℕ} {effect other : Effect} → j ≡ 0 → effect ≡ other → eventResult 0 0 effect ≡ eventResult j 0 other
+done-result none same = rw (none, same)
 
 -- nothing becomes of the bench, whether the event is refused or not
 same-either : (t : Bool) (z : State) → appliedTo (cond t Same Same) z ≡ z
@@ -254,75 +262,56 @@ module _ (b : Bench) (costs sent held m answers : List ℕ) where
   update-told known y t Updating.Stays told = tt
   update-told known y t Updating.Moves told = told
 
-  -- a link cut or restored, by the table's number
+  -- an end cut or restored, by the table's number
   flagged :
-      (k l : ℕ) (so : Bool) (o : BenchOutcome) →
-      o ≡ orRefused k (λ j. benchOutcome j b) (benchOutcome 0 (benchWithCut b l so)) →
-      (o .reply ≡ k) × (state (o .bench) costs sent held m ≡ appliedTo (cond (eqb k 0) (CutFlag l so) Same) Whole)
-  flagged k l so o is = rw is (go (eqb k 0) refl)
+      (k e : ℕ) (down : Bool) (o : BenchOutcome) →
+      o ≡ orRefused k (λ j. benchOutcome j b) (benchOutcome 0 (benchWithEnd b e down)) →
+      (o .reply ≡ k) × (state (o .bench) costs sent held m ≡ appliedTo (cond (eqb k 0) (EndFlag e down) Same) Whole)
+  flagged k e down o is = rw is (go (eqb k 0) refl)
     where
       go :
           (t : Bool) →
           eqb k 0 ≡ t →
-          let o : BenchOutcome = cond t (benchOutcome 0 (benchWithCut b l so)) (benchOutcome k b) in
-          (o .reply ≡ k) × (state (o .bench) costs sent held m ≡ appliedTo (cond t (CutFlag l so) Same) Whole)
-      go true e = (sym (eqb-true k 0 e), refl)
-      go false e = (refl, refl)
+          let o : BenchOutcome = cond t (benchOutcome 0 (benchWithEnd b e down)) (benchOutcome k b) in
+          (o .reply ≡ k) × (state (o .bench) costs sent held m ≡ appliedTo (cond t (EndFlag e down) Same) Whole)
+      go true q = (sym (eqb-true k 0 q), refl)
+      go false q = (refl, refl)
 
-  module _ (l : ℕ) (ready : stateInRange Whole ≡ true) where
+  module _ (y l : ℕ) (down : Bool) (ready : stateInRange Whole ≡ true) where
     in-range : benchInRange b ≡ true
     in-range = bench-ready Whole (told Whole ready)
 
-    abbrev cutNumber : ℕ
-    cutNumber = refuse (networkOf b []) (calls.change (calls.cut l))
+    abbrev switchNumber : ℕ
+    switchNumber = refuse (networkOf b []) (calls.change (switch down y l))
 
-    abbrev restoreNumber : ℕ
-    restoreNumber = refuse (networkOf b []) (calls.change (calls.restore l))
+    switch-flagged : (switchOf b y l down .reply ≡ switchNumber) × (state (switchOf b y l down .bench) costs sent held m ≡ appliedTo (cond (eqb switchNumber 0) (EndFlag (ownEnd b y l) down) Same) Whole)
+    unfolding switchOf
+    switch-flagged =
+        flagged switchNumber (ownEnd b y l) down (switchOf b y l down)
+        (ap (λ (k : ℕ). orRefused k (λ j. benchOutcome j b) (benchOutcome 0 (benchWithEnd b (ownEnd b y l) down))) (refusal-ready (benchInRange b) (networkOf b []) (calls.change (switch down y l)) in-range))
 
-    cut-flagged : (cutOf b l .reply ≡ cutNumber) × (state (cutOf b l .bench) costs sent held m ≡ appliedTo (cond (eqb cutNumber 0) (CutFlag l true) Same) Whole)
-    unfolding cutOf
-    cut-flagged =
-        flagged cutNumber l true (cutOf b l)
-        (ap (λ (k : ℕ). orRefused k (λ j. benchOutcome j b) (benchOutcome 0 (benchWithCut b l true))) (refusal-ready (benchInRange b) (networkOf b []) (calls.change (calls.cut l)) in-range))
-
-    restore-flagged : (restoreOf b l .reply ≡ restoreNumber) × (state (restoreOf b l .bench) costs sent held m ≡ appliedTo (cond (eqb restoreNumber 0) (CutFlag l false) Same) Whole)
-    unfolding restoreOf
-    restore-flagged =
-        flagged restoreNumber l false (restoreOf b l)
-        (ap (λ (k : ℕ). orRefused k (λ j. benchOutcome j b) (benchOutcome 0 (benchWithCut b l false))) (refusal-ready (benchInRange b) (networkOf b []) (calls.change (calls.restore l)) in-range))
-
-    pub cut-leaves :
-        stateInRange (stepBy Whole (callOf (Cut l))) ≡ true →
-        BatchLeft (eventOnLists Whole (Cut l)) answers (cond (eqb cutNumber 0) 1 0) (cond (eqb cutNumber 0) Complete (Refused cutNumber))
-        (appliedTo (cond (eqb cutNumber 0) (CutFlag l true) Same) Whole) (cond (eqb cutNumber 0) 0 0) answers
+    switch-silent : (down : Bool) → answersBy Whole (switchEvent down y l) ≡ []
     unfolding answersBy
-    cut-leaves ok =
-        renumbered 0 (cut-flagged .0) (cut-flagged .1)
-        (quiet Whole (Cut l) (cutOf b l .reply) _ answers refl (cut-reply Whole ready l) (cut-step Whole l) (cut-kept Whole l) ok)
+    switch-silent true = refl
+    switch-silent false = refl
 
-    pub restore-leaves :
-        stateInRange (stepBy Whole (callOf (Restore l))) ≡ true →
-        BatchLeft (eventOnLists Whole (Restore l)) answers (cond (eqb restoreNumber 0) 1 0) (cond (eqb restoreNumber 0) Complete (Refused restoreNumber))
-        (appliedTo (cond (eqb restoreNumber 0) (CutFlag l false) Same) Whole) (cond (eqb restoreNumber 0) 0 0) answers
-    unfolding answersBy
-    restore-leaves ok =
-        renumbered 0 (restore-flagged .0) (restore-flagged .1)
-        (quiet Whole (Restore l) (restoreOf b l .reply) _ answers refl (restore-reply Whole ready l) (restore-step Whole l) (restore-kept Whole l) ok)
+    switch-call : (down : Bool) → callOf (switchEvent down y l) ≡ calls.change (switch down y l)
+    switch-call true = refl
+    switch-call false = refl
 
-    -- a link that is there
-    cut-listed : cutNumber ≡ 0 → l < 32
-    unfolding refuse calls.checks calls.changeChecks
-    cut-listed none = omega (arith, link-listed (networkOf b []) l _ none, few b costs (told Whole ready .lasting))
+    pub switch-leaves :
+        stateInRange (stepBy Whole (callOf (switchEvent down y l))) ≡ true →
+        BatchLeft (eventOnLists Whole (switchEvent down y l)) answers (cond (eqb switchNumber 0) 1 0) (cond (eqb switchNumber 0) Complete (Refused switchNumber))
+        (appliedTo (cond (eqb switchNumber 0) (EndFlag (ownEnd b y l) down) Same) Whole) (cond (eqb switchNumber 0) 0 0) answers
+    switch-leaves ok =
+        renumbered 0 (switch-flagged .0) (switch-flagged .1)
+        (quiet Whole (switchEvent down y l) (switchOf b y l down .reply) _ answers (switch-silent down) (switch-reply Whole ready y l down)
+        (ap (stepBy Whole) (switch-call down) ∙ switch-step Whole y l down) (λ some. ap (stepBy Whole) (switch-call down) ∙ switch-kept Whole y l down some) ok)
 
-    restore-listed : restoreNumber ≡ 0 → l < 32
-    unfolding refuse calls.checks calls.changeChecks
-    restore-listed none = omega (arith, link-listed (networkOf b []) l _ none, few b costs (told Whole ready .lasting))
-
-    pub cut-told : (known : List Bool) → CanApply (cond (eqb cutNumber 0) (CutFlag l true) Same) b known
-    cut-told known = flag-told cutNumber l true b known cut-listed
-
-    pub restore-told : (known : List Bool) → CanApply (cond (eqb restoreNumber 0) (CutFlag l false) Same) b known
-    restore-told known = flag-told restoreNumber l false b known restore-listed
+    pub switch-told : (known : List Bool) → CanApply (cond (eqb switchNumber 0) (EndFlag (ownEnd b y l) down) Same) b known
+    switch-told known =
+        flag-told switchNumber (ownEnd b y l) down b known
+        (λ none. omega (arith, switch-end y l b [] down none, few b costs (told Whole ready .lasting)))
 
   queued :
       (e : Event) (q : QueueChange) (m' : List ℕ) →

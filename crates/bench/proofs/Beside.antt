@@ -22,7 +22,7 @@ pub record Agrees (n m : Network) : Type 0 where
   pub plan : n .plan ≡ m .plan
   pub view : (y : ℕ) → y < m .plan .graph .bridges → n .view y ≡ m .view y
   pub number : (y : ℕ) → y < m .plan .graph .bridges → n .number y ≡ m .number y
-  pub cut : (l : ℕ) → l < m .plan .graph .links → n .records .cut l ≡ m .records .cut l
+  pub down : (e : ℕ) → e < 2 * m .plan .graph .links → n .records .down e ≡ m .records .down e
   pub ends : (e : ℕ) → e < 2 * m .plan .graph .links → n .records .ends e ≡ m .records .ends e
   pub sent : (e d : ℕ) → e < 2 * m .plan .graph .links → d < m .plan .graph .bridges → n .records .sent e d ≡ m .records .sent e d
   pub held : (e d : ℕ) → e < 2 * m .plan .graph .links → d < m .plan .graph .bridges → n .records .held e d ≡ m .records .held e d
@@ -34,7 +34,7 @@ agrees-same n =
       plan = refl;
       view = λ y h. refl;
       number = λ y h. refl;
-      cut = λ l h. refl;
+      down = λ e h. refl;
       ends = λ e h. refl;
       sent = λ e d h k. refl;
       held = λ e d h k. refl;
@@ -43,7 +43,7 @@ agrees-same n =
 
 pub represents-agrees : (s : State) (n : Network) → Represents s n → Agrees n (network s)
 represents-agrees s n r =
-    record { plan = r .plan; view = r .view; number = r .number; cut = r .cut; ends = r .ends; sent = r .sent; held = r .held; messages = r .messages }
+    record { plan = r .plan; view = r .view; number = r .number; down = r .down; ends = r .ends; sent = r .sent; held = r .held; messages = r .messages }
 
 -- two networks that agree, with the same messages in place of theirs
 pub agrees-messages : (n m : Network) → Agrees n m → (ms : List Message) (own : List Message) → ms ≡ own → Agrees (withMessages n ms) (withMessages m own)
@@ -52,7 +52,7 @@ agrees-messages n m g ms own same =
       plan = g .plan;
       view = g .view;
       number = g .number;
-      cut = g .cut;
+      down = g .down;
       ends = g .ends;
       sent = g .sent;
       held = g .held;
@@ -69,18 +69,18 @@ pub record Beside (s a : State) : Type 0 where
   pub view : Part (below (s .bench .bridges)) 0 (s .bench .view) (a .bench .view)
   pub number : Part (below (s .bench .bridges)) 0 (s .bench .number) (a .bench .number)
   pub records : Part (below (2 * s .bench .links)) freshRecord (s .bench .records) (a .bench .records)
-  pub cut : Part (below (s .bench .links)) false (s .bench .cut) (a .bench .cut)
+  pub down : Part (below (2 * s .bench .links)) false (s .bench .down) (a .bench .down)
   pub sent : Part (inRows (2 * s .bench .links) (s .bench .bridges)) 0 (s .sent) (a .sent)
   pub held : Part (inRows (2 * s .bench .links) (s .bench .bridges)) 0 (s .held) (a .held)
   pub messages : Part (below (5 * a .bench .messages)) 0 (s .messages) (a .messages)
 
 -- by its parts
 pub beside-by :
-    (s : State) {view number : List ℕ} {records : List EndRecord} {cut : List Bool} {sent held messages : List ℕ} (count : ℕ) →
+    (s : State) {view number : List ℕ} {records : List EndRecord} {down : List Bool} {sent held messages : List ℕ} (count : ℕ) →
     Part (below (s .bench .bridges)) 0 (s .bench .view) view →
     Part (below (s .bench .bridges)) 0 (s .bench .number) number →
     Part (below (2 * s .bench .links)) freshRecord (s .bench .records) records →
-    Part (below (s .bench .links)) false (s .bench .cut) cut →
+    Part (below (2 * s .bench .links)) false (s .bench .down) down →
     Part (inRows (2 * s .bench .links) (s .bench .bridges)) 0 (s .sent) sent →
     Part (inRows (2 * s .bench .links) (s .bench .bridges)) 0 (s .held) held →
     Part (below (5 * count)) 0 (s .messages) messages →
@@ -95,11 +95,11 @@ pub beside-by :
       view = view;
       number = number;
       records = records;
-      cut = cut;
+      down = down;
     })
     (s .costs) sent held messages)
 beside-by s count v n r c t h m =
-    record { bridges = refl; links = refl; views = refl; places = refl; costs = refl; view = v; number = n; records = r; cut = c; sent = t; held = h; messages = m }
+    record { bridges = refl; links = refl; views = refl; places = refl; costs = refl; view = v; number = n; records = r; down = c; sent = t; held = h; messages = m }
 
 pub beside-same : (s : State) → Beside s s
 beside-same s =
@@ -121,7 +121,7 @@ stood s a n b g = λ i.
             view = first-is 0 (s .bench .bridges) (n .view) (s .bench .view) (a .bench .view) (b .view) (λ p h. sym (g .view p (rw (b .bridges) h))) i;
             number = first-is 0 (s .bench .bridges) (n .number) (s .bench .number) (a .bench .number) (b .number) (λ p h. sym (g .number p (rw (b .bridges) h))) i;
             records = first-is freshRecord (2 * s .bench .links) (n .records .ends) (s .bench .records) (a .bench .records) (b .records) (λ p h. sym (g .ends p (rw (b .links) h))) i;
-            cut = first-is false (s .bench .links) (n .records .cut) (s .bench .cut) (a .bench .cut) (b .cut) (λ p h. sym (g .cut p (rw (b .links) h))) i;
+            down = first-is false (2 * s .bench .links) (n .records .down) (s .bench .down) (a .bench .down) (b .down) (λ p h. sym (g .down p (rw (b .links) h))) i;
           };
       costs = b .costs i;
       sent = rows-is (2 * s .bench .links) (s .bench .bridges) (n .records .sent) (s .sent) (a .sent) (b .sent) (λ e d h k. sym (g .sent e d (rw (b .links) h) (rw (b .bridges) k))) i;

@@ -16,7 +16,7 @@ use Rattle.bench.specs.State.{State, state, network, messageFrom}
 use Rattle.bench.specs.Private.Views.{networkOf, lentView}
 use Rattle.bench.specs.Ranges.{benchInRange, messagesInRange}
 use Rattle.bench.specs.Contracts.{refusalOf}
-use Rattle.bench.specs.Private.Changes.{benchOutcome, benchWithCut, cutOf, restoreOf, changeOutcome, Ends, ends, movedEnds, movedBench, updateOf}
+use Rattle.bench.specs.Private.Changes.{benchOutcome, benchWithEnd, ownEnd, switch, switchOf, changeOutcome, Ends, ends, movedEnds, movedBench, updateOf}
 use Rattle.bench.specs.Ranges.{networkInRange}
 use Rattle.bench.specs.Private.Queue.{withCount, queueOutcome, sendOf, loseOf}
 use Rattle.bench.specs.State.{numbersOf}
@@ -27,7 +27,7 @@ use Rattle.bench.proofs.Represents.{Typed, own-represents}
 use Rattle.bench.specs.Private.ListSteps.{stepBy}
 use Rattle.protocol.proofs.Accepted.{UpdateExists, update-listed, place-listed}
 use Rattle.bench.proofs.CallSteps.{withChanged, withRewritten, withQueue, withDelivered}
-use Rattle.bench.proofs.EntryOutcomes.{link-listed}
+use Rattle.bench.proofs.Switches.{switch-end}
 use Rattle.bench.proofs.QueueCalls.{refusal-none}
 use Rattle.bench.proofs.TieChecks.{message-told}
 use Rattle.bench.proofs.TieQueue.{messages-length}
@@ -40,26 +40,18 @@ use Rattle.bench.proofs.StandingLaws.{Part, below, part-same, part-set}
 module _ (s : State) where
   -- ---- cut and restore
 
-  pub with-cut : (l : ℕ) (so : Bool) → l < s .bench .links → Beside s (withChanged s (benchOutcome 0 (benchWithCut (s .bench) l so)))
-  with-cut l so low =
-      beside-by s (s .bench .messages) (part-same _ 0 _) (part-same _ 0 _) (part-same _ freshRecord _) (part-set _ false (s .bench .cut) l so (lt-ltb l _ low)) (part-same _ 0 _) (part-same _ 0 _)
+  pub with-end : (e : ℕ) (down : Bool) → e < 2 * s .bench .links → Beside s (withChanged s (benchOutcome 0 (benchWithEnd (s .bench) e down)))
+  with-end e down low =
+      beside-by s (s .bench .messages) (part-same _ 0 _) (part-same _ 0 _) (part-same _ freshRecord _) (part-set _ false (s .bench .down) e down (lt-ltb e _ low)) (part-same _ 0 _) (part-same _ 0 _)
       (part-same _ 0 _)
 
-  pub cut-beside : (l : ℕ) → Beside s (stepBy s (change (cut l)))
-  unfolding stepBy cutOf refuse checks changeChecks
-  cut-beside l =
-      settled-beside s (withChanged s) (refusalOf (benchInRange (s .bench)) (networkOf (s .bench) []) (change (cut l))) (λ k. benchOutcome k (s .bench))
-      (benchOutcome 0 (benchWithCut (s .bench) l true))
+  switch-beside : (y l : ℕ) (down : Bool) → Beside s (withChanged s (switchOf (s .bench) y l down))
+  unfolding switchOf
+  switch-beside y l down =
+      settled-beside s (withChanged s) (refusalOf (benchInRange (s .bench)) (networkOf (s .bench) []) (change (switch down y l))) (λ k. benchOutcome k (s .bench))
+      (benchOutcome 0 (benchWithEnd (s .bench) (ownEnd (s .bench) y l) down))
       (λ j. beside-same s)
-      (λ none. with-cut l true (link-listed (networkOf (s .bench) []) l _ (refusal-none _ (networkOf (s .bench) []) (change (cut l)) none .1)))
-
-  pub restore-beside : (l : ℕ) → Beside s (stepBy s (change (restore l)))
-  unfolding stepBy restoreOf refuse checks changeChecks
-  restore-beside l =
-      settled-beside s (withChanged s) (refusalOf (benchInRange (s .bench)) (networkOf (s .bench) []) (change (restore l))) (λ k. benchOutcome k (s .bench))
-      (benchOutcome 0 (benchWithCut (s .bench) l false))
-      (λ j. beside-same s)
-      (λ none. with-cut l false (link-listed (networkOf (s .bench) []) l _ (refusal-none _ (networkOf (s .bench) []) (change (restore l)) none .1)))
+      (λ none. with-end (ownEnd (s .bench) y l) down (switch-end y l (s .bench) [] down (refusal-none _ (networkOf (s .bench) []) (change (switch down y l)) none .1)))
 
   -- ---- update
 
@@ -152,9 +144,10 @@ module _ (s : State) where
         with-received there _ (received s p .sent) (received s p .held) (s .bench .messages - 1) _ low (kept-there low) (taken-part (s .bench .messages) p (s .messages)))
 
   change-beside : (x : Change) → Beside s (stepBy s (change x))
+  unfolding stepBy
   change-beside (update y t) = update-beside y t
-  change-beside (cut l) = cut-beside l
-  change-beside (restore l) = restore-beside l
+  change-beside (cut y l) = switch-beside y l true
+  change-beside (restore y l) = switch-beside y l false
 
   pub step-beside : (c : Call) → Beside s (stepBy s c)
   unfolding stepBy

@@ -11,12 +11,12 @@ use Rattle.agreement.specs.Call.{Response, says}
 use Rattle.agreement.specs.declared.Answer.{Answer}
 use borrow.Author.Tests.{eq-eqb}
 use Rattle.protocol.specs.Net.{sender}
-use Rattle.protocol.specs.Calls.{Call, Check, change, update, cut, restore, send, deliver, repeat, lose, refuse, checks, noMessage}
+use Rattle.protocol.specs.Calls.{Call, Check, change, update, send, deliver, repeat, lose, refuse, checks, noMessage}
 use Rattle.protocol.specs.Calls as calls
 use Rattle.bench.specs.State.{State, network, messageFrom}
 use Rattle.bench.specs.Private.Views.{networkOf}
 use Rattle.bench.specs.Ranges.{benchInRange, messagesInRange}
-use Rattle.bench.specs.Private.Changes.{BenchOutcome, benchOutcome, ChangeOutcome, changeOutcome, updateOf, cutOf, restoreOf}
+use Rattle.bench.specs.Private.Changes.{BenchOutcome, benchOutcome, ChangeOutcome, changeOutcome, updateOf, switch, switchOf}
 use Rattle.bench.specs.Contracts.{refusalOf, orRefused}
 use Rattle.bench.specs.Ranges.{networkInRange}
 use Rattle.bench.specs.Private.Queue.{QueueOutcome, queueOutcome, sendOf, loseOf}
@@ -24,7 +24,7 @@ use Rattle.bench.specs.Private.Deliveries.{DeliveryOutcome, received, de
 use Rattle.bench.specs.Ranges.{stateInRange}
 use Rattle.bench.specs.Private.ListSteps.{stepBy}
 use Rattle.protocol.proofs.Accepted.{place-listed}
-use Rattle.bench.proofs.CallSteps.{withChanged, withRewritten, withQueue, withDelivered}
+use Rattle.bench.proofs.CallSteps.{switch-step, withChanged, withRewritten, withQueue, withDelivered}
 use Rattle.bench.proofs.EntryOutcomes.{reply-is, reply-some}
 use Rattle.bench.proofs.QueueCalls.{refusal-none}
 use Rattle.bench.proofs.TieChecks.{message-told}
@@ -51,13 +51,9 @@ module _ (s : State) where
   abbrev benchNumber : Call → ℕ
   benchNumber c = refusalOf (benchInRange (s .bench)) (networkOf (s .bench) []) c
 
-  pub cut-number : (l : ℕ) → cutOf (s .bench) l .reply ≡ benchNumber (change (cut l))
-  unfolding cutOf
-  cut-number l = reply-is (λ o. o .reply) _ (λ k. benchOutcome k (s .bench)) _ (λ j. refl) (λ z. refl)
-
-  pub restore-number : (l : ℕ) → restoreOf (s .bench) l .reply ≡ benchNumber (change (restore l))
-  unfolding restoreOf
-  restore-number l = reply-is (λ o. o .reply) _ (λ k. benchOutcome k (s .bench)) _ (λ j. refl) (λ z. refl)
+  pub switch-number : (y l : ℕ) (down : Bool) → switchOf (s .bench) y l down .reply ≡ benchNumber (change (switch down y l))
+  unfolding switchOf
+  switch-number y l down = reply-is (λ o. o .reply) _ (λ k. benchOutcome k (s .bench)) _ (λ j. refl) (λ z. refl)
 
   pub update-number : (y t : ℕ) → updateOf s y t .reply ≡ refusalOf (networkInRange s) (network s) (change (update y t))
   unfolding updateOf
@@ -65,13 +61,9 @@ module _ (s : State) where
       reply-is (λ o. o .reply) _ (λ k. changeOutcome k (s .bench) (s .sent) (s .held)) _ (λ j. refl)
       (λ z. either-accepted (eqb (getD (s .bench .view) y 0) t) _ _ refl refl)
 
-  pub cut-kept : (l : ℕ) → (cutOf (s .bench) l .reply ≡ 0 → ⊥) → stepBy s (change (cut l)) ≡ s
-  unfolding stepBy cutOf
-  cut-kept l = changed-kept (benchNumber (change (cut l))) _ refl
-
-  pub restore-kept : (l : ℕ) → (restoreOf (s .bench) l .reply ≡ 0 → ⊥) → stepBy s (change (restore l)) ≡ s
-  unfolding stepBy restoreOf
-  restore-kept l = changed-kept (benchNumber (change (restore l))) _ refl
+  pub switch-kept : (y l : ℕ) (down : Bool) → (switchOf (s .bench) y l down .reply ≡ 0 → ⊥) → stepBy s (change (switch down y l)) ≡ s
+  unfolding switchOf
+  switch-kept y l down some = switch-step s y l down ∙ changed-kept (benchNumber (change (switch down y l))) _ refl some
 
   pub update-kept : (y t : ℕ) → (updateOf s y t .reply ≡ 0 → ⊥) → stepBy s (change (update y t)) ≡ s
   unfolding stepBy updateOf

@@ -6,7 +6,7 @@ use mathlib.Core.Bool.{Bool, true, _&&_}
 use mathlib.Core.List.{List}
 use lib.Seq.{sets}
 use Rattle.agreement.specs.Call.{Response, says}
-use Rattle.protocol.specs.Calls.{Call, change, update, send, deliver, repeat, lose, path, refuse, checks, answerAt, messageOf, noSuchBridge, noSuchLink, notOnLink, linkCut, noRoom, noMessage}
+use Rattle.protocol.specs.Calls.{Call, change, update, send, deliver, repeat, lose, path, refuse, checks, answerAt, messageOf, noSuchBridge, noSuchLink, notOnLink, endDown, noRoom, noMessage}
 use Rattle.protocol.specs.Paths as paths
 use Rattle.bench.specs.State.{State, state, network, numbersOf}
 use Rattle.bench.specs.Private.Views.{networkOf}
@@ -104,7 +104,7 @@ module _ (s : State) (ok : (benchInRange (s .bench) && messagesInRange (s .bench
       queueOutcome (queueChangeNumber q) (queueChangeBench q (s .bench)) m ≡ sendOf (s .bench) (s .messages) y l →
       QueueChangeFits q →
       outcome (queueChangeResponse q) (state (queueChangeBench q (s .bench)) (s .costs) (s .sent) (s .held) m) ≡ outcomeOf s (send y l) (λ n. tt)
-  unfolding readyFor sendOf refuse checks noSuchBridge noSuchLink notOnLink linkCut noRoom
+  unfolding readyFor sendOf refuse checks noSuchBridge noSuchLink notOnLink endDown noRoom
   send-outcome y l q m same fits =
       let told = flight-told (s .bench) (s .messages) ok in
       let done : QueueOutcome = queueOutcome 0 (withCount (s .bench) (s .bench .messages + 1))

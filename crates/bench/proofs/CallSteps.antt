@@ -1,9 +1,10 @@
 -- What `stepBy` is, call by call. Assumes nothing.
 use Prim.Native.Nat.{ℕ}
 use mathlib.Core.Path.{_≡_, refl}
-use Rattle.protocol.specs.Calls.{change, update, cut, restore, send, deliver, repeat, lose, report, path}
+use mathlib.Core.Bool.{Bool, true, false}
+use Rattle.protocol.specs.Calls.{change, update, send, deliver, repeat, lose, report, path}
 use Rattle.bench.specs.State.{State, state}
-use Rattle.bench.specs.Private.Changes.{BenchOutcome, ChangeOutcome, cutOf, restoreOf, updateOf}
+use Rattle.bench.specs.Private.Changes.{BenchOutcome, ChangeOutcome, switch, switchOf, updateOf}
 use Rattle.bench.specs.Private.Queue.{QueueOutcome, sendOf, loseOf}
 use Rattle.bench.specs.Private.Deliveries.{DeliveryOutcome, deliverOf, repeatOf}
 use Rattle.bench.specs.Private.ListSteps.{stepBy}
@@ -29,13 +30,10 @@ module _ (s : State) where
   unfolding stepBy
   update-step y t = refl
 
-  pub cut-step : (l : ℕ) → stepBy s (change (cut l)) ≡ withChanged s (cutOf (s .bench) l)
+  pub switch-step : (y l : ℕ) (down : Bool) → stepBy s (change (switch down y l)) ≡ withChanged s (switchOf (s .bench) y l down)
   unfolding stepBy
-  cut-step l = refl
-
-  pub restore-step : (l : ℕ) → stepBy s (change (restore l)) ≡ withChanged s (restoreOf (s .bench) l)
-  unfolding stepBy
-  restore-step l = refl
+  switch-step y l true = refl
+  switch-step y l false = refl
 
   pub send-step : (y l : ℕ) → stepBy s (send y l) ≡ withQueue s (sendOf (s .bench) (s .messages) y l)
   unfolding stepBy

@@ -90,11 +90,11 @@ said-choice old Chosen.Refused c e = absurd (let z : _≡_ {A = ℕ} 17 0 = ap (
 said-choice old (Chosen.So x) c e = said-same x c e
 
 pub next-said :
-    (old : Choice) (link cost far : ℕ) (cut holding : Bool) (sent held : ℕ) (r : Chosen) →
+    (old : Choice) (link cost far : ℕ) (down holding : Bool) (sent held : ℕ) (r : Chosen) →
     (link < 32) × (cost ≤ maxCost) →
-    chosenResponse r ≡ nextOutcome old link cost far cut holding sent held →
-    choiceAfter old r ≡ nextChoice old link cost far cut holding sent held
-next-said old link cost far cut holding sent held r low e =
+    chosenResponse r ≡ nextOutcome old link cost far down holding sent held →
+    choiceAfter old r ≡ nextChoice old link cost far down holding sent held
+next-said old link cost far down holding sent held r low e =
     said-choice old r _ (e ∙ next-accepted _ _ _ _ _ _ _ _ (true-both (lt-ltb link 32 (low .0)) (le-leb cost maxCost (low .1))))
 
 abbrev pub portReplied : Forwarding → Port
@@ -122,7 +122,7 @@ module _ (s : State) (ok : networkInRange s ≡ true) (y d : ℕ) (hy : y < s .b
       let passes =
       port-passes _ _ _ _ _ _ _ (lent-in-range b (s .costs) lasts _ (told .view y hy)) (long .0) (long .1) (b .views) (b .records) y d
       (told .least) (told .counted .views) (records-pass _ (b .links) (b .records) (told .counted .links) (told .records)) hy hd in
-      rw (port-accepted lentTo (b .views) (b .cut) (b .records) (s .sent) (s .held) y d passes)
+      rw (port-accepted lentTo (b .views) (b .down) (b .records) (s .sent) (s .held) y d passes)
 
 -- ---- one end more
 
@@ -154,7 +154,7 @@ module _ (s : State) (d y : ℕ) where
       old ≡ choiceIn s d y e →
       next
       ≡ nextChoice old (e / 2) (getD (s .costs) (32 * ownView + e / 2) 0)
-      (getD tables (256 * ownView + 16 * getD (s .bench .ends) o 0 + d) 0) (getD (s .bench .cut) (e / 2) false)
+      (getD tables (256 * ownView + 16 * getD (s .bench .ends) o 0 + d) 0) (getD (s .bench .down) e false)
       (getD (s .bench .records) e none .holding) (getD (s .sent) (16 * e + d) 0) (getD (s .held) (16 * e + d) 0) →
       next ≡ choiceIn s d y (e + 1)
   unfolding choiceIn
@@ -164,7 +164,7 @@ module _ (s : State) (d y : ℕ) where
         isLink = refl;
         isCost = sym (part-at 32 ownView (s .costs) (e / 2) (omega arith));
         isFar = rw filled at (own-cell ownView (getD (s .bench .ends) o 0) d tables far hd) ∙ rw other;
-        isCut = refl;
+        isDown = refl;
         isHolding = ap (λ (x : EndRecord). x .holding) (getD-default (s .bench .records) e none freshRecord listed);
         isSent = sym (cell-is (s .sent) e d);
         isHeld = sym (cell-is (s .held) e d);

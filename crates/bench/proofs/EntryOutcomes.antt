@@ -9,7 +9,7 @@ use borrow.Author.Tests.{ne-eqb, eqb-true}
 use lib.Dec.{eqb}
 use Rattle.distances.proofs.Booleans.{below}
 use Rattle.protocol.specs.Net.{Network}
-use Rattle.protocol.specs.Calls.{Call, Check, refusal, refuse, noSuchLink}
+use Rattle.protocol.specs.Calls.{Call, Check, refusal, refuse, noSuchBridge, noSuchLink}
 use Rattle.bench.specs.Contracts.{refusalOf, orRefused}
 use Rattle.distances.proofs.Refusals.{passed}
 use Rattle.bench.proofs.TieRefusals.{refusal-ready}
@@ -43,7 +43,17 @@ module _
   pub reply-some : (reply (orRefused k refused done) ≡ 0 → ⊥) → orRefused k refused done ≡ refused k
   reply-some some = rw (ne-eqb k 0 (λ e. some (reply-is ∙ e)))
 
+-- a call whose first checks come to the number k, and whose others are `rest`
+module _ (k : ℕ) (rest : List Check) (r : ℕ) (is : orRefused k (λ j. j) (refusal rest) ≡ r) where
+  pub first-refused : (k ≡ 0 → ⊥) → k ≡ r
+  first-refused some = rw (ne-eqb k 0 some) at is
+
+  pub first-passed : k ≡ 0 → {j : ℕ} → j ≡ refusal rest → j ≡ r
+  first-passed none same = same ∙ rw none at is
+
 -- the link of a call that the table lets pass
-pub link-listed : (n : Network) (l : ℕ) (cs : List Check) → refusal (noSuchLink n l ∷ cs) ≡ 0 → l < n .plan .graph .links
-unfolding noSuchLink
-link-listed n l cs e = below l (n .plan .graph .links) (passed (noSuchLink n l) cs (omega arith) e .0)
+pub link-listed : (n : Network) (b l : ℕ) (cs : List Check) → refusal (noSuchBridge n b ∷ noSuchLink n l ∷ cs) ≡ 0 → l < n .plan .graph .links
+unfolding noSuchBridge noSuchLink
+link-listed n b l cs e =
+    let rest = passed (noSuchBridge n b) (noSuchLink n l ∷ cs) (omega arith) e .1 in
+    below l (n .plan .graph .links) (passed (noSuchLink n l) cs (omega arith) rest .0)

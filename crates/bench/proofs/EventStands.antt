@@ -62,8 +62,8 @@ module _ (s : State) (ready : stateInRange s ≡ true) (typed : Typed (s .bench)
   answers-are (Deliver p) none = answer-is answerNumbers (deliverOf s p .reply) _ (answerAt (network s) p) (passes (Deliver p) none) (deliver-replied s (network s) stands p)
   answers-are (Repeat p) none = answer-is answerNumbers (repeatOf s p .reply) _ (answerAt (network s) p) (passes (Repeat p) none) (repeat-replied s (network s) stands p)
   answers-are (Lose p) none = refl
-  answers-are (Cut l) none = refl
-  answers-are (Restore l) none = refl
+  answers-are (Cut y l) none = refl
+  answers-are (Restore y l) none = refl
   answers-are (Report d) none = rows-are s in-range typed d (bridge-listed (network s) d _ (passes (Report d) none)) (s .bench .bridges) (omega arith)
   answers-are (Path y d) none = path-answer y d (passes (Path y d) none)
 

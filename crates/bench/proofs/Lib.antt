@@ -30,6 +30,7 @@ pub mod AnswerRanges
 mod ArrivalSteps
 pub mod EntryChecks
 pub mod EntryOutcomes
+pub mod Switches
 pub mod QueueReads
 pub mod QueueSteps
 pub mod QueueTaken

@@ -22,9 +22,9 @@ use Rattle.agreement.proofs.Forwards.{open-forwards}
 use Rattle.agreement.proofs.Outcomes.{portReady, port-accepted, port-refused}
 use Rattle.protocol.specs.Net.{Network}
 use Rattle.protocol.specs.Calls.{Check, refusal, noSuchBridge}
-use Rattle.protocol.specs.Ports.{Hop, stays, crosses, across, hopBy}
+use Rattle.protocol.specs.Ports.{Hop, stays, crosses, across, isLive, hopBy}
 use Rattle.protocol.specs.Paths.{delivered, stops, follow, onward}
-use Rattle.bench.specs.State.{State, part}
+use Rattle.bench.specs.State.{State, network, part}
 use Rattle.bench.specs.Private.Views.{lentView}
 use Rattle.bench.specs.Private.Answers.{found, portIn, hopIn, reportedRow, reported}
 use Rattle.bench.specs.Private.Steps.{Ready}
@@ -33,26 +33,26 @@ use Rattle.bench.specs.declared.Bench.{Bench}
 -- ---- the link of an open port is one of the links
 
 outcome-link :
-    (v : ViewData) (views : ℕ) (cut : List Bool) (records : List EndRecord) (sent held : List ℕ) (y d l : ℕ) →
-    found (portOutcome v views cut records sent held y d .value) ≡ Open l →
+    (v : ViewData) (views : ℕ) (down : List Bool) (records : List EndRecord) (sent held : List ℕ) (y d l : ℕ) →
+    found (portOutcome v views down records sent held y d .value) ≡ Open l →
     l < v .links
 unfolding found
-outcome-link v views cut records sent held y d l o = go (portReady v views cut records sent held y d) refl
+outcome-link v views down records sent held y d l o = go (portReady v views down records sent held y d) refl
   where
-    go : (ok : Bool) → portReady v views cut records sent held y d ≡ ok → l < v .links
+    go : (ok : Bool) → portReady v views down records sent held y d ≡ ok → l < v .links
     go true e =
-        let opens = rw (port-accepted v views cut records sent held y d e) at o in
-        let by = open-forwards (lentGraph v) (costsOf (v .costs)) (cell (v .table)) (lentRecords cut records sent held) y d l opens in
+        let opens = rw (port-accepted v views down records sent held y d e) at o in
+        let by = open-forwards (lentGraph v) (costsOf (v .costs)) (cell (v .table)) (lentRecords down records sent held) y d l opens in
         omega (arith, by .chosen .listed, by .link)
     go false e =
-        let closed : Closed ≡ Open l = rw (port-refused v views cut records sent held y d e) at o in
+        let closed : Closed ≡ Open l = rw (port-refused v views down records sent held y d e) at o in
         absurd (let z : _≡_ {A = ℕ} 0 1 = cc in omega arith)
 
 pub open-link : (s : State) (y d l : ℕ) → portIn s y d ≡ Open l → l < s .bench .links
 unfolding portIn
 open-link s y d l =
     let b : Bench = s .bench in
-    outcome-link (lentView b (s .costs) (getD (b .view) y 0)) (b .views) (b .cut) (b .records) (s .sent) (s .held) y d l
+    outcome-link (lentView b (s .costs) (getD (b .view) y 0)) (b .views) (b .down) (b .records) (s .sent) (s .held) y d l
 
 -- ---- a hop leads to a bridge
 
@@ -77,11 +77,13 @@ hop-leads s ready d y l z = go (portIn s y d) refl
     g : Graph
     g = graphOf (s .bench .bridges) (s .bench .links) (s .bench .ends)
 
-    go : (p : Port) → portIn s y d ≡ p → hopBy g y p ≡ crosses l z → z < s .bench .bridges
+    live : (k : ℕ) (t : Bool) → cond t (crosses k (across g k y)) stays ≡ crosses l z → across g k y ≡ z
+    live k true e = cc
+    live k false e = absurd (let o : _≡_ {A = ℕ} 0 1 = cc in omega arith)
+
+    go : (p : Port) → portIn s y d ≡ p → hopBy g (network s .records) y p ≡ crosses l z → z < s .bench .bridges
     go Closed at e = absurd (let o : _≡_ {A = ℕ} 0 1 = cc in omega arith)
-    go (Open k) at e =
-        let same : across g k y ≡ z = cc in
-        rw same at (across-below g (ready .areBridges) k y (open-link s y d k at))
+    go (Open k) at e = rw (live k (isLive (network s .records) k) e) at (across-below g (ready .areBridges) k y (open-link s y d k at))
 
 -- ---- a walk, hop by hop
 

@@ -10,7 +10,7 @@ use lib.ListN.{length, take, drop, length-append}
 use lib.Seq.{sets}
 use lib.Dec.{eqb}
 use Rattle.protocol.specs.Net.{Network, Message}
-use Rattle.protocol.specs.Calls.{Call, send, deliver, lose, refuse, checks, accepted, step, act, sentOver, messageOf, without, noSuchBridge, noSuchLink, notOnLink, linkCut, noRoom, noMessage}
+use Rattle.protocol.specs.Calls.{Call, send, deliver, lose, refuse, checks, accepted, step, act, sentOver, messageOf, without, noSuchBridge, noSuchLink, notOnLink, endDown, noRoom, noMessage}
 use Rattle.bench.specs.State.{State, network, messagesFrom, numbersOf}
 use Rattle.bench.specs.Ranges.{benchInRange, messagesInRange}
 use Rattle.bench.specs.Standing.{withFirst, numberIn, standingBench, standing, stepIn}
@@ -95,7 +95,7 @@ module _ (s : State) where
   module _ (y l : ℕ) where
     -- an accepted one
     sent-put : readyFor s (send y l) ≡ true → refuse (network s) (send y l) ≡ 0 → let x = standing (act (network s) (send y l)) s in Put (s .bench) (s .messages) (x .bench .messages) (x .messages)
-    unfolding readyFor act sentOver standing standingBench refuse checks noSuchBridge noSuchLink notOnLink linkCut noRoom
+    unfolding readyFor act sentOver standing standingBench refuse checks noSuchBridge noSuchLink notOnLink endDown noRoom
     sent-put ok none =
         let told = flight-told (s .bench) (s .messages) ok in
         let room = send-told (s .bench) (s .messages) y l (told .0) none .room in

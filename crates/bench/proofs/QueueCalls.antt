@@ -13,7 +13,7 @@ use Rattle.agreement.specs.Call.{Response, says, carryOutcome}
 use Rattle.agreement.specs.declared.Agreement.{Agreement}
 use Rattle.agreement.specs.declared.Answer.{Answer}
 use Rattle.protocol.specs.Net.{Network}
-use Rattle.protocol.specs.Calls.{Call, send, deliver, repeat, lose, refuse, accepted, checks, noSuchBridge, noSuchLink, notOnLink, linkCut, noRoom, noMessage, endOf, messageOf}
+use Rattle.protocol.specs.Calls.{Call, send, deliver, repeat, lose, refuse, accepted, checks, noSuchBridge, noSuchLink, notOnLink, endDown, noRoom, noMessage, endOf, messageOf}
 use Rattle.bench.specs.State.{State, network}
 use Rattle.bench.specs.Private.Views.{networkOf}
 use Rattle.bench.specs.Ranges.{messageInRange}
@@ -53,7 +53,7 @@ module _ {A : Type 0} (refused : ℕ → A) (done : A) (k n : ℕ) (same : k ≡
 -- how many messages are in flight does not lie in their numbers
 module _ (b : Bench) (m : List ℕ) where
   pub send-same : (y l : ℕ) → refuse (networkOf b []) (send y l) ≡ refuse (networkOf b m) (send y l)
-  unfolding refuse checks noSuchBridge noSuchLink notOnLink linkCut noRoom
+  unfolding refuse checks noSuchBridge noSuchLink notOnLink endDown noRoom
   send-same y l = rw (messages-length 0 (b .messages) [], messages-length 0 (b .messages) m)
 
   pub lose-same : (p : ℕ) → refuse (networkOf b []) (lose p) ≡ refuse (networkOf b m) (lose p)
@@ -119,13 +119,13 @@ pub record DeliveryFacts (s : State) (p : ℕ) : Type 0 where
   pub message : messageInRange (s .bench) (s .messages) p ≡ true
 
 module _ (s : State) (p k : ℕ) (same : k ≡ refusalOf (stateInRange s) (networkOf (s .bench) (s .messages)) (deliver p)) where
-  -- both are turned down by the messages and the cuts alone
+  -- both are turned down by the messages and the ends that are down alone
   deliver-same : k ≡ refusalOf (stateInRange s) (network s) (deliver p)
-  unfolding refusalOf checks noMessage linkCut
+  unfolding refusalOf checks noMessage endDown
   deliver-same = same
 
   repeat-same : k ≡ refusalOf (stateInRange s) (network s) (repeat p)
-  unfolding refusalOf checks noMessage linkCut
+  unfolding refusalOf checks noMessage endDown
   repeat-same = same
 
   module _ (some : k ≡ 0 → ⊥) {reply : Response Answer} {b : Bench} (replied : reply ≡ refusedBy k) (kept : b ≡ s .bench) where

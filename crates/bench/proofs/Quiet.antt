@@ -44,7 +44,7 @@ module _ (s : State) (ok : networkInRange s ≡ true) (typed : Typed (s .bench))
         views = typed .views;
         numbers = typed .numbers;
         records = typed .records;
-        cuts = typed .cuts;
+        flags = typed .flags;
         number = typed .number;
         received = typed .received;
         discarded = typed .discarded;

@@ -12,11 +12,11 @@ use Rattle.distances.proofs.Booleans.{both-true, true-both}
 use Rattle.distances.proofs.Ranges.{true-allBelow}
 use Rattle.agreement.specs.Offer.{opposite}
 use Rattle.protocol.specs.Net.{sender}
-use Rattle.protocol.specs.Calls.{change, update, cut, restore, send, deliver, repeat, lose, refuse, accepted, checks, messageOf}
+use Rattle.protocol.specs.Calls.{change, update, send, deliver, repeat, lose, refuse, accepted, checks, messageOf}
 use Rattle.bench.specs.State.{State, network, messageFrom}
 use Rattle.bench.specs.Private.Views.{networkOf}
 use Rattle.bench.specs.Ranges.{graphInRange, benchInRange, costsInRange, messageInRange, messagesInRange, partsInRange}
-use Rattle.bench.specs.Private.Changes.{benchOutcome, changeOutcome, movedBench, benchWithCut, cutOf, restoreOf, updateOf}
+use Rattle.bench.specs.Private.Changes.{benchOutcome, changeOutcome, movedBench, benchWithEnd, ownEnd, switch, switchOf, updateOf}
 use Rattle.bench.specs.Contracts.{refusalOf, orRefused}
 use Rattle.bench.specs.Ranges.{networkInRange}
 use Rattle.bench.specs.Private.Queue.{QueueOutcome, queueOutcome, withCount, sendOf, loseOf}
@@ -48,8 +48,8 @@ module _ {A : Type 0} (after : A → State) (k : ℕ) (refused : ℕ → A) (don
 module _ (s : State) (r : StateReady s) where
   -- ---- changes
 
-  with-cut : (l : ℕ) (so : Bool) → StateReady (withChanged s (benchOutcome 0 (benchWithCut (s .bench) l so)))
-  with-cut l so =
+  with-end : (e : ℕ) (down : Bool) → StateReady (withChanged s (benchOutcome 0 (benchWithEnd (s .bench) e down)))
+  with-end e down =
       record {
         lasting = r .lasting;
         sentLong = r .sentLong;
@@ -61,21 +61,18 @@ module _ (s : State) (r : StateReady s) where
         message = r .message;
       }
 
-  pub cut-stays : (l : ℕ) → StateReady (stepBy s (change (cut l)))
-  unfolding stepBy cutOf
-  cut-stays l =
-      settled-kept (withChanged s) (refusalOf (benchInRange (s .bench)) (networkOf (s .bench) []) (change (cut l))) (λ k. benchOutcome k (s .bench))
-      (benchOutcome 0 (benchWithCut (s .bench) l true))
+  switched-stays : (y l : ℕ) (down : Bool) → StateReady (withChanged s (switchOf (s .bench) y l down))
+  unfolding switchOf
+  switched-stays y l down =
+      settled-kept (withChanged s) (refusalOf (benchInRange (s .bench)) (networkOf (s .bench) []) (change (switch down y l))) (λ k. benchOutcome k (s .bench))
+      (benchOutcome 0 (benchWithEnd (s .bench) (ownEnd (s .bench) y l) down))
       (λ j. r)
-      (λ z. with-cut l true)
+      (λ z. with-end (ownEnd (s .bench) y l) down)
 
-  pub restore-stays : (l : ℕ) → StateReady (stepBy s (change (restore l)))
-  unfolding stepBy restoreOf
-  restore-stays l =
-      settled-kept (withChanged s) (refusalOf (benchInRange (s .bench)) (networkOf (s .bench) []) (change (restore l))) (λ k. benchOutcome k (s .bench))
-      (benchOutcome 0 (benchWithCut (s .bench) l false))
-      (λ j. r)
-      (λ z. with-cut l false)
+  pub switch-stays : (y l : ℕ) (down : Bool) → StateReady (stepBy s (change (switch down y l)))
+  unfolding stepBy
+  switch-stays y l true = switched-stays y l true
+  switch-stays y l false = switched-stays y l false
 
   pub update-stays : length (s .bench .records) ≡ 64 → (y t : ℕ) → StateReady (stepBy s (change (update y t)))
   unfolding stepBy updateOf

@@ -15,7 +15,7 @@ pub record Typed (b : Bench) : Type 0 where
   pub views : length (b .view) ≡ 16
   pub numbers : length (b .number) ≡ 16
   pub records : length (b .records) ≡ 64
-  pub cuts : length (b .cut) ≡ 32
+  pub flags : length (b .down) ≡ 64
   pub number : (y : ℕ) → y < b .bridges → getD (b .number) y 0 < 65536
   pub received : (e : ℕ) → e < 2 * b .links → getD (b .records) e freshRecord .received < 65536
   pub discarded : (e : ℕ) → e < 2 * b .links → getD (b .records) e freshRecord .discarded < 65536
@@ -27,7 +27,7 @@ pub record Represents (s : State) (n : Network) : Type 0 where
   pub plan : n .plan ≡ network s .plan
   pub view : (y : ℕ) → y < s .bench .bridges → n .view y ≡ getD (s .bench .view) y 0
   pub number : (y : ℕ) → y < s .bench .bridges → n .number y ≡ getD (s .bench .number) y 0
-  pub cut : (l : ℕ) → l < s .bench .links → n .records .cut l ≡ network s .records .cut l
+  pub down : (e : ℕ) → e < 2 * s .bench .links → n .records .down e ≡ network s .records .down e
   pub ends : (e : ℕ) → e < 2 * s .bench .links → n .records .ends e ≡ network s .records .ends e
   pub sent : (e d : ℕ) → e < 2 * s .bench .links → d < s .bench .bridges → n .records .sent e d ≡ cell (s .sent) e d
   pub held : (e d : ℕ) → e < 2 * s .bench .links → d < s .bench .bridges → n .records .held e d ≡ cell (s .held) e d
@@ -42,7 +42,7 @@ own-represents s ok typed =
       plan = refl;
       view = λ y h. refl;
       number = λ y h. refl;
-      cut = λ l h. refl;
+      down = λ e h. refl;
       ends = λ e h. refl;
       sent = λ e d h k. refl;
       held = λ e d h k. refl;

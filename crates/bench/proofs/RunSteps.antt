@@ -69,8 +69,8 @@ ready-for s c ok = go c
 
     go : (c : Call) → readyFor s c ≡ true
     go (change (update b t)) = state-ready
-    go (change (cut l)) = bench-ready
-    go (change (restore l)) = bench-ready
+    go (change (cut y l)) = bench-ready
+    go (change (restore y l)) = bench-ready
     go (send b l) = true-both bench-ready (both-true (networkInRange s) _ ok .1)
     go (deliver p) = ok
     go (repeat p) = ok

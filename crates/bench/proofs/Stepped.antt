@@ -4,17 +4,17 @@ use native.Mathlib.Numerals.{add-one}
 use native.Mathlib.Omega.{arith}
 use mathlib.Core.Path.{_≡_, refl, sym, _∙_, ap}
 use mathlib.Core.Bool.{Bool, true, false, cond}
-use mathlib.Core.List.{List}
+use mathlib.Core.List.{List, []}
 use lib.ListN.{length, getD}
 use lib.Seq.{sets}
 use lib.Dec.{eqb}
 use borrow.Author.Tests.{eqb-false}
-use Rattle.protocol.specs.Calls.{Call, change, update, cut, restore, send, lose, refuse, accepted, step, act, afterChange, withCut, sentOver, messageOf, moved, updatedTo}
+use Rattle.protocol.specs.Calls.{Call, change, update, send, lose, refuse, accepted, step, act, afterChange, withEnd, sentOver, messageOf, moved, updatedTo}
 use Rattle.bench.specs.State.{State, network, numbersOf}
 use Rattle.bench.specs.Private.Views.{networkOf}
 use Rattle.bench.specs.Ranges.{networkInRange}
 use Rattle.bench.specs.Standing.{stepIn}
-use Rattle.bench.specs.Private.Changes.{benchOutcome, benchWithCut, changeOutcome, updateOf}
+use Rattle.bench.specs.Private.Changes.{benchOutcome, benchWithEnd, ownEnd, switch, changeOutcome, updateOf}
 use Rattle.bench.specs.Private.Queue.{queueOutcome, withCount, takenOut}
 use Rattle.bench.specs.Private.Effects.{movedTo}
 use Rattle.bench.proofs.Represents.{Typed}
@@ -28,7 +28,8 @@ use Rattle.protocol.proofs.Accepted.{UpdateExists, update-listed}
 use Rattle.bench.proofs.Quiet.{quiet, quiet-represents}
 use Rattle.bench.proofs.Beside.{Agrees, agrees-same, agrees-messages, represents-agrees, Beside, stood-step}
 use Rattle.bench.proofs.BesideCalls.{taken-part, sets-part}
-use Rattle.bench.proofs.BesideSteps.{with-cut, with-flight, update-beside}
+use Rattle.bench.proofs.Switches.{switch-end, switch-same, switch-after}
+use Rattle.bench.proofs.BesideSteps.{with-end, with-flight, update-beside}
 
 module _ (s : State) where
   -- a state that is s but for what there is, and in which the network stands that an accepted call makes
@@ -38,27 +39,30 @@ module _ (s : State) where
 
   -- ---- cut and restore
 
-  flag-agrees : (l : ℕ) (so : Bool) → l < length (s .bench .cut) → Agrees (withCut (network s) l so) (network (withChanged s (benchOutcome 0 (benchWithCut (s .bench) l so))))
-  unfolding withCut
-  flag-agrees l so room =
+  flag-agrees : (e : ℕ) (down : Bool) → e < length (s .bench .down) → Agrees (withEnd (network s) e down) (network (withChanged s (benchOutcome 0 (benchWithEnd (s .bench) e down))))
+  unfolding withEnd
+  flag-agrees e down room =
       record {
         plan = refl;
         view = λ y h. refl;
         number = λ y h. refl;
-        cut = λ k h. sym (getD-stored (s .bench .cut) l so k false room);
+        down = λ k h. sym (getD-stored (s .bench .down) e down k false room);
         ends = λ e h. refl;
         sent = λ e d h k. refl;
         held = λ e d h k. refl;
         messages = refl;
       }
 
-  pub cut-is : (l : ℕ) → l < s .bench .links → l < length (s .bench .cut) → refuse (network s) (change (cut l)) ≡ 0 → withChanged s (benchOutcome 0 (benchWithCut (s .bench) l true)) ≡ stepIn s (change (cut l))
-  unfolding act afterChange
-  cut-is l low room none = done-step _ (change (cut l)) none (with-cut s l true low) (flag-agrees l true room)
-
-  pub restore-is : (l : ℕ) → l < s .bench .links → l < length (s .bench .cut) → refuse (network s) (change (restore l)) ≡ 0 → withChanged s (benchOutcome 0 (benchWithCut (s .bench) l false)) ≡ stepIn s (change (restore l))
-  unfolding act afterChange
-  restore-is l low room none = done-step _ (change (restore l)) none (with-cut s l false low) (flag-agrees l false room)
+  pub switch-is :
+      (y l : ℕ) (down : Bool) →
+      ownEnd (s .bench) y l < length (s .bench .down) →
+      refuse (network s) (change (switch down y l)) ≡ 0 →
+      withChanged s (benchOutcome 0 (benchWithEnd (s .bench) (ownEnd (s .bench) y l) down)) ≡ stepIn s (change (switch down y l))
+  unfolding act
+  switch-is y l down room none =
+      let low = switch-end y l (s .bench) [] down (switch-same y l s down ∙ none) in
+      done-step _ (change (switch down y l)) none (with-end s (ownEnd (s .bench) y l) down low)
+      (rw (switch-after y l (network s) down) (flag-agrees (ownEnd (s .bench) y l) down room))
 
   -- ---- messages in flight
 

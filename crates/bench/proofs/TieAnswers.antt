@@ -1,5 +1,5 @@
 -- Ports, distances and paths in a state are those of the network that stands in it. Assumes nothing.
-use Prim.Native.Nat.{ℕ, zero, suc, _*_, _-_, _≤_, _<_}
+use Prim.Native.Nat.{ℕ, zero, suc, _+_, _*_, _-_, _≤_, _<_}
 use native.Mathlib.Omega.{arith}
 use mathlib.Core.Path.{_≡_, refl, sym, _∙_, ap}
 use mathlib.Core.Bool.{cond}
@@ -7,9 +7,13 @@ use lib.ListN.{length, getD}
 use lib.Dec.{eqb}
 use Rattle.distances.specs.View.{InRange}
 use Rattle.distances.specs.Table.{cell}
+use Rattle.agreement.specs.Offer.{linkOf}
+use Rattle.agreement.specs.Forwarding.{isUp}
+use Rattle.agreement.specs.declared.Port.{Port}
+use Rattle.agreement.specs.declared.Port.the-variants.{Closed, Open}
 use Rattle.agreement.proofs.PortCong.{port-cong}
 use Rattle.protocol.specs.Net.{Network, Plan}
-use Rattle.protocol.specs.Ports.{Hop, stays, crosses, hop, ownDistance}
+use Rattle.protocol.specs.Ports.{Hop, stays, crosses, isLive, hop, ownDistance}
 use Rattle.protocol.specs.Ports as ports
 use Rattle.protocol.specs.Paths.{delivered, follow, onward, path}
 use Rattle.bench.specs.State.{State, network}
@@ -69,7 +73,7 @@ module _ (s : State) (n : Network) (r : Represents s n) where
         (record {
           distances = λ i hi. lent-distances (s .bench) (s .costs) (inside .lasting) viewOf is-view i d hi hd;
           costs = λ l hl. refl;
-          cut = λ l hl. sym (r .cut l hl);
+          down = λ e he. sym (r .down e he);
           ends = λ e he. sym (r .ends e he);
           sent = λ e he. sym (r .sent e d he hd);
           held = λ e he. sym (r .held e d he hd);
@@ -89,16 +93,32 @@ module _ (s : State) (n : Network) (r : Represents s n) where
 
   -- ---- path
 
+  -- a port is open on a link that there is, and a link is live in the one where it is in the other
+  port-link : (y d l : ℕ) → ports.forwardingPort n y d ≡ Open l → l < s .bench .links
+  port-link y d l e =
+      let by = port-forwards n y d l e in
+      rw (r .plan) at (links (by .0) (by .1 .chosen .listed) (by .1 .link))
+    where
+      links : (e : ℕ) → e < 2 * n .plan .graph .links → linkOf e ≡ l → l < n .plan .graph .links
+      links e h q = omega arith
+
+  live-same : (l : ℕ) → l < s .bench .links → isLive (network s .records) l ≡ isLive (n .records) l
+  unfolding isLive isUp
+  live-same l h = rw (r .down (2 * l) (omega arith), r .down (2 * l + 1) (omega arith))
+
   hop-same : (d : ℕ) → d < s .bench .bridges → (y : ℕ) → y < s .bench .bridges → hopIn s d y ≡ hop n d y
-  unfolding hopIn hop
-  hop-same d hd y hy = rw (port-same y d hy hd, r .plan)
+  unfolding hopIn hop ports.hopBy
+  hop-same d hd y hy = rw (port-same y d hy hd) (go (ports.forwardingPort n y d) refl)
+    where
+      go : (p : Port) → ports.forwardingPort n y d ≡ p → ports.hopBy (network s .plan .graph) (network s .records) y p ≡ ports.hopBy (n .plan .graph) (n .records) y p
+      go Closed e = refl
+      go (Open l) e = rw (live-same l (port-link y d l e), r .plan)
 
   hop-below : (d y l z : ℕ) → y < s .bench .bridges → hop n d y ≡ crosses l z → z < s .bench .bridges
   hop-below d y l z hy e =
       let crossed = hop-crosses n d y l z e in
-      let by = port-forwards n y d l (crossed .0) in
-      let low : l < n .plan .graph .links = omega (arith, by .1 .chosen .listed, by .1 .link) in
-      rw (crossed .1, r .plan) at (across-below (n .plan .graph) (rw (r .plan) graph-inside) l y low)
+      let low : l < n .plan .graph .links = rw (r .plan) (port-link y d l (crossed .0)) in
+      rw (crossed .2, r .plan) at (across-below (n .plan .graph) (rw (r .plan) graph-inside) l y low)
 
   pub path-same : (y d : ℕ) → y < s .bench .bridges → d < s .bench .bridges → onward (hopIn s d) d (s .bench .bridges - 1) 0 y ≡ path n y d
   unfolding path

@@ -1,6 +1,7 @@
 -- A call is refused by the same number in a network and in the state where it stands.
 -- Assumes nothing.
-use Prim.Native.Nat.{ℕ, _<_}
+use Prim.Native.Nat.{ℕ, _*_, _<_}
+use native.Mathlib.Omega.{arith}
 use mathlib.Core.Path.{_≡_, refl, sym, _∙_, ap}
 use mathlib.Core.Bool.{Bool, true, false}
 use mathlib.Core.List.{List, [], _∷_}
@@ -9,8 +10,9 @@ use lib.Dec.{ltb}
 use borrow.Author.Tests.{ltb-true, lt-ltb}
 use Rattle.distances.proofs.Booleans.{both-true, true-both, below}
 use Rattle.distances.proofs.Refusals.{refusal-next}
-use Rattle.protocol.specs.Net.{Network, Message}
-use Rattle.protocol.specs.Calls.{Call, Change, change, update, cut, restore, send, deliver, repeat, lose, port, report, path, Check, refusal, noSuchBridge, noSuchView, noSuchLink, noNumberLeft, notOnLink, linkCut, noRoom, noMessage, already, messageAt, changeChecks, checks, refuse}
+use Rattle.protocol.specs.Net.{Network, Message, receiver}
+use Rattle.protocol.specs.Calls.{Call, Change, change, update, cut, restore, send, deliver, repeat, lose, port, report, path, Check, refusal, noSuchBridge, noSuchView, noSuchLink, noNumberLeft, notOnLink, endDown, noRoom, noMessage, already, messageAt, endOf, changeChecks, checks, refuse}
+use Rattle.protocol.proofs.Links.{endOf-below}
 use Rattle.bench.specs.State.{State, network, messageFrom}
 use Rattle.bench.specs.Ranges.{messagePasses}
 use Rattle.bench.specs.Contracts.{refusalOf}
@@ -78,13 +80,18 @@ module _ (s : State) (n : Network) (r : Represents s n) where
   unfolding noNumberLeft
   same-number b t h = rw (r .view b h, r .number b h)
 
-  same-cut : (l : ℕ) → l < s .bench .links → linkCut n l ≡ linkCut (network s) l
-  unfolding linkCut
-  same-cut l h = rw (r .cut l h)
+  same-down : (e : ℕ) → e < 2 * s .bench .links → endDown n e ≡ endDown (network s) e
+  unfolding endDown
+  same-down e h = rw (r .down e h)
 
-  same-already : (so : Bool) (l : ℕ) → l < s .bench .links → already n so l ≡ already (network s) so l
+  -- the end of a link that is there
+  same-end : (b l : ℕ) → l < s .bench .links → endDown n (endOf (n .plan .graph) b l) ≡ endDown (network s) (endOf (network s .plan .graph) b l)
+  unfolding endDown
+  same-end b l h = rw (r .plan, r .down (endOf (network s .plan .graph) b l) (endOf-below (network s .plan .graph) b l (s .bench .links) h))
+
+  same-already : (down : Bool) (b l : ℕ) → l < s .bench .links → already n down (endOf (n .plan .graph) b l) ≡ already (network s) down (endOf (network s .plan .graph) b l)
   unfolding already
-  same-already so l h = rw (r .cut l h)
+  same-already down b l h = rw (r .plan, r .down (endOf (network s .plan .graph) b l) (endOf-below (network s .plan .graph) b l (s .bench .links) h))
 
   same-room : noRoom n ≡ noRoom (network s)
   unfolding noRoom
@@ -114,32 +121,38 @@ module _ (s : State) (n : Network) (r : Represents s n) where
   pub message-in-range : (p : ℕ) → p < s .bench .messages → MessageFacts (s .bench .links) (s .bench .views) (messageFrom (s .messages) p)
   message-in-range p h = message-told _ _ _ (told s (r .inRange) .message p h)
 
-  same-message-cut : (p : ℕ) → p < s .bench .messages → linkCut n (messageAt n p .link) ≡ linkCut (network s) (messageAt (network s) p .link)
-  same-message-cut p h =
+  same-receiver : (p : ℕ) → p < s .bench .messages → endDown n (receiver (messageAt n p)) ≡ endDown (network s) (receiver (messageAt (network s) p))
+  same-receiver p h =
       rw (same-message-at p h, message-at (s .bench .messages) (s .messages) p h)
-      (same-cut (messageFrom (s .messages) p .link) (message-in-range p h .link))
+      (same-down (receiver (messageFrom (s .messages) p)) (omega (arith, message-in-range p h .link, message-in-range p h .direction)))
+
+  -- the checks of the end that a call names, in front of others
+  end-same :
+      (b l : ℕ) (cs ds : List Check) →
+      (l < s .bench .links → refusal cs ≡ refusal ds) →
+      refusal (noSuchBridge n b ∷ noSuchLink n l ∷ notOnLink n b l ∷ cs) ≡ refusal (noSuchBridge (network s) b ∷ noSuchLink (network s) l ∷ notOnLink (network s) b l ∷ ds)
+  end-same b l cs ds rest =
+      next-same _ _ _ _ (same-bridge b)
+      (λ e. next-same _ _ _ _ (same-link l) (λ f. next-same _ _ _ _ (same-on b l) (λ g. rest (is-link l f))))
 
   changes-same : (x : Change) → refusal (changeChecks n x) ≡ refusal (changeChecks (network s) x)
   unfolding changeChecks
   changes-same (update b t) =
       next-same _ _ _ _ (same-bridge b)
       (λ e. next-same _ _ _ _ (same-view t) (λ f. next-same _ _ _ _ (same-number b t (is-bridge b e)) (λ g. refl)))
-  changes-same (cut l) = next-same _ _ _ _ (same-link l) (λ e. next-same _ _ _ _ (same-already true l (is-link l e)) (λ f. refl))
-  changes-same (restore l) = next-same _ _ _ _ (same-link l) (λ e. next-same _ _ _ _ (same-already false l (is-link l e)) (λ f. refl))
+  changes-same (cut b l) = end-same b l _ _ (λ low. next-same _ _ _ _ (same-already true b l low) (λ h. refl))
+  changes-same (restore b l) = end-same b l _ _ (λ low. next-same _ _ _ _ (same-already false b l low) (λ h. refl))
 
   placed-same :
       (p : ℕ) →
-      refusal (noMessage n p ∷ linkCut n (messageAt n p .link) ∷ []) ≡ refusal (noMessage (network s) p ∷ linkCut (network s) (messageAt (network s) p .link) ∷ [])
-  placed-same p = next-same _ _ _ _ (same-place p) (λ e. next-same _ _ _ _ (same-message-cut p (is-place p e)) (λ f. refl))
+      refusal (noMessage n p ∷ endDown n (receiver (messageAt n p)) ∷ []) ≡ refusal (noMessage (network s) p ∷ endDown (network s) (receiver (messageAt (network s) p)) ∷ [])
+  placed-same p = next-same _ _ _ _ (same-place p) (λ e. next-same _ _ _ _ (same-receiver p (is-place p e)) (λ f. refl))
 
   pub refuse-same : (c : Call) → refuse n c ≡ refuse (network s) c
   unfolding refuse checks
   refuse-same (change x) = changes-same x
   refuse-same (send b l) =
-      next-same _ _ _ _ (same-bridge b)
-      (λ e. next-same _ _ _ _ (same-link l)
-      (λ f. next-same _ _ _ _ (same-on b l)
-      (λ g. next-same _ _ _ _ (same-cut l (is-link l f)) (λ h. next-same _ _ _ _ same-room (λ k. refl)))))
+      end-same b l _ _ (λ low. next-same _ _ _ _ (same-end b l low) (λ h. next-same _ _ _ _ same-room (λ k. refl)))
   refuse-same (deliver p) = placed-same p
   refuse-same (repeat p) = placed-same p
   refuse-same (lose p) = next-same _ _ _ _ (same-place p) (λ e. refl)

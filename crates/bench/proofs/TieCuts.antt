@@ -1,30 +1,29 @@
 -- Cut and restore, on the lists and in the network, with their replies. Assumes nothing.
-use Prim.Native.Nat.{ℕ, _<_}
+use Prim.Native.Nat.{ℕ, _*_, _<_}
 use native.Mathlib.Omega.{arith}
-use mathlib.Core.Path.{_≡_, sym}
+use mathlib.Core.Path.{_≡_, sym, _∙_, ap}
 use mathlib.Core.Bool.{Bool, true, false}
-use mathlib.Core.List.{List, [], _∷_}
+use mathlib.Core.List.{[]}
 use lib.ListN.{length-set}
-use Rattle.distances.proofs.Booleans.{below}
-use Rattle.protocol.specs.Net.{Network}
-use Rattle.protocol.specs.Calls.{Check, change, cut, restore, refusal, noSuchLink, already, changeChecks, checks, refuse, withCut, afterChange, act, step}
+use Rattle.protocol.specs.Net.{Network, Plan}
+use Rattle.protocol.specs.Calls.{change, cut, restore, refuse, accepted, endOf, withEnd, act, step}
 use Rattle.bench.specs.State.{State, state}
 use Rattle.bench.specs.Private.Views.{networkOf}
 use Rattle.bench.specs.Ranges.{graphInRange, benchInRange, costsInRange, messagesInRange, partsInRange}
-use Rattle.bench.specs.Private.Changes.{BenchOutcome, benchOutcome, benchWithCut, cutOf, restoreOf}
+use Rattle.bench.specs.Private.Changes.{BenchOutcome, benchOutcome, benchWithEnd, ownEnd, switch, switchOf}
 use Rattle.bench.specs.Contracts.{refusalOf}
 use Rattle.bench.proofs.Represents.{Represents}
 use Rattle.bench.specs.Private.ListSteps.{stepBy}
-use Rattle.distances.proofs.Refusals.{passed}
 use Rattle.protocol.proofs.Accepted.{accepted-checks}
 use Rattle.bench.proofs.TieRanges.{getD-stored, told, bench-ready, few}
-use Rattle.bench.proofs.TieRefusals.{settled-step}
-use Rattle.bench.proofs.TieChecks.{refusal-same}
+use Rattle.bench.proofs.TieRefusals.{refusal-ready, settled-step}
+use Rattle.bench.proofs.TieChecks.{refuse-same}
+use Rattle.bench.proofs.Switches.{switch-same, switch-after, switch-end}
 
 module _ (s : State) (n : Network) (r : Represents s n) where
-  kept-cut : (l : ℕ) (so : Bool) → l < s .bench .links → Represents (state (benchWithCut (s .bench) l so) (s .costs) (s .sent) (s .held) (s .messages)) (withCut n l so)
-  unfolding withCut partsInRange benchInRange graphInRange costsInRange messagesInRange
-  kept-cut l so low =
+  kept-end : (e : ℕ) (down : Bool) → e < 2 * s .bench .links → Represents (state (benchWithEnd (s .bench) e down) (s .costs) (s .sent) (s .held) (s .messages)) (withEnd n e down)
+  unfolding withEnd partsInRange benchInRange graphInRange costsInRange messagesInRange
+  kept-end e down low =
       record {
         inRange = r .inRange;
         typed =
@@ -32,7 +31,7 @@ module _ (s : State) (n : Network) (r : Represents s n) where
               views = r .typed .views;
               numbers = r .typed .numbers;
               records = r .typed .records;
-              cuts = simp length-set (r .typed .cuts);
+              flags = simp length-set (r .typed .flags);
               number = r .typed .number;
               received = r .typed .received;
               discarded = r .typed .discarded;
@@ -40,42 +39,42 @@ module _ (s : State) (n : Network) (r : Represents s n) where
         plan = r .plan;
         view = r .view;
         number = r .number;
-        cut = λ k h. rw (r .cut k h) (sym (getD-stored (s .bench .cut) l so k false (omega (arith, few (s .bench) _ (told s (r .inRange) .lasting), r .typed .cuts))));
+        down = λ k h. rw (r .down k h) (sym (getD-stored (s .bench .down) e down k false (omega (arith, few (s .bench) _ (told s (r .inRange) .lasting), r .typed .flags))));
         ends = r .ends;
         sent = r .sent;
         held = r .held;
         messages = r .messages;
       }
 
-  is-listed : (l : ℕ) (cs : List Check) → refusal (noSuchLink n l ∷ cs) ≡ 0 → l < s .bench .links
-  unfolding noSuchLink
-  is-listed l cs e = rw (r .plan) at (below l (n .plan .graph .links) (passed (noSuchLink n l) cs (omega arith) e .0))
-
   -- the bench alone tells the refusal
-  cut-refused : (l : ℕ) → refusalOf (benchInRange (s .bench)) (networkOf (s .bench) []) (change (cut l)) ≡ refuse n (change (cut l))
-  unfolding refusalOf checks changeChecks noSuchLink already
-  cut-refused l = refusal-same s n r (benchInRange (s .bench)) (change (cut l)) (bench-ready s (told s (r .inRange)))
-
-  restore-refused : (l : ℕ) → refusalOf (benchInRange (s .bench)) (networkOf (s .bench) []) (change (restore l)) ≡ refuse n (change (restore l))
-  unfolding refusalOf checks changeChecks noSuchLink already
-  restore-refused l = refusal-same s n r (benchInRange (s .bench)) (change (restore l)) (bench-ready s (told s (r .inRange)))
+  switch-refused : (y l : ℕ) (down : Bool) → refusalOf (benchInRange (s .bench)) (networkOf (s .bench) []) (change (switch down y l)) ≡ refuse n (change (switch down y l))
+  switch-refused y l down =
+      refusal-ready _ (networkOf (s .bench) []) _ (bench-ready s (told s (r .inRange))) ∙ switch-same y l s down ∙ sym (refuse-same s n r (change (switch down y l)))
 
   -- the state with the bench that a cut or a restore leaves
   abbrev withBench : BenchOutcome → State
   withBench o = state (o .bench) (s .costs) (s .sent) (s .held) (s .messages)
 
-  pub cut-represents : (l : ℕ) → Represents (stepBy s (change (cut l))) (step n (change (cut l)))
-  unfolding stepBy cutOf act afterChange checks changeChecks
-  cut-represents l =
-      settled-step withBench n (change (cut l)) _ (λ k. benchOutcome k (s .bench)) (benchOutcome 0 (benchWithCut (s .bench) l true))
-      (cut-refused l)
-      (λ m. r)
-      (λ a. kept-cut l true (is-listed l _ (accepted-checks n (change (cut l)) a)))
+  -- the end is the same in the network
+  switch-kept : (y l : ℕ) (down : Bool) → accepted n (change (switch down y l)) ≡ true → Represents (withBench (benchOutcome 0 (benchWithEnd (s .bench) (ownEnd (s .bench) y l) down))) (act n (change (switch down y l)))
+  unfolding act refuse
+  switch-kept y l down a =
+      let none : refuse (networkOf (s .bench) []) (change (switch down y l)) ≡ 0 = switch-same y l s down ∙ sym (refuse-same s n r (change (switch down y l))) ∙ accepted-checks n (change (switch down y l)) a in
+      let same : endOf (n .plan .graph) y l ≡ ownEnd (s .bench) y l = ap (λ (p : Plan). endOf (p .graph) y l) (r .plan) in
+      rw (switch-after y l n down, same) (kept-end (ownEnd (s .bench) y l) down (switch-end y l (s .bench) [] down none))
 
-  pub restore-represents : (l : ℕ) → Represents (stepBy s (change (restore l))) (step n (change (restore l)))
-  unfolding stepBy restoreOf act afterChange checks changeChecks
-  restore-represents l =
-      settled-step withBench n (change (restore l)) _ (λ k. benchOutcome k (s .bench)) (benchOutcome 0 (benchWithCut (s .bench) l false))
-      (restore-refused l)
+  switch-represents : (y l : ℕ) (down : Bool) → Represents (withBench (switchOf (s .bench) y l down)) (step n (change (switch down y l)))
+  unfolding switchOf
+  switch-represents y l down =
+      settled-step withBench n (change (switch down y l)) _ (λ k. benchOutcome k (s .bench)) (benchOutcome 0 (benchWithEnd (s .bench) (ownEnd (s .bench) y l) down))
+      (switch-refused y l down)
       (λ m. r)
-      (λ a. kept-cut l false (is-listed l _ (accepted-checks n (change (restore l)) a)))
+      (switch-kept y l down)
+
+  pub cut-represents : (y l : ℕ) → Represents (stepBy s (change (cut y l))) (step n (change (cut y l)))
+  unfolding stepBy
+  cut-represents y l = switch-represents y l true
+
+  pub restore-represents : (y l : ℕ) → Represents (stepBy s (change (restore y l))) (step n (change (restore y l)))
+  unfolding stepBy
+  restore-represents y l = switch-represents y l false

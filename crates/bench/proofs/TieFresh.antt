@@ -73,7 +73,7 @@ module _
         views = refl;
         numbers = refl;
         records = refl;
-        cuts = refl;
+        flags = refl;
         number = λ y h. rw (bridge-fresh 1 y h) (omega arith);
         received = end-fresh (λ (x : EndRecord). x .received < 65536) (omega arith);
         discarded = end-fresh (λ (x : EndRecord). x .discarded < 65536) (omega arith);
@@ -88,7 +88,7 @@ module _
         plan = refl;
         view = λ y h. sym (bridge-fresh 0 y h);
         number = λ y h. sym (bridge-fresh 1 y h);
-        cut = λ l h. sym (getD-replicate 32 l false false (omega (arith, small .1)));
+        down = λ e h. sym (getD-replicate 64 e false false (omega (arith, small .1)));
         ends = λ e h. sym (getD-replicate 64 e freshRecord freshRecord (omega (arith, small .1)));
         sent = λ e d h k. sym (limitTables .sent e d h k ∙ lent-offer-in b costs lasting 0 (lasting .viewsLeast) e d h k);
         held = λ e d h k. sym (limitTables .held e d h k);

@@ -108,7 +108,7 @@ module _ (s : State) (n : Network) (r : Represents s n) (y t : ℕ) (low : y < s
           views = simp length-set (r .typed .views);
           numbers = simp length-set (r .typed .numbers);
           records = endsAfterUpdate .recordsLong ∙ r .typed .records;
-          cuts = r .typed .cuts;
+          flags = r .typed .flags;
           number = λ z h. rw (number-after z) (number-fits z (r .typed .number z h));
           received = λ e h. keeps e h (λ (x : EndRecord). x .received < 65536) (r .typed .received e h) (r .typed .received e h);
           discarded = λ e h. keeps e h (λ (x : EndRecord). x .discarded < 65536) (r .typed .discarded e h) (r .typed .received e h);
@@ -123,7 +123,7 @@ module _ (s : State) (n : Network) (r : Represents s n) (y t : ℕ) (low : y < s
           plan = r .plan;
           view = λ z h. rw (r .view z h) (sym (getD-stored (s .bench .view) y t z 0 (omega (arith, counts .0, r .typed .views))));
           number = λ z h. rw (r .number z h) (sym (number-after z));
-          cut = r .cut;
+          down = r .down;
           ends = λ e h. rw (r .plan, r .ends e h) (sym (own-end e h));
           sent = λ e d h k. rw (bridge-at e h) (sent-after e h d k);
           held = λ e d h k. rw (bridge-at e h) (held-after e h d k);

@@ -133,7 +133,7 @@ module _
           views = r .typed .views;
           numbers = r .typed .numbers;
           records = rw length-set (r .typed .records);
-          cuts = r .typed .cuts;
+          flags = r .typed .flags;
           number = r .typed .number;
           received = λ k hk.
               each-record (λ z. z .received < 65536) k
@@ -179,7 +179,7 @@ module _
           plan = r .plan;
           view = r .view;
           number = r .number;
-          cut = r .cut;
+          down = r .down;
           ends = λ k hk. rw (record-at k, same-view, r .ends e he, r .ends k hk);
           sent =
               λ k d hk hd. row-at (s .bench .bridges) e (s .sent) _ (n .records .sent) _ k d (small .0) (row-fits (s .sent) (before .sentLong)) hd

@@ -9,7 +9,7 @@ use lib.ListN.{length}
 use lib.Seq.{sets}
 use Rattle.distances.proofs.Booleans.{true-both}
 use Rattle.protocol.specs.Net.{Network, Message}
-use Rattle.protocol.specs.Calls.{send, lose, accepted, act, step, endOf, messageOf, sentOver, without, withMessages, checks, refuse, noSuchBridge, noSuchLink, notOnLink, linkCut, noRoom, noMessage}
+use Rattle.protocol.specs.Calls.{send, lose, accepted, act, step, endOf, messageOf, sentOver, without, withMessages, checks, refuse, noSuchBridge, noSuchLink, notOnLink, endDown, noRoom, noMessage}
 use Rattle.bench.specs.State.{State, state, network, messagesFrom}
 use Rattle.bench.specs.Private.Views.{networkOf}
 use Rattle.bench.specs.Ranges.{benchInRange, messagesInRange}
@@ -36,7 +36,7 @@ module _ (s : State) (n : Network) (r : Represents s n) where
               views = ty .views;
               numbers = ty .numbers;
               records = ty .records;
-              cuts = ty .cuts;
+              flags = ty .flags;
               number = ty .number;
               received = ty .received;
               discarded = ty .discarded;
@@ -44,7 +44,7 @@ module _ (s : State) (n : Network) (r : Represents s n) where
         plan = r .plan;
         view = r .view;
         number = r .number;
-        cut = r .cut;
+        down = r .down;
         ends = r .ends;
         sent = r .sent;
         held = r .held;
@@ -108,7 +108,7 @@ module _ (s : State) (n : Network) (r : Represents s n) where
   send-refused :
       (y l : ℕ) →
       refusalOf (benchInRange (s .bench) && messagesInRange (s .bench) (s .messages)) (networkOf (s .bench) (s .messages)) (send y l) ≡ refuse n (send y l)
-  unfolding refusalOf checks noSuchBridge noSuchLink notOnLink linkCut noRoom
+  unfolding refusalOf checks noSuchBridge noSuchLink notOnLink endDown noRoom
   send-refused y l = refusal-same s n r _ (send y l) flight-ready
 
   lose-refused :

@@ -14,8 +14,8 @@ use Rattle.bench.proofs.TieDeliveries.{deliver-represents, repeat-repre
 module _ (s : State) (n : Network) (r : Represents s n) where
   pub change-represents : (x : Change) → Represents (stepBy s (change x)) (step n (change x))
   change-represents (update y t) = update-represents s n r y t
-  change-represents (cut l) = cut-represents s n r l
-  change-represents (restore l) = restore-represents s n r l
+  change-represents (cut y l) = cut-represents s n r y l
+  change-represents (restore y l) = restore-represents s n r y l
 
   -- accepted or not
   either : (c : Bool) → Represents s (cond c n n)

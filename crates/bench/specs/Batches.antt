@@ -26,8 +26,8 @@ callOf (Send b l) = send b l
 callOf (Deliver p) = deliver p
 callOf (Repeat p) = repeat p
 callOf (Lose p) = lose p
-callOf (Cut l) = change (cut l)
-callOf (Restore l) = change (restore l)
+callOf (Cut y l) = change (cut y l)
+callOf (Restore y l) = change (restore y l)
 callOf (Report d) = report d
 callOf (Path s d) = path s d
 
@@ -42,8 +42,8 @@ answersOf n (Send b l) = []
 answersOf n (Deliver p) = answerNumbers (answerAt n p)
 answersOf n (Repeat p) = answerNumbers (answerAt n p)
 answersOf n (Lose p) = []
-answersOf n (Cut l) = []
-answersOf n (Restore l) = []
+answersOf n (Cut y l) = []
+answersOf n (Restore y l) = []
 answersOf n (Report d) = reportNumbers n d (n .plan .graph .bridges)
 answersOf n (Path y d) = pathNumbers (paths.path n y d)
 
@@ -54,8 +54,8 @@ answerSize bridges (Send b l) = 0
 answerSize bridges (Deliver p) = 3
 answerSize bridges (Repeat p) = 3
 answerSize bridges (Lose p) = 0
-answerSize bridges (Cut l) = 0
-answerSize bridges (Restore l) = 0
+answerSize bridges (Cut y l) = 0
+answerSize bridges (Restore y l) = 0
 answerSize bridges (Report d) = 2 * bridges
 answerSize bridges (Path y d) = 3
 

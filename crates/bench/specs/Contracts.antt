@@ -51,8 +51,8 @@ pathResponse (PathReply.Stops last h) = says (paths.stops last h)
 -- what a call is handed, in range
 unfoldable pub readyFor : State → Call → Bool
 readyFor s (change (update b t)) = networkInRange s
-readyFor s (change (cut l)) = benchInRange (s .bench)
-readyFor s (change (restore l)) = benchInRange (s .bench)
+readyFor s (change (cut b l)) = benchInRange (s .bench)
+readyFor s (change (restore b l)) = benchInRange (s .bench)
 readyFor s (send b l) = benchInRange (s .bench) && messagesInRange (s .bench) (s .messages)
 readyFor s (deliver p) = stateInRange s
 readyFor s (repeat p) = stateInRange s
@@ -143,7 +143,7 @@ blank b =
       view = replicate 16 0;
       number = replicate 16 1;
       records = replicate 64 freshRecord;
-      cut = replicate 32 false;
+      down = replicate 64 false;
     }
 
 unfoldable pub freshOf : State → Outcome (Unit {0})

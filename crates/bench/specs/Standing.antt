@@ -22,7 +22,7 @@ withRows rows columns f t = rewritten (λ p. ltb (p / 16) rows && ltb (p % 16) c
 unfoldable pub numberIn : List Message → ℕ → ℕ
 numberIn ms p = getD (numbersOf (getD ms (p / 5) noMessageThere)) (p % 5) 0
 
--- of the bench: each bridge's view and number, each end's record, each link's cut, and how many messages are in flight
+-- of the bench: each bridge's view and number, each end's record and whether it is down, and how many messages are in flight
 unfoldable pub standingBench : Network → Bench → Bench
 standingBench n b =
     record {
@@ -34,7 +34,7 @@ standingBench n b =
       view = withFirst (b .bridges) (n .view) (b .view);
       number = withFirst (b .bridges) (n .number) (b .number);
       records = withFirst (2 * b .links) (n .records .ends) (b .records);
-      cut = withFirst (b .links) (n .records .cut) (b .cut);
+      down = withFirst (2 * b .links) (n .records .down) (b .down);
     }
 
 -- the state in which network n stands: what n has of the bridges, links, ends, destinations and messages that there are, and every other

@@ -54,6 +54,6 @@ network s =
           };
       view = λ b. getD (s .bench .view) b 0;
       number = λ b. getD (s .bench .number) b 0;
-      records = lentRecords (s .bench .cut) (s .bench .records) (s .sent) (s .held);
+      records = lentRecords (s .bench .down) (s .bench .records) (s .sent) (s .held);
       messages = messagesFrom 0 (s .bench .messages) (s .messages);
     }

@@ -35,7 +35,7 @@ ghost use Prim.Native.Nat.{ℕ, _*_, _≤_, _<_};
 ghost use lib.ListN.{length, take, getD};
 ghost use lib.Seq.{sets};
 ghost use Rattle.bench.specs.Ranges.{partsInRange};
-ghost use Rattle.protocol.specs.Calls.{change, cut, restore, refuse};
+ghost use Rattle.protocol.specs.Calls.{change, refuse};
 ghost use Rattle.bench.specs.Ranges.{stateInRange};
 ghost use Rattle.bench.specs.Private.Answers.{PathFits};
 ghost use Rattle.bench.specs.Contracts.{pathResponse, pathNumbers};
@@ -44,13 +44,14 @@ ghost use Rattle.bench.specs.Private.Views.{networkOf};
 ghost use Rattle.bench.specs.Batches.{refusalIn, answerSize, eventBatchIn, batchFrom, batchOutcome, batchOutcomeOf, batchOf};
 ghost use Rattle.bench.specs.Private.ListSteps.{valueNumbers};
 ghost use Rattle.bench.specs.Private.Chains.{Chained};
+ghost use Rattle.bench.specs.Private.Changes.{ownEnd, switch};
 ghost use Rattle.bench.specs.Private.Effects.{queueChangeNumber, queueChangeEffect, receptionResponse, receptionEffect, updatingNumber, updatingEffect, eventResult, appliedTo, CanApply, LinkFits, HasRecord};
 ghost use Rattle.agreement.specs.Record.{freshRecord, answerNumbers};
 ghost use Rattle.agreement.specs.declared.EndRecord.{EndRecord};
 ghost use Rattle.bench.specs.declared.Bench.{Bench};
 ghost use Rattle.bench.specs.Private.Steps.{Tables, ReportsTo, BatchLeft};
 ghost use Rattle.bench.specs.declared.effects.Effect.the-variants.{Same};
-ghost use Rattle.bench.specs.declared.effects.Effect.the-variants.{Cut as CutFlag};
+ghost use Rattle.bench.specs.declared.effects.Effect.the-variants.{End as EndFlag};
 
 // Document 01's number of the event that was refused, 17 where the list itself was, 0 where it ended otherwise.
 pub fn refusal_in(how: Disposition) -> u8
@@ -168,33 +169,31 @@ pub fn answer_size(bridges: u8, event: Event) -> usize
         Event::Update(_, _) => 0,
         Event::Send(_, _) => 0,
         Event::Lose(_) => 0,
-        Event::Cut(_) => 0,
-        Event::Restore(_) => 0,
+        Event::Cut(_, _) => 0,
+        Event::Restore(_, _) => 0,
     }
 }
 
-fn cut_result(bench: Bench, link: usize) -> EventResult
+// A cut, by which the bridge's end of the link goes down, or a restore.
+fn switch_result(bench: Bench, bridge: usize, link: usize, down: bool) -> EventResult
     requires { ⌜ bench .links ≤ 32 ⌝ }
-    ensures { λ r. ⌜ r ≡ eventResult (refuse (networkOf bench []) (change (cut link))) 0 (CutFlag link true) ⌝ }
+    ensures { λ r. ⌜ r ≡ eventResult (refuse (networkOf bench []) (change (switch down bridge link))) 0 (EndFlag (ownEnd bench bridge link) down) ⌝ }
 {
-    let flags = bench.cut;
-    event_result(
-        refusals::cut_refusal(bench.links, flags, link),
-        0,
-        Effect::Cut(link, true),
-    )
-}
-
-fn restore_result(bench: Bench, link: usize) -> EventResult
-    requires { ⌜ bench .links ≤ 32 ⌝ }
-    ensures { λ r. ⌜ r ≡ eventResult (refuse (networkOf bench []) (change (restore link))) 0 (CutFlag link false) ⌝ }
-{
-    let flags = bench.cut;
-    event_result(
-        refusals::restore_refusal(bench.links, flags, link),
-        0,
-        Effect::Cut(link, false),
-    )
+    let ends = bench.ends;
+    let flags = bench.down;
+    let refusal = refusals::switch_refusal(
+        bench.bridges,
+        bench.links,
+        ends,
+        flags,
+        bridge,
+        link,
+        down,
+    );
+    if refusal != 0 {
+        return event_result(refusal, 0, Effect::Same);
+    }
+    event_result(0, 0, Effect::End(queue::end_of(&ends, bridge, link), down))
 }
 
 // The end whose record an event looks at: the sender's, or the one where its message arrives. The others look at none, and get 0.
@@ -210,8 +209,8 @@ fn event_end(links: usize, count: usize, ends: &[u8], flight: &[u32], event: Eve
         Event::Repeat(place) => queue::receiving_end(count, flight, place as usize),
         Event::Update(_, _) => 0,
         Event::Lose(_) => 0,
-        Event::Cut(_) => 0,
-        Event::Restore(_) => 0,
+        Event::Cut(_, _) => 0,
+        Event::Restore(_, _) => 0,
         Event::Report(_) => 0,
         Event::Path(_, _) => 0,
     }
@@ -271,8 +270,8 @@ fn carry_out(
             answer_delivery(done, bench.messages, answers)
         }
         Event::Lose(place) => queue_result(lose_ready(bench, flight, place as usize)),
-        Event::Cut(link) => cut_result(bench, link as usize),
-        Event::Restore(link) => restore_result(bench, link as usize),
+        Event::Cut(bridge, link) => switch_result(bench, bridge as usize, link as usize, true),
+        Event::Restore(bridge, link) => switch_result(bench, bridge as usize, link as usize, false),
         Event::Report(dest) => {
             let d = dest as usize;
             answer_report(bench, costs, tables, known, sent, held, d, answers)
@@ -337,8 +336,8 @@ fn run_in_range(
             Effect::Messages(left) => {
                 current.messages = left;
             }
-            Effect::Cut(link, so) => {
-                current.cut[link] = so;
+            Effect::End(end, down) => {
+                current.down[end] = down;
             }
             Effect::Received(end, after, left) => {
                 current.records[end] = after;

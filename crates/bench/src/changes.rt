@@ -4,6 +4,7 @@ use crate::Changed;
 use crate::Reply;
 use crate::effects::Updating;
 use crate::initial;
+use crate::queue::end_of;
 use crate::ready;
 use crate::refusals;
 use crate::replies::refused;
@@ -20,56 +21,62 @@ ghost use Prim.Native.Nat.{_<_};
 ghost use Prim.Native.Nat.{ℕ};
 ghost use mathlib.Core.List.{List};
 ghost use Rattle.protocol.specs.Calls as calls;
-ghost use Rattle.bench.specs.Private.Changes.{benchWithCut, updateOf};
+ghost use Rattle.bench.specs.Private.Changes.{benchWithEnd, switch, updateOf};
 ghost use Rattle.bench.specs.Contracts.{doneResponse, outcome, outcomeOf, freshOf};
 ghost use Rattle.bench.specs.Ranges.{networkInRange};
 ghost use Rattle.bench.specs.Private.Effects.{updatingTo, UpdatingFits};
 ghost use Rattle.bench.specs.State.{State, state};
 ghost use Rattle.bench.specs.Private.Steps.{Ready, Tables};
 
-fn with_cut(bench: Bench, link: usize, so: bool) -> Bench
-    requires { ⌜ link < 32 ⌝ }
-    ensures { λ r. ⌜ r ≡ benchWithCut bench link so ⌝ }
+fn with_end(bench: Bench, end: usize, down: bool) -> Bench
+    requires { ⌜ end < 64 ⌝ }
+    ensures { λ r. ⌜ r ≡ benchWithEnd bench end down ⌝ }
 {
     let mut next = bench;
-    next.cut[link] = so;
+    next.down[end] = down;
     next
 }
 
-// Cuts a link: it carries neither messages nor frames. Records and messages in flight are retained.
-pub fn cut(bench: Bench, link: usize) -> Changed
-    ensures { λ r. ⌜ ((costs sent held messages : List ℕ) → outcome (doneResponse (r .reply)) (state (r .bench) costs sent held messages) ≡ outcomeOf (state bench costs sent held messages) (calls.change (calls.cut link)) (λ n. tt)) ⌝ }
+// A bridge's end of a link goes down, or up.
+fn switched(bench: Bench, bridge: usize, link: usize, down: bool) -> Changed
+    ensures { λ r. ⌜ ((costs sent held messages : List ℕ) → outcome (doneResponse (r .reply)) (state (r .bench) costs sent held messages) ≡ outcomeOf (state bench costs sent held messages) (calls.change (switch down bridge link)) (λ n. tt)) ⌝ }
 {
     if !ready::bench_in_range(bench) {
         return refused(17, bench);
     }
-    let flags = bench.cut;
-    let refusal = refusals::cut_refusal(bench.links, flags, link);
+    let ends = bench.ends;
+    let flags = bench.down;
+    let refusal = refusals::switch_refusal(
+        bench.bridges,
+        bench.links,
+        ends,
+        flags,
+        bridge,
+        link,
+        down,
+    );
     if refusal != 0 {
         return refused(refusal, bench);
     }
     Changed {
         reply: Reply::Done,
-        bench: with_cut(bench, link, true),
+        bench: with_end(bench, end_of(&ends, bridge, link), down),
     }
 }
 
-// Restores a cut link.
-pub fn restore(bench: Bench, link: usize) -> Changed
-    ensures { λ r. ⌜ ((costs sent held messages : List ℕ) → outcome (doneResponse (r .reply)) (state (r .bench) costs sent held messages) ≡ outcomeOf (state bench costs sent held messages) (calls.change (calls.restore link)) (λ n. tt)) ⌝ }
+// Cuts a link at a bridge's end: over it the bridge neither sends nor receives, and no frame crosses. Records and messages in flight are
+// retained.
+pub fn cut(bench: Bench, bridge: usize, link: usize) -> Changed
+    ensures { λ r. ⌜ ((costs sent held messages : List ℕ) → outcome (doneResponse (r .reply)) (state (r .bench) costs sent held messages) ≡ outcomeOf (state bench costs sent held messages) (calls.change (calls.cut bridge link)) (λ n. tt)) ⌝ }
 {
-    if !ready::bench_in_range(bench) {
-        return refused(17, bench);
-    }
-    let flags = bench.cut;
-    let refusal = refusals::restore_refusal(bench.links, flags, link);
-    if refusal != 0 {
-        return refused(refusal, bench);
-    }
-    Changed {
-        reply: Reply::Done,
-        bench: with_cut(bench, link, false),
-    }
+    switched(bench, bridge, link, true)
+}
+
+// Restores a link at a bridge's end.
+pub fn restore(bench: Bench, bridge: usize, link: usize) -> Changed
+    ensures { λ r. ⌜ ((costs sent held messages : List ℕ) → outcome (doneResponse (r .reply)) (state (r .bench) costs sent held messages) ≡ outcomeOf (state bench costs sent held messages) (calls.change (calls.restore bridge link)) (λ n. tt)) ⌝ }
+{
+    switched(bench, bridge, link, false)
 }
 
 // Puts a bridge on a view. Nothing changes where it is on it already.

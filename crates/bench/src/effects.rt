@@ -3,12 +3,12 @@ use crate::Disposition;
 use agreement::Answer;
 use agreement::EndRecord;
 
-// What becomes of the bench: nothing; another count of messages in flight; a link's cut flag; an end's record, with the count of messages;
+// What becomes of the bench: nothing; another count of messages in flight; an end goes down or up; an end's record, with the count of messages;
 // a bridge goes to a view.
 pub(crate) enum Effect {
     Same,
     Messages(usize),
-    Cut(usize, bool),
+    End(usize, bool),
     Received(usize, EndRecord, usize),
     Moves(usize, usize),
 }

@@ -2,7 +2,6 @@
 use crate::Bench;
 use agreement::sizes::ENDS;
 use distances::sizes::MOST_BRIDGES;
-use distances::sizes::MOST_LINKS;
 ghost use mathlib.Core.Path.{_≡_};
 ghost use Prim.Native.Nat.{_*_, _≤_};
 ghost use Rattle.agreement.specs.Call.{viewData};
@@ -44,7 +43,7 @@ pub(crate) fn fresh_bench(bench: Bench) -> Bench
     let number = [1u16; MOST_BRIDGES];
     let record = agreement::calls::fresh_record();
     let records = [record; ENDS];
-    let cut = [false; MOST_LINKS];
+    let down = [false; ENDS];
     Bench {
         bridges: bench.bridges,
         links: bench.links,
@@ -54,6 +53,6 @@ pub(crate) fn fresh_bench(bench: Bench) -> Bench
         view,
         number,
         records,
-        cut,
+        down,
     }
 }

@@ -22,7 +22,7 @@ mod tables;
 mod updates;
 
 // Link l joins ends[2 l] and ends[2 l + 1]; `messages` is how many are in flight; `view` and `number` are each bridge's view and agreement
-// number.
+// number; `records` and `down` are each end's record and whether it is cut.
 pub struct Bench {
     pub bridges: usize,
     pub links: usize,
@@ -32,7 +32,7 @@ pub struct Bench {
     pub view: [u8; 16],
     pub number: [u16; 16],
     pub records: [EndRecord; 64],
-    pub cut: [bool; 32],
+    pub down: [bool; 64],
 }
 
 // An event of a plan is one call, with its numbers.
@@ -42,8 +42,8 @@ pub enum Event {
     Deliver(u8),
     Repeat(u8),
     Lose(u8),
-    Cut(u8),
-    Restore(u8),
+    Cut(u8, u8),
+    Restore(u8, u8),
     Report(u8),
     Path(u8, u8),
 }
@@ -70,7 +70,7 @@ pub enum PathReply {
     Stops(usize, usize),
 }
 
-// Where a frame goes from a bridge: it stays, or it crosses a link to another bridge.
+// Where a frame goes from a bridge: it crosses no link, or it crosses one to another bridge.
 pub enum Hop {
     Stays,
     Crosses(usize, usize),

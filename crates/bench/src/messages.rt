@@ -82,14 +82,14 @@ pub(crate) fn send_ready(
     ensures { λ r. ⌜ (queueOutcome (queueChangeNumber r) (queueChangeBench r bench) (now (messages .exit)) ≡ sendOf bench (now (messages .entry)) bridge link) × QueueChangeFits r × ((benchInRange (queueChangeBench r bench) && messagesInRange (queueChangeBench r bench) (now (messages .exit))) ≡ true) ⌝ }
 {
     let ends = bench.ends;
-    let cut = bench.cut;
+    let down = bench.down;
     let count = bench.messages;
     let refusal = refusals::send_refusal(
         bench.bridges,
         bench.links,
         count,
         ends,
-        cut,
+        down,
         bridge,
         link,
     );
@@ -220,8 +220,8 @@ pub(crate) fn deliver_ready(
     ensures { λ r. ⌜ Tables bench (now (costs .entry)) (now (tables .exit)) (now (known .exit)) ⌝ }
 {
     let count = bench.messages;
-    let cut = bench.cut;
-    let refusal = refusals::deliver_refusal(count, cut, messages, place);
+    let down = bench.down;
+    let refusal = refusals::deliver_refusal(count, down, messages, place);
     if refusal != 0 {
         return Reception::Refused(refusal);
     }
@@ -298,8 +298,8 @@ pub(crate) fn repeat_ready(
     ensures { λ r. ⌜ Tables bench (now (costs .entry)) (now (tables .exit)) (now (known .exit)) ⌝ }
 {
     let count = bench.messages;
-    let cut = bench.cut;
-    let refusal = refusals::deliver_refusal(count, cut, messages, place);
+    let down = bench.down;
+    let refusal = refusals::deliver_refusal(count, down, messages, place);
     if refusal != 0 {
         return Reception::Refused(refusal);
     }

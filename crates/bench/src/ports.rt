@@ -13,6 +13,7 @@ use agreement::choices::next_choice;
 use agreement::choices::port_by;
 use agreement::ready::opposite_end;
 use agreement::sizes::ENDS;
+use distances::ready::both;
 use distances::sizes::MOST_BRIDGES;
 use distances::sizes::ROW;
 use distances::sizes::TABLE;
@@ -22,11 +23,12 @@ ghost use Prim.Native.Nat.{ℕ, _+_, _*_, _≤_, _<_, _-_};
 ghost use lib.ListN.{length, getD, set};
 ghost use lib.Dec.{eqb};
 ghost use mathlib.Core.Bool.{cond};
-ghost use Rattle.agreement.specs.Call.{says};
+ghost use Rattle.agreement.specs.Call.{says, lentRecords};
+ghost use Rattle.agreement.specs.declared.EndRecord.{EndRecord};
 ghost use Rattle.agreement.specs.Choice.{nextChoice, portBy};
 ghost use Rattle.distances.specs.View.{graphOf, maxCost};
 ghost use Rattle.bench.specs.State.{state};
-ghost use Rattle.protocol.specs.Ports.{across};
+ghost use Rattle.protocol.specs.Ports.{across, isLive};
 ghost use Rattle.protocol.specs.Paths.{onward, delivered, stops};
 ghost use Rattle.bench.specs.Private.Answers.{portIn, reported, hopIn};
 ghost use Rattle.bench.specs.Contracts.{pathResponse};
@@ -40,15 +42,15 @@ fn choice_with(
     link: usize,
     cost: u32,
     far: u32,
-    cut: bool,
+    down: bool,
     holding: bool,
     sent: u32,
     held: u32,
 ) -> Choice
     requires { ⌜ (link < 32) × (cost ≤ maxCost) ⌝ }
-    ensures { λ r. ⌜ r ≡ nextChoice old link cost far cut holding sent held ⌝ }
+    ensures { λ r. ⌜ r ≡ nextChoice old link cost far down holding sent held ⌝ }
 {
-    let chosen = next_choice(old, link as u8, cost, far, cut, holding, sent, held);
+    let chosen = next_choice(old, link as u8, cost, far, down, holding, sent, held);
     match chosen {
         Chosen::So(next) => next,
         Chosen::Refused => old,
@@ -93,7 +95,7 @@ fn port_at(
             e / 2,
             costs[COST_ROW * view + e / 2],
             tables[TABLE * view + ROW * far + dest],
-            bench.cut[e / 2],
+            bench.down[e],
             bench.records[e].holding,
             sent[ROW * e + dest],
             held[ROW * e + dest],
@@ -175,7 +177,7 @@ fn all_choices(
             e / 2,
             costs[COST_ROW * view + e / 2],
             tables[TABLE * view + ROW * far + dest],
-            bench.cut[e / 2],
+            bench.down[e],
             bench.records[e].holding,
             sent[ROW * e + dest],
             held[ROW * e + dest],
@@ -228,6 +230,15 @@ fn across_link(ends: [u8; 64], link: usize, bridge: usize) -> usize
     if a == bridge { b } else { a }
 }
 
+// Are both ends of a link up?
+fn link_live(down: [bool; 64], link: usize) -> bool
+    requires { ⌜ link < 32 ⌝ }
+    ensures { λ r. ⌜ ((records : List EndRecord) (sent held : List ℕ) → r ≡ isLive (lentRecords down records sent held) link) ⌝ }
+{
+    let first = 2 * link;
+    both(!down[first], !down[first + 1])
+}
+
 fn hop_at(
     bench: Bench,
     costs: &[u32],
@@ -245,11 +256,16 @@ fn hop_at(
     ensures { λ r. ⌜ Tables bench (now (costs .entry)) (now (tables .exit)) (now (known .exit)) ⌝ }
 {
     let port = port_in(bench, costs, tables, known, chain, sent, held, bridge, dest);
-    let ends = bench.ends;
-    match port {
-        Port::Closed => Hop::Stays,
-        Port::Open(link) => Hop::Crosses(link as usize, across_link(ends, link as usize, bridge)),
+    let Port::Open(number) = port else {
+        return Hop::Stays;
+    };
+    let link = number as usize;
+    let down = bench.down;
+    if !link_live(down, link) {
+        return Hop::Stays;
     }
+    let ends = bench.ends;
+    Hop::Crosses(link, across_link(ends, link, bridge))
 }
 
 fn end_of_walk(dest: usize, last: usize, hops: usize) -> PathReply

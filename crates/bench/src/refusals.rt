@@ -1,14 +1,19 @@
 // What turns a call down, by document 01's table, once the ranges are checked: its number, 0 where nothing does. Each takes the numbers that
 // it looks at, of a bench that has them.
-use crate::sizes::MESSAGE;
+use crate::queue::arrival_end;
+use crate::queue::end_of;
 use crate::sizes::MOST_MESSAGES;
 use agreement::ready::numbers_used_up;
 use distances::ready::both;
 ghost use mathlib.Core.Path.{_≡_};
-ghost use mathlib.Core.List.{[]};
-ghost use Prim.Native.Nat.{_*_, _≤_, _<_};
-ghost use lib.ListN.{length, getD};
-ghost use Rattle.protocol.specs.Calls.{change, update, cut, restore, send, deliver, lose, port, report, refuse};
+ghost use mathlib.Core.Bool.{cond, not};
+ghost use mathlib.Core.List.{List, [], _∷_};
+ghost use Prim.Native.Nat.{_≤_, _<_};
+ghost use lib.ListN.{length};
+ghost use Rattle.protocol.specs.Calls.{Check, change, update, send, deliver, lose, port, report, refusal, refuse, noSuchBridge, noSuchLink, notOnLink};
+ghost use Rattle.bench.specs.Contracts.{orRefused};
+ghost use Rattle.bench.specs.Private.Changes.{switch};
+ghost use Rattle.bench.specs.Private.Effects.{LinkFits};
 ghost use Rattle.bench.specs.Private.Views.{networkOf};
 ghost use Rattle.bench.specs.declared.Bench.{Bench};
 
@@ -37,43 +42,11 @@ pub(crate) fn update_refusal(
     0
 }
 
-pub(crate) fn cut_refusal(links: usize, flags: [bool; 32], link: usize) -> u8
+// Of the end that a send, a cut or a restore names, ahead of its other checks: no such bridge or link, or the bridge is not on the link.
+fn end_refusal(bridges: usize, links: usize, ends: [u8; 64], bridge: usize, link: usize) -> u8
     requires { ⌜ links ≤ 32 ⌝ }
-    ensures { λ r. ⌜ ((b : Bench) → b .links ≡ links → b .cut ≡ flags → r ≡ refuse (networkOf b []) (change (cut link))) ⌝ }
-{
-    if links <= link {
-        return 10;
-    }
-    if flags[link] {
-        return 12;
-    }
-    0
-}
-
-pub(crate) fn restore_refusal(links: usize, flags: [bool; 32], link: usize) -> u8
-    requires { ⌜ links ≤ 32 ⌝ }
-    ensures { λ r. ⌜ ((b : Bench) → b .links ≡ links → b .cut ≡ flags → r ≡ refuse (networkOf b []) (change (restore link))) ⌝ }
-{
-    if links <= link {
-        return 10;
-    }
-    if !flags[link] {
-        return 12;
-    }
-    0
-}
-
-pub(crate) fn send_refusal(
-    bridges: usize,
-    links: usize,
-    count: usize,
-    ends: [u8; 64],
-    flags: [bool; 32],
-    bridge: usize,
-    link: usize,
-) -> u8
-    requires { ⌜ links ≤ 32 ⌝ }
-    ensures { λ r. ⌜ ((b : Bench) → b .bridges ≡ bridges → b .links ≡ links → b .messages ≡ count → b .ends ≡ ends → b .cut ≡ flags → r ≡ refuse (networkOf b []) (send bridge link)) ⌝ }
+    ensures { λ r. ⌜ ((b : Bench) → b .bridges ≡ bridges → b .links ≡ links → b .ends ≡ ends → (rest : List Check) → orRefused r (λ k. k) (refusal rest) ≡ refusal (noSuchBridge (networkOf b []) bridge ∷ noSuchLink (networkOf b []) link ∷ notOnLink (networkOf b []) bridge link ∷ rest)) ⌝ }
+    ensures { λ r. ⌜ (r ≡ 0 → link < links) ⌝ }
 {
     if bridges <= bridge {
         return 10;
@@ -87,7 +60,58 @@ pub(crate) fn send_refusal(
     if both(near != bridge, far != bridge) {
         return 11;
     }
-    if flags[link] {
+    0
+}
+
+// An end with this flag is down, or up, already.
+fn already(flag: bool, down: bool) -> bool
+    ensures { λ r. ⌜ r ≡ cond down flag (not flag) ⌝ }
+{
+    if down { flag } else { !flag }
+}
+
+// A cut, by which the end goes down, or a restore.
+pub(crate) fn switch_refusal(
+    bridges: usize,
+    links: usize,
+    ends: [u8; 64],
+    flags: [bool; 64],
+    bridge: usize,
+    link: usize,
+    down: bool,
+) -> u8
+    requires { ⌜ links ≤ 32 ⌝ }
+    ensures { λ r. ⌜ ((b : Bench) → b .bridges ≡ bridges → b .links ≡ links → b .ends ≡ ends → b .down ≡ flags → r ≡ refuse (networkOf b []) (change (switch down bridge link))) ⌝ }
+{
+    let refusal = end_refusal(bridges, links, ends, bridge, link);
+    if refusal != 0 {
+        return refusal;
+    }
+    let end = end_of(&ends, bridge, link);
+    if already(flags[end], down) {
+        return 12;
+    }
+    0
+}
+
+pub(crate) fn send_refusal(
+    bridges: usize,
+    links: usize,
+    count: usize,
+    ends: [u8; 64],
+    flags: [bool; 64],
+    bridge: usize,
+    link: usize,
+) -> u8
+    requires { ⌜ links ≤ 32 ⌝ }
+    ensures { λ r. ⌜ ((b : Bench) → b .bridges ≡ bridges → b .links ≡ links → b .messages ≡ count → b .ends ≡ ends → b .down ≡ flags → r ≡ refuse (networkOf b []) (send bridge link)) ⌝ }
+{
+    let refusal = end_refusal(bridges, links, ends, bridge, link);
+    if refusal != 0 {
+        return refusal;
+    }
+    let own = end_of(&ends, bridge, link);
+    if flags[own] {
         return 13;
     }
     if MOST_MESSAGES <= count {
@@ -96,16 +120,15 @@ pub(crate) fn send_refusal(
     0
 }
 
-pub(crate) fn deliver_refusal(count: usize, flags: [bool; 32], messages: &[u32], place: usize) -> u8
-    requires { ⌜ (count ≤ 64) × (320 ≤ length (now messages)) ⌝ }
-    requires { ⌜ (place < count → getD (now messages) (5 * place) 0 < 32) ⌝ }
-    ensures { λ r. ⌜ ((b : Bench) → b .messages ≡ count → b .cut ≡ flags → r ≡ refuse (networkOf b (now (messages .entry))) (deliver place)) ⌝ }
+pub(crate) fn deliver_refusal(count: usize, flags: [bool; 64], messages: &[u32], place: usize) -> u8
+    requires { ⌜ (count ≤ 64) × (320 ≤ length (now messages)) × (place < count → LinkFits (now messages) place) ⌝ }
+    ensures { λ r. ⌜ ((b : Bench) → b .messages ≡ count → b .down ≡ flags → r ≡ refuse (networkOf b (now (messages .entry))) (deliver place)) ⌝ }
 {
     if count <= place {
         return 15;
     }
-    let link = messages[MESSAGE * place] as usize;
-    if flags[link] {
+    let there = arrival_end(messages, place);
+    if flags[there] {
         return 13;
     }
     0

@@ -18,10 +18,12 @@ use Rattle.encoding.specs.Numbers.{linkNumber}
 use Rattle.protocol.specs.Net.{Network, Plan, offerIn, fresh}
 use Rattle.protocol.specs.Calls as calls
 use Rattle.protocol.specs.Calls.{Call, change, cut, refuse, run, answerAt}
-use Rattle.protocol.specs.Ports.{ownDistance, forwardingPort, crosses, hop, Trail.stay, Trail.cross}
-use Rattle.protocol.specs.Paths.{delivered, path}
+use Rattle.protocol.specs.Ports.{ownDistance, forwardingPort, crosses, hop}
+use Rattle.protocol.specs.Rings.{Trail.stay, Trail.cross}
+use Rattle.protocol.specs.Paths.{delivered, stops, path}
+use Rattle.protocol.specs.Paths as paths
 use Rattle.protocol.specs.LimitViews.{viewsRun, freshViews, leastOver, offerHeld}
-use Rattle.protocol.specs.Examples.{callsE3, callsE4, callsE6, callsE7}
+use Rattle.protocol.specs.Examples.{callsE3, callsOneEnd, callsE4, callsE6, callsE7}
 use Rattle.protocol.proofs.Example.{computing}
 use Rattle.bench.specs.State.{State, network, messagesFrom}
 use Rattle.bench.specs.Ranges.{graphInRange, benchInRange, costsInRange, limitsLong, messagePasses, messagesInRange, partsInRange, networkInRange}
@@ -78,24 +80,26 @@ module _ (claims : Claims) where
 -- ---- what the examples are in the network of the calls
 
 record Facts : Type 0 where
-  bridges : (made callsE3 .plan .graph .bridges ≡ 3) × (made callsE4 .plan .graph .bridges ≡ 3)
+  bridges : (made callsE3 .plan .graph .bridges ≡ 3) × (made callsE4 .plan .graph .bridges ≡ 3) × (made callsOneEnd .plan .graph .bridges ≡ 3)
   none : (refuse (made callsE3) (calls.port 2 0) ≡ 0) × (refuse (made callsE3) (calls.report 0) ≡ 0)
   port : forwardingPort (made callsE3) 2 0 ≡ Open 1
   path : path (made callsE3) 2 0 ≡ delivered 2
+  dies : (forwardingPort (made callsOneEnd) 1 0 ≡ Open 0) × (paths.path (made callsOneEnd) 2 0 ≡ stops 1 1)
   distance : (ownDistance (made callsE3) 2 0 ≡ 2) × (ownDistance (made callsE4) 1 0 ≡ 4)
   accepted : refuse (made callsE7) (calls.deliver 0) ≡ 0
   stale : answerAt (made callsE7) 0 ≡ Stale
   inFlight : 0 < length (made callsE7 .messages)
-  missing : refuse (made []) (change (cut 9)) ≡ 10
+  missing : refuse (made []) (change (cut 0 9)) ≡ 10
 
 facts : Facts
 unfolding all
 facts =
     record {
-      bridges = (refl, refl);
+      bridges = (refl, refl, refl);
       none = (refl, refl);
       port = refl;
       path = refl;
+      dies = (refl, refl);
       distance = (refl, refl);
       accepted = refl;
       stale = refl;
@@ -133,12 +137,12 @@ twelve : batchFrom 6 started events .disposition ≡ Refused 12
 unfolding all
 twelve = refl
 
-next-refused : Claims → replyOf (batchFrom 6 started events .state) (Cut 0) ≡ 12
+next-refused : Claims → replyOf (batchFrom 6 started events .state) (Cut 0 0) ≡ 12
 next-refused claims =
     let b = batchFrom 6 started events in
     let end : Ended 6 events b (Refused 12) = subst (Ended 6 events b) twelve (claims .batches 6 started events .ended) in
     let at : drop 2 events ≡ end .0 ∷ end .1 = ap (λ (k : ℕ). drop k events) (sym two-made) ∙ end .2 in
-    ap (replyOf (b .state)) (ap (λ (l : List Event). getD l 0 (Cut 0)) at) ∙ end .3
+    ap (replyOf (b .state)) (ap (λ (l : List Event). getD l 0 (Cut 0 0)) at) ∙ end .3
 
 six : answerSizes (started .bench .bridges) (take 2 events) ≡ 6
 unfolding all answerSizes
@@ -149,7 +153,7 @@ crossing : hop (made callsE7) 0 1 ≡ crosses 1 2
 unfolding all
 crossing = refl
 
-two-calls : callsOf (take 2 events) ≡ calls.report 0 ∷ change (cut 0) ∷ []
+two-calls : callsOf (take 2 events) ≡ calls.report 0 ∷ change (cut 0 0) ∷ []
 unfolding callsOf
 two-calls = refl
 
@@ -182,8 +186,8 @@ module _ (claims : Claims) where
   unfolding runIn
   at-first = meets claims []
 
-  none-cut : refusalOf (readyFor started (change (cut 9))) (network started) (change (cut 9)) ≡ 0 → ⊥
-  none-cut e = omega (arith, sym (facts .missing) ∙ sym (at-first .replies .refusals (change (cut 9))) ∙ e)
+  none-cut : refusalOf (readyFor started (change (cut 0 9))) (network started) (change (cut 0 9)) ≡ 0 → ⊥
+  none-cut e = omega (arith, sym (facts .missing) ∙ sym (at-first .replies .refusals (change (cut 0 9))) ∙ e)
 
   pub worked-calls : WorkedCalls
   worked-calls =
@@ -194,6 +198,8 @@ module _ (claims : Claims) where
       let two = bridge 2 (omega arith) in
       let zero = bridge 0 (omega arith) in
       let rows = t .reports 0 (replicate 32 5) (there 0 (omega arith)) (omega (arith, length-replicate {A = ℕ} 32 5)) .1 in
+      let pulled = meets claims callsOneEnd .replies in
+      let third = low (facts .bridges .2) in
       let limits = meets claims callsE6 .limits 2 0 (omega arith) (omega arith) in
       record {
         port = t .ports 2 0 (there 2 (omega arith)) (there 0 (omega arith)) ∙ ap (λ p. outcome (says p) (left callsE3)) (m .ports 2 0 two zero ∙ facts .port);
@@ -206,11 +212,15 @@ module _ (claims : Claims) where
         inFlight = standing-there claims;
         distance =
             meets claims callsE4 .replies .distances 1 0 (low (facts .bridges .1) 1 (omega arith)) (low (facts .bridges .1) 0 (omega arith)) ∙ facts .distance .1;
+        dies = (
+          pulled .ports 1 0 (third 1 (omega arith)) (third 0 (omega arith)) ∙ facts .dies .0,
+          pulled .paths 2 0 (third 2 (omega arith)) (third 0 (omega arith)) ∙ facts .dies .1,
+        );
         sent = limits .sent ∙ limits-at-e6 .0;
         held = held-told (network (left callsE6) .records .ends 2 .holding) _ (limits .held ∙ limits-at-e6 .1);
         accepted = meets claims callsE7 .replies .refusals (calls.deliver 0) ∙ facts .accepted;
         stale = meets claims callsE7 .replies .deliveries 0 (facts .inFlight) ∙ facts .stale;
-        refused = claims .refused started (change (cut 9)) none-cut;
+        refused = claims .refused started (change (cut 0 9)) none-cut;
         asking = (claims .asking started 2 0 .0, claims .asking started 2 0 .1, claims .asking started 2 0 .2);
         noRing = λ l e. meets claims callsE7 .holds .noRing 0 1 1 (cross crossing (cross e stay));
         reported = meets claims callsE3 .replies .reports 0 (replicate 40 5) (omega (arith, length-replicate {A = ℕ} 40 5)) ∙ facts .none .1;

@@ -8,7 +8,8 @@ use lib.ListN.{length, length-replicate}
 use Rattle.agreement.specs.declared.Port.the-variants.{Open}
 use Rattle.protocol.specs.Net.{fresh}
 use Rattle.protocol.specs.Calls as calls
-use Rattle.protocol.specs.Ports.{crosses, forwardingPort, hop, Trail.stay, Trail.cross}
+use Rattle.protocol.specs.Ports.{crosses, forwardingPort, hop}
+use Rattle.protocol.specs.Rings.{Trail.stay, Trail.cross}
 use Rattle.protocol.proofs.Example.{computing}
 use Rattle.plan.specs.Tags.{tags, mayCome, lengthFits, passes, known, inOrder, rightLength}
 use Rattle.plan.specs.Fields.{costIn, eventBy, fieldOf}

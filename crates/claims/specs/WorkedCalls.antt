@@ -15,9 +15,10 @@ use Rattle.protocol.specs.Net.{fresh}
 use Rattle.protocol.specs.Calls as calls
 use Rattle.protocol.specs.Calls.{Call, change, cut, answerAt}
 use Rattle.protocol.specs.Ports.{ownDistance, forwardingPort, crosses, hop}
-use Rattle.protocol.specs.Paths.{delivered, path}
+use Rattle.protocol.specs.Paths.{delivered, stops, path}
+use Rattle.protocol.specs.Paths as paths
 use Rattle.protocol.specs.Demand2.{ForwardsBy}
-use Rattle.protocol.specs.Examples.{callsE3, callsE4, callsE6, callsE7}
+use Rattle.protocol.specs.Examples.{callsE3, callsOneEnd, callsE4, callsE6, callsE7}
 use Rattle.bench.specs.State.{State, state, network}
 use Rattle.bench.specs.Contracts.{refusalOf, readyFor, outcome, outcomeOf, leftBy, reportOf, freshOf}
 use Rattle.bench.specs.Whole.{runIn}
@@ -40,7 +41,7 @@ bench =
       view = replicate 16 9;
       number = replicate 16 7;
       records = replicate 64 freshRecord;
-      cut = replicate 32 true;
+      down = replicate 64 true;
     }
 
 abbrev pub costs : List ℕ
@@ -65,7 +66,7 @@ lentSlice = kept bench costs (replicate 1024 8) (replicate 1024 8) (replicate 64
 
 -- a list of events: the third is refused, and the fourth is not looked at
 abbrev pub events : List Event
-events = Report 0 ∷ Cut 0 ∷ Cut 0 ∷ Cut 1 ∷ []
+events = Report 0 ∷ Cut 0 0 ∷ Cut 0 0 ∷ Cut 1 0 ∷ []
 
 pub record WorkedCalls : Type 0 where
   -- E3: the call replies that bridge 2's port is open on link 1, that its path is delivered after two hops, and that its distance is 2
@@ -77,6 +78,8 @@ pub record WorkedCalls : Type 0 where
   pub inFlight : left callsE3 .bench .messages ≡ 1
   -- E4: bridge 1 has distance 4
   pub distance : ownDistance (network (left callsE4)) 1 0 ≡ 4
+  -- of link 0 bridge 0's end alone is cut: bridge 1's port is open on it, and the path from 2 stops at bridge 1 after one hop
+  pub dies : (forwardingPort (network (left callsOneEnd)) 1 0 ≡ Open 0) × (paths.path (network (left callsOneEnd)) 2 0 ≡ stops 1 1)
   -- E6: at bridge 1's end of link 1 the caller's tables have the limits 2, sent, and 4, held
   pub sent : cell (left callsE6 .sent) 2 0 ≡ 2
   pub held : cell (left callsE6 .held) 2 0 ≡ 4
@@ -84,18 +87,18 @@ pub record WorkedCalls : Type 0 where
   pub accepted : refusalOf (readyFor (left callsE7) (calls.deliver 0)) (network (left callsE7)) (calls.deliver 0) ≡ 0
   pub stale : answerAt (network (left callsE7)) 0 ≡ Stale
   -- a cut of a link that is not there changes nothing, and asking neither
-  pub refused : leftBy started (change (cut 9)) ≡ started
+  pub refused : leftBy started (change (cut 0 9)) ≡ started
   pub asking : (leftBy started (calls.port 2 0) ≡ started) × (leftBy started (calls.report 0) ≡ started) × (leftBy started (calls.path 2 0) ≡ started)
   -- E7: bridge 1's frame goes to bridge 2, and so none of bridge 2 goes to bridge 1
   pub noRing : (l : ℕ) → hop (calls.run (fresh (network lentState .plan)) callsE7) 0 2 ≡ crosses l 1 → ⊥
   -- a report is not refused where there is room for its rows
   pub reported : refusalOf (readyFor (left callsE3) (calls.report 0) && leb 32 40) (network (left callsE3)) (calls.report 0) ≡ 0
-  -- of the list of events the report and one cut are made: both accepted, the state that they leave, the report's distances without a port; and the
+  -- of the list of events the report and one cut of an end are made: both accepted, the state that they leave, the report's distances without a port; and the
   -- next, the same cut again, is refused with 12
   pub made : eachAccepted started (take 2 events) ≡ true
-  pub batch : batchFrom 6 started events .state ≡ left (calls.report 0 ∷ change (cut 0) ∷ [])
+  pub batch : batchFrom 6 started events .state ≡ left (calls.report 0 ∷ change (cut 0 0) ∷ [])
   pub answers : batchFrom 6 started events .answers ≡ 0 ∷ NONE ∷ 1 ∷ NONE ∷ 2 ∷ NONE ∷ []
   pub sizes : length (batchFrom 6 started events .answers) ≡ 6
-  pub ended : replyOf (batchFrom 6 started events .state) (Cut 0) ≡ 12
+  pub ended : replyOf (batchFrom 6 started events .state) (Cut 0 0) ≡ 12
   -- over the slice, after `fresh` and the calls of E3: bridge 2's port is open on link 1
   pub slices : (first t : Kept) × Starts lentSlice first × Lead first callsE3 t × (forwardingPort (network (numbered t)) 2 0 ≡ Open 1)

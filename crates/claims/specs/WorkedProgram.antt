@@ -35,9 +35,9 @@ printed01 =
     ∷ 101 ∷ 110 ∷ 100 ∷ 32 ∷ 52 ∷ 10
     ∷ []
 
--- a cut of link 9, where there is one link, and a broken field behind it: `refused 10 at 16`; the empty plan: `refused 4 at 0`
+-- a cut of link 9 at bridge 0, where there is one link, and a broken field behind it: `refused 10 at 16`; the empty plan: `refused 4 at 0`
 abbrev pub planCut : List ℕ
-planCut = pair ++ (9 ∷ 0 ∷ 1 ∷ 9 ∷ 255 ∷ [])
+planCut = pair ++ (9 ∷ 0 ∷ 2 ∷ 0 ∷ 9 ∷ 255 ∷ [])
 
 abbrev pub printedCut : List ℕ
 printedCut = 114 ∷ 101 ∷ 102 ∷ 117 ∷ 115 ∷ 101 ∷ 100 ∷ 32 ∷ 49 ∷ 48 ∷ 32 ∷ 97 ∷ 116 ∷ 32 ∷ 49 ∷ 54 ∷ 10 ∷ []

@@ -47,12 +47,12 @@ unfoldable pub tabulated : {A : Type 0} → ℕ → (ℕ → A) → List A
 tabulated zero f = []
 tabulated (suc n) f = tabulated n f ++ (f n ∷ [])
 
--- the records of 64 ends, four numbers each, and 32 flags
+-- the records of 64 ends, four numbers each, and a flag for each
 abbrev pub recordsIn : List ℕ → List EndRecord
 recordsIn xs = tabulated 64 (λ e. recordAt xs (4 * e))
 
 abbrev pub flagsIn : List ℕ → List Bool
-flagsIn xs = tabulated 32 (λ l. isSet (getD xs l 0))
+flagsIn xs = tabulated 64 (λ e. isSet (getD xs e 0))
 
 -- does the list begin with 64 records
 abbrev pub holdsRecords : List ℕ → Bool

@@ -9,7 +9,6 @@ use agreement::calls;
 use agreement::sizes::ENDS;
 use agreement::sizes::NUMBERS;
 use distances::ready::both;
-use distances::sizes::MOST_LINKS;
 use distances::sizes::NONE;
 ghost use mathlib.Core.Path.{_≡_};
 ghost use mathlib.Core.Bool.{cond};
@@ -145,15 +144,15 @@ fn flag_at(numbers: &[u8], k: usize) -> bool
     false
 }
 
-// A flag for each of 32 links.
-pub fn flags_in(numbers: &[u8]) -> [bool; 32]
+// A flag for each of 64 ends.
+pub fn flags_in(numbers: &[u8]) -> [bool; 64]
     ensures { λ r. ⌜ r ≡ flagsIn (now (numbers .entry)) ⌝ }
 {
-    let mut flags = [false; MOST_LINKS];
-    let mut l = 0;
-    while l < MOST_LINKS {
-        flags[l] = flag_at(numbers, l);
-        l += 1;
+    let mut flags = [false; ENDS];
+    let mut e = 0;
+    while e < ENDS {
+        flags[e] = flag_at(numbers, e);
+        e += 1;
     }
     flags
 }

@@ -70,8 +70,8 @@ deliverReply v views t n e fields message sent held out =
     (deliveryReply fields out (deliverOutcome v views t n e (recordAt fields 0) (agreementIn message) sent held))
 
 unfoldable pub portReply : ViewData → ℕ → List ℕ → List ℕ → List ℕ → List ℕ → ℕ → ℕ → List ℕ → CallOutcome
-portReply v views cut records sent held y d out =
+portReply v views down records sent held y d out =
     ifLong
-    (leb 32 (length cut) && (holdsRecords records && leb 1 (length out)))
+    (leb 64 (length down) && (holdsRecords records && leb 1 (length out)))
     (out ∷ [])
-    (valueReply portNumbers out (portOutcome v views (flagsIn cut) (recordsIn records) sent held y d))
+    (valueReply portNumbers out (portOutcome v views (flagsIn down) (recordsIn records) sent held y d))

@@ -8,7 +8,7 @@ use agreement::Offered;
 use agreement::Reaction;
 use agreement::Reply;
 use agreement::calls;
-use distances::sizes::MOST_LINKS;
+use agreement::sizes::ENDS;
 use encoding::AGREEMENT;
 use encoding::ANSWER;
 ghost use mathlib.Core.Path.{_≡_};
@@ -234,7 +234,7 @@ pub extern "C" fn bench_deliver_end(
 }
 
 // `agreement::calls::port`: the link, or 4,294,967,295 where no port forwards, goes to out[0].
-// `cut` has a flag for each of 32 links, `records` the records of 64 ends.
+// `down` has a flag for each of 64 ends, `records` their records.
 #[no_mangle]
 pub extern "C" fn bench_port(
     bridges: usize,
@@ -243,7 +243,7 @@ pub extern "C" fn bench_port(
     costs: &[u32],
     table: &[u32],
     views: usize,
-    cut: &[u8],
+    down: &[u8],
     records: &[u32],
     sent: &[u32],
     held: &[u32],
@@ -251,9 +251,9 @@ pub extern "C" fn bench_port(
     dest: usize,
     out: &mut [u32],
 ) -> u8
-    ensures { λ r. ⌜ callOutcome r (now (out .exit) ∷ []) ≡ portReply (viewData bridges links (now (ends .entry)) (now (costs .entry)) (now (table .entry))) views (now (cut .entry)) (now (records .entry)) (now (sent .entry)) (now (held .entry)) bridge dest (now (out .entry)) ⌝ }
+    ensures { λ r. ⌜ callOutcome r (now (out .exit) ∷ []) ≡ portReply (viewData bridges links (now (ends .entry)) (now (costs .entry)) (now (table .entry))) views (now (down .entry)) (now (records .entry)) (now (sent .entry)) (now (held .entry)) bridge dest (now (out .entry)) ⌝ }
 {
-    if cut.len() < MOST_LINKS {
+    if down.len() < ENDS {
         return 17;
     }
     if !encoding::holds_records(records) {
@@ -262,7 +262,7 @@ pub extern "C" fn bench_port(
     if out.len() < 1 {
         return 17;
     }
-    let flags = encoding::flags_in(cut);
+    let flags = encoding::flags_in(down);
     let known = encoding::records_in(records);
     let found = calls::port(
         bridges,

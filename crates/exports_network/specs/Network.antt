@@ -18,10 +18,10 @@ use Rattle.bench.specs.Contracts.{refusedBy, Outcome, outcome, outcomeOf, pathN
 use Rattle.encoding.specs.Numbers.{isSet, tabulated, recordsIn, holdsRecords, recordNumbers, portNumbers}
 use Rattle.encoding.specs.Replies.{CallOutcome, callOutcome, ifLong, withValue, valueReply}
 
--- ---- a bench in 388 numbers: four counts, 64 ends, 16 views, 16 agreement numbers, four for each of 64 records, 32 cut flags
+-- ---- a bench in 420 numbers: four counts, 64 ends, 16 views, 16 agreement numbers, four for each of 64 records, a flag for each of 64 ends
 
 abbrev pub benchNumbers : ℕ
-benchNumbers = 388
+benchNumbers = 420
 
 -- f of each of the n numbers from place k on
 abbrev pub each : {A : Type 0} → ℕ → ℕ → (ℕ → A) → List ℕ → List A
@@ -38,14 +38,14 @@ benchIn xs =
       view = each 16 68 (λ x. x % 256) xs;
       number = each 16 84 (λ x. x % 65536) xs;
       records = recordsIn (take 256 (drop 100 xs));
-      cut = each 32 356 isSet xs;
+      down = each 64 356 isSet xs;
     }
 
 -- each of the n numbers from place k on is below the limit
 abbrev pub eachBelow : ℕ → ℕ → ℕ → List ℕ → Bool
 eachBelow n k limit xs = allBelow n (λ i. ltb (getD xs (k + i) 0) limit)
 
--- there are 388 numbers, and each fits its field: ends and views have 8 bits, agreement numbers 16; any number fits a count or a flag
+-- there are 420 numbers, and each fits its field: ends and views have 8 bits, agreement numbers 16; any number fits a count or a flag
 abbrev pub holdsBench : List ℕ → Bool
 holdsBench xs =
     leb benchNumbers (length xs) && (eachBelow 80 4 256 xs && (eachBelow 16 84 65536 xs && holdsRecords (take 256 (drop 100 xs))))
@@ -65,9 +65,9 @@ numberAt b k =
     (cond (ltb k 84) (getD (b .view) (k - 68) 0)
     (cond (ltb k 100) (getD (b .number) (k - 84) 0)
     (cond (ltb k 356) (getD (recordNumbers (getD (b .records) ((k - 100) / 4) freshRecord)) (k % 4) 0)
-    (cond (getD (b .cut) (k - 356) false) 1 0)))))
+    (cond (getD (b .down) (k - 356) false) 1 0)))))
 
--- the list with the bench in its first 388 numbers
+-- the list with the bench in its first 420 numbers
 unfoldable pub stored : Bench → List ℕ → List ℕ
 stored b xs = rewritten (λ k. ltb k benchNumbers) (numberAt b) xs
 
@@ -88,11 +88,11 @@ changeReply {A} test xs s call others =
 abbrev pub done : Call → State → Outcome (Unit {0})
 done c s = outcomeOf s c (λ n. tt)
 
-unfoldable pub netCutReply : List ℕ → ℕ → CallOutcome
-netCutReply xs l = changeReply (holdsBench xs) xs (state (benchIn xs) [] [] [] []) (done (change (cut l))) (λ o. [])
+unfoldable pub netCutReply : List ℕ → ℕ → ℕ → CallOutcome
+netCutReply xs y l = changeReply (holdsBench xs) xs (state (benchIn xs) [] [] [] []) (done (change (cut y l))) (λ o. [])
 
-unfoldable pub netRestoreReply : List ℕ → ℕ → CallOutcome
-netRestoreReply xs l = changeReply (holdsBench xs) xs (state (benchIn xs) [] [] [] []) (done (change (restore l))) (λ o. [])
+unfoldable pub netRestoreReply : List ℕ → ℕ → ℕ → CallOutcome
+netRestoreReply xs y l = changeReply (holdsBench xs) xs (state (benchIn xs) [] [] [] []) (done (change (restore y l))) (λ o. [])
 
 unfoldable pub netFreshReply : List ℕ → List ℕ → List ℕ → List ℕ → CallOutcome
 netFreshReply xs costs sent held =

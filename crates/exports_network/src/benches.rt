@@ -1,5 +1,5 @@
-// A bench as 388 numbers: the counts of bridges, links, views and messages in flight, then ends (64), view (16), number (16), four
-// numbers for each of 64 records, and cut (32). Any number but 0 stands for true. A list holds a bench where each number fits its
+// A bench as 420 numbers: the counts of bridges, links, views and messages in flight, then ends (64), view (16), number (16), four
+// numbers for each of 64 records, and down (64). Any number but 0 stands for true. A list holds a bench where each number fits its
 // field, and there the remainders change nothing.
 use agreement::EndRecord;
 use agreement::sizes::ENDS;
@@ -7,7 +7,6 @@ use agreement::sizes::NUMBERS;
 use bench::Bench;
 use distances::ready::both;
 use distances::sizes::MOST_BRIDGES;
-use distances::sizes::MOST_LINKS;
 ghost use mathlib.Core.Path.{_≡_};
 ghost use Prim.Native.Nat.{_+_, _%_, _≤_, _<_};
 ghost use lib.ListN.{length, getD};
@@ -23,15 +22,15 @@ const NUMBER_AT: usize = 84;
 
 const RECORDS_AT: usize = 100;
 
-const CUT_AT: usize = 356;
+const DOWN_AT: usize = 356;
 
-const BENCH_NUMBERS: usize = 388;
+const BENCH_NUMBERS: usize = 420;
 
 // The ends and the views, which have 8 bits.
 const NARROW: usize = NUMBER_AT - ENDS_AT;
 
 fn ends_in(numbers: &[u32]) -> [u8; 64]
-    requires { ⌜ 388 ≤ length (now numbers) ⌝ }
+    requires { ⌜ 420 ≤ length (now numbers) ⌝ }
     ensures { λ r. ⌜ r ≡ each 64 4 (λ x. x % 256) (now (numbers .entry)) ⌝ }
 {
     let mut ends = [0u8; ENDS];
@@ -44,7 +43,7 @@ fn ends_in(numbers: &[u32]) -> [u8; 64]
 }
 
 fn views_in(numbers: &[u32]) -> [u8; 16]
-    requires { ⌜ 388 ≤ length (now numbers) ⌝ }
+    requires { ⌜ 420 ≤ length (now numbers) ⌝ }
     ensures { λ r. ⌜ r ≡ each 16 68 (λ x. x % 256) (now (numbers .entry)) ⌝ }
 {
     let mut views = [0u8; MOST_BRIDGES];
@@ -57,7 +56,7 @@ fn views_in(numbers: &[u32]) -> [u8; 16]
 }
 
 fn agreement_numbers_in(numbers: &[u32]) -> [u16; 16]
-    requires { ⌜ 388 ≤ length (now numbers) ⌝ }
+    requires { ⌜ 420 ≤ length (now numbers) ⌝ }
     ensures { λ r. ⌜ r ≡ each 16 84 (λ x. x % 65536) (now (numbers .entry)) ⌝ }
 {
     let mut counts = [0u16; MOST_BRIDGES];
@@ -69,28 +68,28 @@ fn agreement_numbers_in(numbers: &[u32]) -> [u16; 16]
     counts
 }
 
-fn cuts_in(numbers: &[u32]) -> [bool; 32]
-    requires { ⌜ 388 ≤ length (now numbers) ⌝ }
-    ensures { λ r. ⌜ r ≡ each 32 356 isSet (now (numbers .entry)) ⌝ }
+fn flags_in(numbers: &[u32]) -> [bool; 64]
+    requires { ⌜ 420 ≤ length (now numbers) ⌝ }
+    ensures { λ r. ⌜ r ≡ each 64 356 isSet (now (numbers .entry)) ⌝ }
 {
-    let mut cuts = [false; MOST_LINKS];
-    let mut l = 0;
-    while l < MOST_LINKS {
-        cuts[l] = numbers[CUT_AT + l] != 0;
-        l += 1;
+    let mut flags = [false; ENDS];
+    let mut e = 0;
+    while e < ENDS {
+        flags[e] = numbers[DOWN_AT + e] != 0;
+        e += 1;
     }
-    cuts
+    flags
 }
 
 pub(crate) fn load(numbers: &[u32]) -> Bench
-    requires { ⌜ 388 ≤ length (now numbers) ⌝ }
+    requires { ⌜ 420 ≤ length (now numbers) ⌝ }
     ensures { λ r. ⌜ r ≡ benchIn (now (numbers .entry)) ⌝ }
 {
     let ends = ends_in(numbers);
     let view = views_in(numbers);
     let number = agreement_numbers_in(numbers);
-    let records = encoding::records_in(&numbers[RECORDS_AT..CUT_AT]);
-    let cut = cuts_in(numbers);
+    let records = encoding::records_in(&numbers[RECORDS_AT..DOWN_AT]);
+    let down = flags_in(numbers);
     Bench {
         bridges: numbers[0] as usize,
         links: numbers[1] as usize,
@@ -100,7 +99,7 @@ pub(crate) fn load(numbers: &[u32]) -> Bench
         view,
         number,
         records,
-        cut,
+        down,
     }
 }
 
@@ -126,7 +125,7 @@ pub(crate) fn holds(numbers: &[u32]) -> bool
     }
     let narrow = each_below(numbers, NARROW, ENDS_AT, 256);
     let wide = each_below(numbers, MOST_BRIDGES, NUMBER_AT, NUMBERS);
-    let records = encoding::holds_records(&numbers[RECORDS_AT..CUT_AT]);
+    let records = encoding::holds_records(&numbers[RECORDS_AT..DOWN_AT]);
     both(narrow, both(wide, records))
 }
 
@@ -169,7 +168,7 @@ fn field_of(end: EndRecord, k: usize) -> u32
 
 // The number at place k of a bench.
 fn number_at(bench: Bench, k: usize) -> u32
-    requires { ⌜ k < 388 ⌝ }
+    requires { ⌜ k < 420 ⌝ }
     ensures { λ r. ⌜ r ≡ numberAt bench k ⌝ }
 {
     if k < ENDS_AT {
@@ -184,14 +183,14 @@ fn number_at(bench: Bench, k: usize) -> u32
     if k < RECORDS_AT {
         return bench.number[k - NUMBER_AT] as u32;
     }
-    if k < CUT_AT {
+    if k < DOWN_AT {
         return field_of(bench.records[(k - RECORDS_AT) / 4], k % 4);
     }
-    encoding::flag_number(bench.cut[k - CUT_AT])
+    encoding::flag_number(bench.down[k - DOWN_AT])
 }
 
 pub(crate) fn store(bench: Bench, numbers: &mut [u32])
-    requires { ⌜ 388 ≤ length (now numbers) ⌝ }
+    requires { ⌜ 420 ≤ length (now numbers) ⌝ }
     ensures { λ r. ⌜ now (numbers .exit) ≡ stored bench (now (numbers .entry)) ⌝ }
 {
     let mut k = 0;

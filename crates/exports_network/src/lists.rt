@@ -18,7 +18,7 @@ const COUNTS: usize = 3;
 
 // The new bench goes to `numbers` where an event was made, and the counts to `out`.
 fn store_batch(batch: BatchResult, used: usize, numbers: &mut [u32], out: &mut [u32]) -> u8
-    requires { ⌜ (388 ≤ length (now numbers)) × (3 ≤ length (now out)) ⌝ }
+    requires { ⌜ (420 ≤ length (now numbers)) × (3 ≤ length (now out)) ⌝ }
     ensures { λ r. ⌜ (r ≡ refusalIn (batch .disposition)) × (now (numbers .exit) ≡ storedIfMade (batch .made) (batch .bench) (now (numbers .entry))) × (now (out .exit) ≡ sets (now (out .entry)) 0 (countsOf (batch .made) used (batch .answered))) ⌝ }
 {
     let how = batch.disposition;

@@ -31,7 +31,7 @@ fn number_of(reply: Reply) -> u8
 
 // The new bench goes to `numbers` where the call was not refused.
 pub(crate) fn store_change(changed: Changed, numbers: &mut [u32]) -> u8
-    requires { ⌜ 388 ≤ length (now numbers) ⌝ }
+    requires { ⌜ 420 ≤ length (now numbers) ⌝ }
     ensures { λ r. ⌜ (r ≡ doneResponse (changed .reply) .number) × (now (numbers .exit) ≡ withBench (doneResponse (changed .reply) .number) (changed .bench) (now (numbers .entry))) ⌝ }
 {
     let reply = changed.reply;
@@ -44,7 +44,7 @@ pub(crate) fn store_change(changed: Changed, numbers: &mut [u32]) -> u8
 
 // The answer goes to `out` too. A delivery that is refused has a number other than 0.
 pub(crate) fn store_delivery(delivery: DeliveryResult, numbers: &mut [u32], out: &mut [u32]) -> u8
-    requires { ⌜ (388 ≤ length (now numbers)) × (3 ≤ length (now out)) ⌝ }
+    requires { ⌜ (420 ≤ length (now numbers)) × (3 ≤ length (now out)) ⌝ }
     requires { ⌜ (delivery .reply ≡ replies.Reaction.Refused 0 → ⊥) ⌝ }
     ensures { λ r. ⌜ (r ≡ reactionResponse (delivery .reply) .number) × (now (numbers .exit) ≡ withBench (reactionResponse (delivery .reply) .number) (delivery .bench) (now (numbers .entry))) × (now (out .exit) ≡ withValue answerNumbers (now (out .entry)) (reactionResponse (delivery .reply) .value)) ⌝ }
 {
@@ -99,27 +99,27 @@ pub extern "C" fn bench_net_update(
 
 // `bench::changes::cut`
 #[no_mangle]
-pub extern "C" fn bench_net_cut(bench: &mut [u32], link: usize) -> u8
-    ensures { λ r. ⌜ callOutcome r (now (bench .exit) ∷ []) ≡ netCutReply (now (bench .entry)) link ⌝ }
+pub extern "C" fn bench_net_cut(bench: &mut [u32], bridge: usize, link: usize) -> u8
+    ensures { λ r. ⌜ callOutcome r (now (bench .exit) ∷ []) ≡ netCutReply (now (bench .entry)) bridge link ⌝ }
 {
     if !benches::holds(bench) {
         return 17;
     }
     let old = benches::load(bench);
-    let changed = changes::cut(old, link);
+    let changed = changes::cut(old, bridge, link);
     store_change(changed, bench)
 }
 
 // `bench::changes::restore`
 #[no_mangle]
-pub extern "C" fn bench_net_restore(bench: &mut [u32], link: usize) -> u8
-    ensures { λ r. ⌜ callOutcome r (now (bench .exit) ∷ []) ≡ netRestoreReply (now (bench .entry)) link ⌝ }
+pub extern "C" fn bench_net_restore(bench: &mut [u32], bridge: usize, link: usize) -> u8
+    ensures { λ r. ⌜ callOutcome r (now (bench .exit) ∷ []) ≡ netRestoreReply (now (bench .entry)) bridge link ⌝ }
 {
     if !benches::holds(bench) {
         return 17;
     }
     let old = benches::load(bench);
-    let changed = changes::restore(old, link);
+    let changed = changes::restore(old, bridge, link);
     store_change(changed, bench)
 }
 

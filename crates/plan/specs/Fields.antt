@@ -41,7 +41,7 @@ eventBy t a b =
     (cond (eqb t 6) (Deliver a)
     (cond (eqb t 7) (Repeat a)
     (cond (eqb t 8) (Lose a)
-    (cond (eqb t 9) (Cut a) (cond (eqb t 10) (Restore a) (cond (eqb t 11) (Report a) (Path a b))))))))
+    (cond (eqb t 9) (Cut a b) (cond (eqb t 10) (Restore a b) (cond (eqb t 11) (Report a) (Path a b))))))))
 
 -- the field: a setup, or an event with its own data
 unfoldable pub fieldOf : List ℕ → Field

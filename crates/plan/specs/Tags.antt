@@ -1,4 +1,4 @@
--- The table of tags (document 01, "Plan file"): a field's tag, its place in the plan, and the length of its value. Assumes nothing.
+-- The table of tags (document 01, "Plan file"; document 02, Change 1: "Tags 9 and 10 take two bytes, bridge first"): a field's tag, its place in the plan, and the length of its value. Assumes nothing.
 use Prim.Native.Nat.{ℕ, _*_}
 use mathlib.Core.Path.{_≡_}
 use mathlib.Core.Bool.{Bool, true, false, cond, _||_}
@@ -28,8 +28,8 @@ tags =
     ∷ row 6 AfterView (Bytes 1)  -- deliver
     ∷ row 7 AfterView (Bytes 1)  -- repeat
     ∷ row 8 AfterView (Bytes 1)  -- lose
-    ∷ row 9 AfterView (Bytes 1)  -- cut
-    ∷ row 10 AfterView (Bytes 1)  -- restore
+    ∷ row 9 AfterView (Bytes 2)  -- cut
+    ∷ row 10 AfterView (Bytes 2)  -- restore
     ∷ row 11 AfterView (Bytes 1)  -- report
     ∷ row 12 AfterView (Bytes 2)  -- path
     ∷ []

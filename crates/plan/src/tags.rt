@@ -37,8 +37,8 @@ const TAGS: [Rule; LAST_TAG] = [
     Rule(Place::AfterView, Length::Bytes(1)), // deliver
     Rule(Place::AfterView, Length::Bytes(1)), // repeat
     Rule(Place::AfterView, Length::Bytes(1)), // lose
-    Rule(Place::AfterView, Length::Bytes(1)), // cut
-    Rule(Place::AfterView, Length::Bytes(1)), // restore
+    Rule(Place::AfterView, Length::Bytes(2)), // cut
+    Rule(Place::AfterView, Length::Bytes(2)), // restore
     Rule(Place::AfterView, Length::Bytes(1)), // report
     Rule(Place::AfterView, Length::Bytes(2)), // path
 ];

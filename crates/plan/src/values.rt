@@ -127,10 +127,10 @@ fn event_of(tag: u8, a: u8, b: u8) -> Event
         return Event::Lose(a);
     }
     if tag == 9 {
-        return Event::Cut(a);
+        return Event::Cut(a, b);
     }
     if tag == 10 {
-        return Event::Restore(a);
+        return Event::Restore(a, b);
     }
     if tag == 11 {
         return Event::Report(a);

@@ -10,7 +10,7 @@ use borrow.Author.Tests.{eqb-true, leb-false, not-false}
 use Rattle.distances.proofs.Booleans.{below}
 use Rattle.distances.proofs.Refusals.{passed}
 use Rattle.protocol.specs.Net.{Network}
-use Rattle.protocol.specs.Calls.{Call, Check, change, send, update, refusal, noSuchBridge, noSuchView, noNumberLeft, noSuchLink, notOnLink, linkCut, noRoom, noMessage, changeChecks, checks, refuse, accepted, endOf}
+use Rattle.protocol.specs.Calls.{Call, Check, change, send, update, refusal, noSuchBridge, noSuchView, noNumberLeft, noSuchLink, notOnLink, endDown, noRoom, noMessage, changeChecks, checks, refuse, accepted, endOf}
 use Rattle.protocol.proofs.Links.{end-at-bridge}
 
 -- no check of an accepted call applies
@@ -33,12 +33,12 @@ pub record UpdateExists (n : Network) (b t : ℕ) : Type 0 where
 
 module _ (n : Network) where
   pub send-listed : (b l : ℕ) → accepted n (send b l) ≡ true → SendFacts n b l
-  unfolding checks noSuchBridge noSuchLink notOnLink linkCut noRoom
+  unfolding checks noSuchBridge noSuchLink notOnLink endDown noRoom
   send-listed b l a =
       let one = passed (noSuchBridge n b) _ (omega arith) (accepted-checks n (send b l) a) in
       let two = passed (noSuchLink n l) _ (omega arith) (one .1) in
       let three = passed (notOnLink n b l) _ (omega arith) (two .1) in
-      let four = passed (linkCut n l) _ (omega arith) (three .1) in
+      let four = passed (endDown n (endOf (n .plan .graph) b l)) _ (omega arith) (three .1) in
       let five = passed (noRoom n) _ (omega arith) (four .1) in
       record {
         bridge = below b (n .plan .graph .bridges) (one .0);

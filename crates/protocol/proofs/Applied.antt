@@ -7,13 +7,15 @@ use mathlib.Core.List.{List, []}
 use Rattle.distances.specs.View.{NONE}
 use Rattle.distances.specs.Meaning.{IsLeast, IsDistance}
 use Rattle.distances.specs.Examples.{triangle, view1}
-use Rattle.protocol.specs.Ports.{stays, hop, Trail.stay, Trail.cross}
+use Rattle.protocol.specs.Ports.{stays, hop}
+use Rattle.protocol.specs.Rings.{Trail.stay, Trail.cross}
 use Rattle.protocol.specs.Demand2.{ByTheRule, Demand2}
 use Rattle.protocol.specs.Demand3.{Demand3}
 use Rattle.protocol.specs.Calls.{Call}
-use Rattle.protocol.specs.Examples.{plan, after, callsE3, callsE4, callsE6, callsE7}
+use Rattle.protocol.specs.Examples.{plan, after, callsE3, callsOneEnd, callsE4, callsE6, callsE7}
 use Rattle.protocol.specs.SettlingMet.{before, first, second, SettlingCanBeMet}
 use Rattle.protocol.specs.Applied.{RuleAtExamples, ListsAtExamples, DemandsApply}
+use Rattle.protocol.proofs.Hops.{stays-crosses}
 use Rattle.protocol.proofs.Example.{computing}
 
 -- a distance that is not NONE
@@ -28,6 +30,7 @@ rule-applies claim met =
     let four = reached (at callsE4 .distance 1 0 (omega arith)) (λ e. omega arith) in
     let three = reached (at callsE4 .others 1 2 0 (omega arith)) (λ e. omega arith) in
     let by = at callsE3 .forwards 2 0 1 refl in
+    let crossing = at callsE3 .crosses 2 0 1 1 refl in
     let stop = at callsE4 .paths 2 0 in
     record {
       attained = four .attained;
@@ -35,6 +38,9 @@ rule-applies claim met =
       other = three .least;
       forwards = by;
       opens = at callsE3 .opens 2 0 1 (by .0) (by .1);
+      crosses = crossing;
+      crossed = at callsE3 .crossed 2 0 1 1 (crossing .0) (crossing .1);
+      dies = (at callsOneEnd .forwards 1 0 0 refl, λ z e w. stays-crosses 0 z (at callsOneEnd .crossed 1 0 0 z e w));
       closed = at [] .closed 2 0 (λ l e w. omega (arith, w .allowed .held));
       arrives = at callsE3 .paths 2 0;
       stops = (stop .0, over (stop .2));

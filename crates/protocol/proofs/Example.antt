@@ -2,6 +2,7 @@
 use Prim.Native.Nat.{ℕ, zero, suc, _<_, _≤_}
 use native.Mathlib.Omega.{arith}
 use mathlib.Core.Path.{_≡_, refl}
+use mathlib.Core.Logic.{_⊎_, inl, inr}
 use mathlib.Core.Bool.{Bool, true, false≢true}
 use Rattle.distances.specs.View.{CostsInRange, maxCost}
 use Rattle.distances.specs.Distance.{present, joins, crossing, unjoined, joinedBelow, relaxed, relaxedBelow, dist}
@@ -14,18 +15,18 @@ use Rattle.agreement.specs.Record.{updated, sentUpdated, heldUpdated, isStale, 
 use Rattle.agreement.specs.Forwarding.{reaches, chosenEnd, isNotDestination, hasPath, isUp, heldSuffices, sentAllows, everySentAllows, conditions, portFrom}
 use Rattle.agreement.specs.Forwarding
 use Rattle.protocol.specs.Net.{PlanInRange, fresh}
-use Rattle.protocol.specs.Calls.{refusal, noSuchBridge, noSuchView, noSuchLink, noNumberLeft, notOnLink, linkCut, noRoom, noMessage, already, changeChecks, checks, refuse, accepted, moved, updatedTo, withCut, endOf, messageOf, sentOver, without, receivedAt, afterDelivery, afterChange, act, step, run}
-use Rattle.protocol.specs.Ports.{ownDistance, forwardingPort, across, hopBy, hop}
+use Rattle.protocol.specs.Calls.{refusal, noSuchBridge, noSuchView, noSuchLink, noNumberLeft, notOnLink, endDown, noRoom, noMessage, already, changeChecks, checks, refuse, accepted, moved, updatedTo, withEnd, endOf, messageOf, sentOver, without, receivedAt, afterDelivery, afterChange, act, step, run}
+use Rattle.protocol.specs.Ports.{ownDistance, forwardingPort, across, isLive, hopBy, hop}
 use Rattle.protocol.specs.Paths.{follow, onward, path, followLinks, onwardLinks, linksCrossed}
 use Rattle.protocol.specs.LimitViews.{updateEffect, deliveryEffect, acceptedEffect, endEffect, viewsAfter, viewsRun, leastOver, offerHeld}
 use Rattle.protocol.specs.Rounds.{movedUp, messageStatus, statusBy, orLater, isDelivered, isSendFrom, isSentAndDelivered, hasRound, isChange, hasNoChange}
-use Rattle.protocol.specs.Demand3.{Settling}
+use Rattle.protocol.specs.Demand3.{Uncut, Cut, Settling}
 use Rattle.protocol.specs.Examples.{costsIn, plan}
 use Rattle.protocol.specs.SettlingMet.{before, opening, closing, first, second, start, SettlingCanBeMet}
 
 -- all that computes below
 unfoldable pub computing : Bool
-unfolding costsIn before opening closing first second start present joins crossing unjoined joinedBelow relaxed relaxedBelow dist every allBelow firstBelow offer updated sentUpdated heldUpdated isStale isAgreed answer recorded isClearing sentDelivered heldDelivered reaches chosenEnd isNotDestination hasPath isUp heldSuffices sentAllows everySentAllows conditions portFrom Rattle.agreement.specs.Forwarding.port fresh refusal noSuchBridge noSuchView noSuchLink noNumberLeft notOnLink linkCut noRoom noMessage already changeChecks checks refuse accepted moved updatedTo withCut endOf messageOf sentOver without receivedAt afterDelivery afterChange act step run ownDistance forwardingPort across hopBy hop follow onward path followLinks onwardLinks linksCrossed updateEffect deliveryEffect acceptedEffect endEffect viewsAfter viewsRun leastOver offerHeld movedUp messageStatus statusBy orLater isDelivered isSendFrom isSentAndDelivered hasRound isChange hasNoChange
+unfolding costsIn before opening closing first second start present joins crossing unjoined joinedBelow relaxed relaxedBelow dist every allBelow firstBelow offer updated sentUpdated heldUpdated isStale isAgreed answer recorded isClearing sentDelivered heldDelivered reaches chosenEnd isNotDestination hasPath isUp heldSuffices sentAllows everySentAllows conditions portFrom Rattle.agreement.specs.Forwarding.port fresh refusal noSuchBridge noSuchView noSuchLink noNumberLeft notOnLink endDown noRoom noMessage already changeChecks checks refuse accepted moved updatedTo withEnd endOf messageOf sentOver without receivedAt afterDelivery afterChange act step run ownDistance forwardingPort across isLive hopBy hop follow onward path followLinks onwardLinks linksCrossed updateEffect deliveryEffect acceptedEffect endEffect viewsAfter viewsRun leastOver offerHeld movedUp messageStatus statusBy orLater isDelivered isSendFrom isSentAndDelivered hasRound isChange hasNoChange
 computing = true
 
 -- the plan is in the ranges
@@ -48,7 +49,8 @@ unfolding computing
 premises =
     record {
       onView = below-three (λ b. start .view b ≡ 1) refl refl refl;
-      cutAbsent = below-three (λ l. start .records .cut l ≡ true → costsIn 1 l ≡ 0) (λ q. refl) (λ q. absurd (false≢true q)) (λ q. absurd (false≢true q));
+      uncutOrCut = below-three (λ l. Uncut start l ⊎ Cut start l) (inr (refl, refl)) (inl (refl, refl)) (inl (refl, refl));
+      cutAbsent = below-three (λ l. Cut start l → costsIn 1 l ≡ 0) (λ q. refl) (λ q. absurd (false≢true (q .0))) (λ q. absurd (false≢true (q .0)));
       noChange = refl;
       firstRound = refl;
       secondRound = refl;

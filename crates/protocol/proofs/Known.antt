@@ -3,8 +3,8 @@
 use mathlib.Core.Bool.{true}
 use mathlib.Core.Path.{_≡_, refl}
 use Rattle.protocol.specs.Net.{fresh}
-use Rattle.protocol.specs.Calls.{refusal, noSuchBridge, noSuchView, noSuchLink, noNumberLeft, notOnLink, linkCut, noRoom, noMessage, already, changeChecks, checks, refuse, accepted, moved, updatedTo, withCut, endOf, messageOf, sentOver, without, receivedAt, afterDelivery, afterChange, act, step, run}
-use Rattle.protocol.specs.Ports.{ownDistance, forwardingPort, across, hopBy, hop}
+use Rattle.protocol.specs.Calls.{refusal, noSuchBridge, noSuchView, noSuchLink, noNumberLeft, notOnLink, endDown, noRoom, noMessage, already, changeChecks, checks, refuse, accepted, moved, updatedTo, withEnd, endOf, messageOf, sentOver, without, receivedAt, afterDelivery, afterChange, act, step, run}
+use Rattle.protocol.specs.Ports.{ownDistance, forwardingPort, across, isLive, hopBy, hop}
 use Rattle.protocol.specs.Paths.{follow, onward, path, followLinks, onwardLinks, linksCrossed}
 use Rattle.protocol.specs.Examples.{costsIn, allExamples, ExamplesHold}
 use Rattle.agreement.specs.Tests.{firstBelow}
@@ -17,7 +17,7 @@ use Rattle.distances.specs.Examples.{same, allPass}
 use Rattle.distances.proofs.Known.{each-holds}
 
 all-pass : allPass allExamples ≡ true
-unfolding fresh refusal noSuchBridge noSuchView noSuchLink noNumberLeft notOnLink linkCut noRoom noMessage already changeChecks checks refuse accepted moved updatedTo withCut endOf messageOf sentOver without receivedAt afterDelivery afterChange act step run ownDistance forwardingPort across hopBy hop follow onward path followLinks onwardLinks linksCrossed costsIn firstBelow offer updated sentUpdated heldUpdated isStale isAgreed answer recorded isClearing sentDelivered heldDelivered reaches chosenEnd isNotDestination hasPath isUp heldSuffices sentAllows everySentAllows conditions portFrom port present joins crossing unjoined joinedBelow relaxed relaxedBelow dist every allBelow linkPasses linkInRange inRange distancesOf same allPass
+unfolding fresh refusal noSuchBridge noSuchView noSuchLink noNumberLeft notOnLink endDown noRoom noMessage already changeChecks checks refuse accepted moved updatedTo withEnd endOf messageOf sentOver without receivedAt afterDelivery afterChange act step run ownDistance forwardingPort across isLive hopBy hop follow onward path followLinks onwardLinks linksCrossed costsIn firstBelow offer updated sentUpdated heldUpdated isStale isAgreed answer recorded isClearing sentDelivered heldDelivered reaches chosenEnd isNotDestination hasPath isUp heldSuffices sentAllows everySentAllows conditions portFrom port present joins crossing unjoined joinedBelow relaxed relaxedBelow dist every allBelow linkPasses linkInRange inRange distancesOf same allPass
 all-pass = refl
 
 pub examples-hold : ExamplesHold

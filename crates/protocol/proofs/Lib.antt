@@ -10,6 +10,7 @@ pub mod Received
 pub mod Runs
 pub mod Steps
 pub mod Hops
+pub mod Rings
 pub mod NoRing
 pub mod PathEnds
 pub mod Statuses

@@ -12,7 +12,7 @@ use Rattle.agreement.specs.Record.{heldLimit, updated, heldUpdated, isStale, is
 use Rattle.agreement.specs.declared.EndRecord.{EndRecord}
 use Rattle.agreement.proofs.RecordLaws.{updated-adopts, updated-keeps, held-adopts, held-keeps, sent-updated, agreed-view, stale-recorded, agreed-recorded, noted-recorded, stale-held, agreed-held, noted-held, sent-cleared, sent-kept}
 use Rattle.protocol.specs.Net.{Network, Plan, Message, sender, offerIn, fresh}
-use Rattle.protocol.specs.Calls.{Call, change, update, cut, restore, send, deliver, repeat, lose, port, report, path, accepted, messageAt, moved, updatedTo, withCut, sentOver, receivedAt, afterDelivery, afterChange, act, step, run}
+use Rattle.protocol.specs.Calls.{Call, change, update, cut, restore, send, deliver, repeat, lose, port, report, path, accepted, messageAt, moved, updatedTo, withEnd, sentOver, receivedAt, afterDelivery, afterChange, act, step, run}
 use Rattle.protocol.specs.LimitViews.{movesTo, receives, nothing, updateEffect, deliveryEffect, acceptedEffect, endEffect, only, EndViews, freshViews, viewsAfter, viewsRun, leastOver, offerHeld, Limits, LimitsAsDefined}
 use Rattle.protocol.proofs.Runs.{plan-run}
 
@@ -98,10 +98,10 @@ module _ (n : Network) (e d : ℕ) (v : EndViews) (old : Limits (n .plan) (n .re
       limits-received (messageAt n p) (opposite (sender (messageAt n p))) (eqb e (opposite (sender (messageAt n p)))) refl
 
   limits-act : (c : Call) → Limits (act n c .plan) (act n c .records) e d (viewsAfter n e (acceptedEffect n e c) v)
-  unfolding act afterChange withCut sentOver afterDelivery receivedAt acceptedEffect viewsAfter
+  unfolding act afterChange withEnd sentOver afterDelivery receivedAt acceptedEffect viewsAfter
   limits-act (change (update b t)) = limits-updated b t
-  limits-act (change (cut l)) = record { sent = old .sent; held = old .held }
-  limits-act (change (restore l)) = record { sent = old .sent; held = old .held }
+  limits-act (change (cut b l)) = record { sent = old .sent; held = old .held }
+  limits-act (change (restore b l)) = record { sent = old .sent; held = old .held }
   limits-act (send b l) = old
   limits-act (deliver p) = limits-delivered p
   limits-act (repeat p) = limits-delivered p

@@ -69,7 +69,7 @@ module _ (n : Network) (inv : Invariant n) (d : ℕ) where
   hop-fewer : (y l z : ℕ) → hop n d y ≡ crosses l z → before n d z < before n d y
   unfolding before
   hop-fewer y l z first =
-      nearer-falls (rank n d) (n .plan .graph .bridges) z y (hop-in-range n (inv .1) d y l z first) (rank-falls n inv d y l z first)
+      nearer-falls (rank n d) (n .plan .graph .bridges) z y (hop-in-range n (inv .1 .plan .graph) d y l z first) (rank-falls n inv d y l z first)
 
   onward-ends : (left h y : ℕ) → before n d y ≤ left → EndsByItself n d (onward (hop n d) d left h y)
   unfolding onward follow
@@ -105,7 +105,7 @@ module _ (n : Network) (inv : Invariant n) (d : ℕ) where
 
       go : (p : Hop) → hop n d y ≡ p → EndsByItself n d (onward (hop n d) d left 0 y)
       go stays e = stopped e left
-      go (crosses l z) e = onward-ends left 0 y (few (hop-from n (inv .1) d y l z e))
+      go (crosses l z) e = onward-ends left 0 y (few (hop-from n (inv .1 .plan .graph) d y l z e))
 
 pub path-ends : (n : Network) → Invariant n → (s d : ℕ) → EndsByItself n d (path n s d)
 unfolding path before

@@ -1,19 +1,21 @@
 -- What a round does. While all bridges are on one view and none changes it, an end to which a message was sent and delivered is told;
--- if the sending end was told before, the end is cleared too. So after two rounds every end of an uncut link is told and cleared.
+-- if the sending end was told before, the end is cleared too. So after two rounds every end of a link that is up at both is told and
+-- cleared.
 -- Assumes nothing.
-use Prim.Native.Nat.{ℕ, _+_, _*_, _<_}
+use Prim.Native.Nat.{ℕ, _*_, _<_}
 use native.Mathlib.Omega.{arith}
 use mathlib.Core.Path.{_≡_, refl, sym, ap, _∙_, subst}
 use mathlib.Core.Logic.{_⊎_, inl, inr}
-use mathlib.Core.Bool.{true, false, _&&_, _||_, false≢true}
+use mathlib.Core.Bool.{true, _&&_, _||_, not, false≢true}
 use mathlib.Core.List.{List, [], _∷_}
 use lib.ListN.{length}
 use lib.Dec.{eqb}
 use borrow.Author.Tests.{eqb-true}
 use Rattle.distances.proofs.Booleans.{both-true, one-true, otherwise}
-use Rattle.distances.proofs.Ranges.{allBelow-true, each-end}
-use Rattle.agreement.specs.Offer.{linkOf, opposite}
-use Rattle.agreement.proofs.Ends.{opposite-opposite, opposite-below, linkOf-opposite}
+use Rattle.distances.proofs.Ranges.{allBelow-true}
+use Rattle.agreement.specs.Offer.{opposite}
+use Rattle.agreement.specs.Forwarding.{UpAt, isUp}
+use Rattle.agreement.proofs.Ends.{opposite-opposite, opposite-below}
 use Rattle.protocol.specs.Net.{Network, Message}
 use Rattle.protocol.specs.Calls.{Call, change, send, deliver, repeat, lose, port, report, path, accepted, endOf, messageOf, sentOver, act, step, run}
 use Rattle.protocol.specs.Rounds.{MessageStatus, taken, lost, waits, statusBy, orLater, isDelivered, isSendFrom, isSentAndDelivered, hasRound, hasNoChange}
@@ -65,7 +67,7 @@ module _ (t : ℕ) where
   oneView-step n c h oneView =
       record {
         invariant = invariant-step n c (oneView .invariant);
-        onView = fixed-step (λ p v k cut. (b : ℕ) → b < p .graph .bridges → v b ≡ t) (allowed-step n c h) (oneView .onView);
+        onView = fixed-step (λ p v k down. (b : ℕ) → b < p .graph .bridges → v b ≡ t) (allowed-step n c h) (oneView .onView);
       }
 
   pub oneView-run : (n : Network) (cs : List Call) → hasNoChange n cs ≡ true → OneView n t → OneView (run n cs) t
@@ -99,7 +101,7 @@ module _ (t : ℕ) where
         go lost f later q = absurd (false≢true q)
         go (waits k) f later q =
             later k (rest-allowed n c cs h) (oneView-step n c allowed oneView) (stands-step x n c p k allowed stands f)
-            (fixed-step (λ p v k cut. Current p k t e W x) (allowed-step n c allowed) current) q
+            (fixed-step (λ p v k down. Current p k t e W x) (allowed-step n c allowed) current) q
 
     -- a message that is sent and delivered in the list
     heard : (n : Network) (cs : List Call) → hasNoChange n cs ≡ true → OneView n t → e < 2 * n .plan .graph .links → (W → InformedAt n t (opposite e)) → isSentAndDelivered n cs (opposite e) ≡ true → Heard t e W (run n cs)
@@ -119,27 +121,21 @@ module _ (t : ℕ) where
             let parts : (isSendFrom n (opposite e) c ≡ true) × (isDelivered (step n c) cs (length (n .messages)) ≡ true) = both-true (isSendFrom n (opposite e) c) (isDelivered (step n c) cs (length (n .messages))) q in
             let s : Sent t e W n (step n c) = sent t e W n c oneView there told (parts .0) in
             heard-by (s .0) (step n c) cs (length (n .messages)) (rest-allowed n c cs h) (oneView-step n c allowed oneView) (s .1)
-            (fixed-step (λ p v k cut. Current p k t e W (s .0)) (allowed-step n c allowed) (s .2)) (parts .1)
+            (fixed-step (λ p v k down. Current p k t e W (s .0)) (allowed-step n c allowed) (s .2)) (parts .1)
         go (inr q) later =
             later (rest-allowed n c cs h) (oneView-step n c allowed oneView)
-            (fixed-step (λ p v k cut. e < 2 * p .graph .links) (allowed-step n c allowed) there)
+            (fixed-step (λ p v k down. e < 2 * p .graph .links) (allowed-step n c allowed) there)
             (λ w. told-kept n t oneView (opposite e) (allowed-step n c allowed) (told w)) q
 
-  -- in a round every end of an uncut link is heard from
-  end-heard : (n : Network) (cs : List Call) (e : ℕ) → hasRound n cs ≡ true → e < 2 * n .plan .graph .links → n .records .cut (linkOf e) ≡ false → isSentAndDelivered n cs e ≡ true
-  unfolding hasRound
-  end-heard n cs e q = each-end (λ k. n .records .cut (linkOf k) ≡ false → isSentAndDelivered n cs k ≡ true) (n .plan .graph .links) both-heard e
-    where
-      both-heard : (l : ℕ) → l < n .plan .graph .links → (n .records .cut (linkOf (2 * l)) ≡ false → isSentAndDelivered n cs (2 * l) ≡ true) × (n .records .cut (linkOf (2 * l + 1)) ≡ false → isSentAndDelivered n cs (2 * l + 1) ≡ true)
-      both-heard l h =
-          let heard : n .records .cut l ≡ false → (isSentAndDelivered n cs (2 * l) ≡ true) × (isSentAndDelivered n cs (2 * l + 1) ≡ true) =
-          λ up. both-true (isSentAndDelivered n cs (2 * l)) (isSentAndDelivered n cs (2 * l + 1)) (otherwise (n .records .cut l) (isSentAndDelivered n cs (2 * l) && isSentAndDelivered n cs (2 * l + 1)) (allBelow-true (n .plan .graph .links) (λ l. n .records .cut l || isSentAndDelivered n cs (2 * l) && isSentAndDelivered n cs (2 * l + 1)) q l h) up) in
-          let first : linkOf (2 * l) ≡ l = omega arith in
-          let second : linkOf (2 * l + 1) ≡ l = omega arith in
-          (λ up. heard (rw first at up) .0, λ up. heard (rw second at up) .1)
+  -- in a round every end that is up is heard from
+  end-heard : (n : Network) (cs : List Call) (e : ℕ) → hasRound n cs ≡ true → e < 2 * n .plan .graph .links → UpAt (n .records) e → isSentAndDelivered n cs e ≡ true
+  unfolding hasRound isUp
+  end-heard n cs e q there up =
+      otherwise (not (isUp (n .records) e)) (isSentAndDelivered n cs e)
+      (allBelow-true (2 * n .plan .graph .links) (λ e. not (isUp (n .records) e) || isSentAndDelivered n cs e) q e there) (rw up refl)
 
-  -- a round: every end of an uncut link is told, and cleared if the other end was told before
-  pub round-told : (n : Network) (cs : List Call) (e : ℕ) → hasNoChange n cs ≡ true → OneView n t → hasRound n cs ≡ true → e < 2 * n .plan .graph .links → n .records .cut (linkOf e) ≡ false → Heard t e (InformedAt n t (opposite e)) (run n cs)
+  -- a round: every end whose far end is up is told, and cleared if the far end was told before
+  pub round-told : (n : Network) (cs : List Call) (e : ℕ) → hasNoChange n cs ≡ true → OneView n t → hasRound n cs ≡ true → e < 2 * n .plan .graph .links → UpAt (n .records) (opposite e) → Heard t e (InformedAt n t (opposite e)) (run n cs)
   round-told n cs e h oneView round there up =
       heard e (InformedAt n t (opposite e)) n cs h oneView there (λ w. w)
-      (end-heard n cs (opposite e) round (opposite-below e (n .plan .graph .links) there) (rw linkOf-opposite up))
+      (end-heard n cs (opposite e) round (opposite-below e (n .plan .graph .links) there) up)

@@ -1,33 +1,36 @@
 -- Demand 2 holds. Assumes nothing.
 use Prim.Native.Nat.{ℕ, zero, suc, _+_, _-_}
 use native.Mathlib.Omega.{arith}
-use mathlib.Core.Path.{_≡_, refl, subst}
+use mathlib.Core.Path.{_≡_, refl, _∙_, ap, subst}
 use mathlib.Core.Logic.{_⊎_, inl, inr}
 use mathlib.Core.Bool.{Bool, true, false, cond}
 use mathlib.Core.List.{List}
 use lib.Dec.{eqb}
 use borrow.Author.Tests.{eqb-true, eqb-false}
 use Rattle.distances.proofs.Laws.{dist-is-distance}
+use Rattle.agreement.specs.Offer.{linkOf}
 use Rattle.agreement.proofs.Forwards.{port-follows-rule}
 use Rattle.protocol.specs.Net.{Network, Plan, PlanInRange, fresh}
 use Rattle.protocol.specs.Calls.{Call, run}
-use Rattle.protocol.specs.Ports.{Hop, stays, crosses, ownDistance, forwardingPort, hop, Trail, Trail.stay, Trail.cross}
+use Rattle.protocol.specs.Ports.{Hop, stays, crosses, ownDistance, forwardingPort, hop, Crosses}
+use Rattle.protocol.specs.Rings.{Trail, Trail.stay, Trail.cross}
 use Rattle.protocol.specs.Paths.{PathResult, delivered, stops, follow, onward, path}
-use Rattle.protocol.specs.Demand2.{NetworkInRange, FollowsPorts, ByTheRule, Demand2}
+use Rattle.protocol.specs.Demand2.{NetworkInRange, CrossesBy, FollowsPorts, ByTheRule, Demand2}
+use Rattle.protocol.proofs.Hops.{hop-end, hop-open}
 use Rattle.protocol.proofs.Steps.{invariant-run}
 use Rattle.protocol.proofs.LimitsKept.{limits-as-defined}
 
 module _ (n : Network) (d : ℕ) where
   -- where a path from y ends that has h hops behind it and crosses at most `left` links more
   abbrev Ends : ℕ → ℕ → ℕ → PathResult → Type 0
-  Ends left h y (delivered k) = (m : ℕ) × (k ≡ h + m) × Trail n d y m d
-  Ends left h y (stops b k) = (m : ℕ) × (k ≡ h + m) × Trail n d y m b × (b ≡ d → ⊥) × ((hop n d b ≡ stays) ⊎ (m ≡ left))
+  Ends left h y (delivered k) = (m : ℕ) × (k ≡ h + m) × Trail (Crosses n d) y m d
+  Ends left h y (stops b k) = (m : ℕ) × (k ≡ h + m) × Trail (Crosses n d) y m b × (b ≡ d → ⊥) × ((hop n d b ≡ stays) ⊎ (m ≡ left))
 
   here : (h y : ℕ) → y ≡ d → (left : ℕ) → Ends left h y (delivered h)
-  here h y e left = (0, omega arith, subst (Trail n d y 0) e stay)
+  here h y e left = (0, omega arith, subst (Trail (Crosses n d) y 0) e stay)
 
   -- one hop before it
-  further : (left h y l z : ℕ) → hop n d y ≡ crosses l z → (p : PathResult) → Ends left (suc h) z p → Ends (suc left) h y p
+  further : (left h y l z : ℕ) → Crosses n d y l z → (p : PathResult) → Ends left (suc h) z p → Ends (suc left) h y p
   further left h y l z e (delivered k) w = (suc (w .0), omega (arith, w .1), cross e (w .2))
   further left h y l z e (stops b k) w = (suc (w .0), omega (arith, w .1), cross e (w .2), w .3, last (w .4))
     where
@@ -58,6 +61,15 @@ module _ (n : Network) (d : ℕ) where
       go (delivered k) w = let same : k ≡ w .0 = omega (arith, w .1) in rw same (w .2)
       go (stops b k) w = let same : k ≡ w .0 = omega (arith, w .1) in rw same (w .2, w .3, w .4)
 
+-- a frame crosses where the port forwards and both ends are up
+crossed : (n : Network) → NetworkInRange n → (y d l z e : ℕ) → CrossesBy n y d l z e → Crosses n d y l z
+unfolding forwardingPort
+crossed n ok y d l z e by =
+    let range = ok .plan .graph in
+    let so = by .forwards in
+    let opens = port-follows-rule _ (range .differ) _ _ (n .records) y d .1 l (e, so) in
+    rw (← so .link) (hop-open n range d y e (rw (so .link) opens) (so .chosen .listed) (so .chosen .reaches .own) (by .nearUp) (by .farUp) ∙ ap (crosses (linkOf e)) (by .arrives))
+
 by-the-rule : (n : Network) → NetworkInRange n → ByTheRule n
 unfolding ownDistance forwardingPort
 by-the-rule n ok =
@@ -67,6 +79,8 @@ by-the-rule n ok =
       opens = λ y d l e w. port-follows-rule _ (ok .plan .graph .differ) _ _ (n .records) y d .1 l (e, w);
       forwards = λ y d. port-follows-rule _ (ok .plan .graph .differ) _ _ (n .records) y d .0;
       closed = λ y d. port-follows-rule _ (ok .plan .graph .differ) _ _ (n .records) y d .2;
+      crosses = λ y d. hop-end n (ok .plan .graph) d y;
+      crossed = crossed n ok;
       paths = λ s d. follows-ports n d s;
     }
 

@@ -8,7 +8,7 @@ use lib.ListN.{length}
 use lib.Dec.{eqb}
 use Rattle.distances.proofs.Booleans.{both-true, true-both, other-false}
 use Rattle.protocol.specs.Net.{Network, Plan, Message}
-use Rattle.protocol.specs.Calls.{Call, Change, change, update, cut, restore, send, deliver, repeat, lose, port, report, path, checks, accepted, messageAt, withMessages, without, sentOver, afterDelivery, receivedAt, updatedTo, moved, withCut, afterChange, act, step, run}
+use Rattle.protocol.specs.Calls.{Call, Change, change, update, cut, restore, send, deliver, repeat, lose, port, report, path, checks, accepted, messageAt, withMessages, without, sentOver, afterDelivery, receivedAt, updatedTo, moved, withEnd, afterChange, act, step, run}
 use Rattle.protocol.specs.Rounds.{isChange, hasNoChange}
 use Rattle.protocol.proofs.Accepted.{accepted-checks, place-listed}
 
@@ -25,7 +25,7 @@ every-run P kept n (c ∷ cs) p = every-run P kept (step n c) cs (kept n c p)
 
 -- the plan stays
 pub plan-step : (n : Network) (c : Call) → step n c .plan ≡ n .plan
-unfolding step act afterChange updatedTo moved withCut afterDelivery receivedAt sentOver
+unfolding step act afterChange updatedTo moved withEnd afterDelivery receivedAt sentOver
 plan-step n c = go (accepted n c)
   where
     changes : (x : Change) → afterChange n x .plan ≡ n .plan
@@ -34,8 +34,8 @@ plan-step n c = go (accepted n c)
         by : (b′ : Bool) → cond b′ n (moved n b t) .plan ≡ n .plan
         by true = refl
         by false = refl
-    changes (cut l) = refl
-    changes (restore l) = refl
+    changes (cut b l) = refl
+    changes (restore b l) = refl
 
     acts : (c : Call) → act n c .plan ≡ n .plan
     acts (change x) = changes x
@@ -104,12 +104,12 @@ unfolding run
 kept-run P kept n [] e p = p
 kept-run P kept n (c ∷ cs) e p = kept-run P kept (step n c) cs (rest-allowed n c cs e) (kept n c (first-allowed n c cs e) p)
 
--- what is said of the plan, the views, the numbers and the cuts alone
+-- what is said of the plan, the views, the numbers and the ends that are down alone
 abbrev pub Fixed : Type 1
 Fixed = Plan → (ℕ → ℕ) → (ℕ → ℕ) → (ℕ → Bool) → Type 0
 
 abbrev pub Of : Fixed → Network → Type 0
-Of P n = P (n .plan) (n .view) (n .number) (n .records .cut)
+Of P n = P (n .plan) (n .view) (n .number) (n .records .down)
 
 pub fixed-step : (P : Fixed) {n m : Network} → AllowedStep n m → Of P n → Of P m
 unfolding afterDelivery receivedAt

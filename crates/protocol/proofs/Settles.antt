@@ -2,8 +2,9 @@
 -- the links that it crosses add up to its distance. Assumes nothing.
 use Prim.Native.Nat.{ℕ, zero, suc, _+_, _-_, _*_, _<_}
 use native.Mathlib.Omega.{arith}
-use mathlib.Core.Path.{_≡_, refl, sym, ap, _∙_}
-use mathlib.Core.Bool.{Bool, true, false, cond}
+use mathlib.Core.Path.{_≡_, refl, sym, ap, _∙_, subst}
+use mathlib.Core.Logic.{_⊎_, inl, inr}
+use mathlib.Core.Bool.{Bool, true, false, cond, false≢true}
 use mathlib.Core.List.{List, [], _++_}
 use lib.Dec.{eqb}
 use borrow.Author.Tests.{eqb-true, eqb-false}
@@ -11,37 +12,54 @@ use Rattle.distances.specs.View.{NONE}
 use Rattle.distances.specs.Meaning.{total}
 use Rattle.distances.proofs.Laws.{dist-self, dist-le-none, next-hop, joins-bridge}
 use Rattle.distances.proofs.Paths.{total-none, total-more}
+use Rattle.distances.proofs.Ranges.{each-end}
 use Rattle.agreement.specs.Offer.{linkOf, opposite, farBridge}
-use Rattle.agreement.proofs.Ends.{opposite-below, linkOf-opposite, bridge-in-range}
+use Rattle.agreement.specs.Forwarding.{UpAt, DownAt}
+use Rattle.agreement.proofs.Ends.{opposite-below, bridge-in-range}
 use Rattle.protocol.specs.Net.{Network, Plan, PlanInRange, fresh, distanceIn}
 use Rattle.protocol.specs.Calls.{Call, run}
-use Rattle.protocol.specs.Ports.{stays, crosses, hop}
+use Rattle.protocol.specs.Ports.{hop}
 use Rattle.protocol.specs.Paths.{delivered, stops, follow, onward, path, followLinks, onwardLinks, linksCrossed, EndsByItself}
 use Rattle.protocol.specs.Rounds.{hasNoChange}
-use Rattle.protocol.specs.Demand3.{Settling, Settled}
+use Rattle.protocol.specs.Demand3.{Uncut, Cut, Settling, Settled}
 use Rattle.protocol.proofs.Invariant.{Invariant}
 use Rattle.protocol.proofs.Runs.{run-append, plan-run, parts-allowed, fixed-run}
 use Rattle.protocol.proofs.Steps.{invariant-run}
+use Rattle.protocol.proofs.Hops.{stays-crosses}
 use Rattle.protocol.proofs.PathEnds.{path-ends}
 use Rattle.protocol.proofs.Deliveries.{InformedAt, ClearedAt, OneView}
 use Rattle.protocol.proofs.RoundLaws.{oneView-run, round-told}
 use Rattle.protocol.proofs.AfterRounds.{Ready, ForwardsOver, chosenIn, forwards}
 
--- an end of an uncut link is one before the calls too
-abbrev Uncut : Network → ℕ → Type 0
-Uncut n e = (e < 2 * n .plan .graph .links) × (n .records .cut (linkOf e) ≡ false)
+-- an end that is up, and so before the calls too
+abbrev Up : Network → ℕ → Type 0
+Up n e = (e < 2 * n .plan .graph .links) × UpAt (n .records) e
 
-uncut-before : (n : Network) (cs : List Call) → hasNoChange n cs ≡ true → (e : ℕ) → Uncut (run n cs) e → Uncut n e
-uncut-before n cs h e =
-    fixed-run (λ p v k cut. (e < 2 * p .graph .links) × (cut (linkOf e) ≡ false) → Uncut n e) n cs h (λ u. u)
+up-before : (n : Network) (cs : List Call) → hasNoChange n cs ≡ true → (e : ℕ) → Up (run n cs) e → Up n e
+up-before n cs h e = fixed-run (λ p v k down. (e < 2 * p .graph .links) × (down e ≡ false) → Up n e) n cs h (λ u. u)
 
-uncut-opposite : (n : Network) (e : ℕ) → Uncut n e → Uncut n (opposite e)
-uncut-opposite n e u = (opposite-below e (n .plan .graph .links) (u .0), rw linkOf-opposite (u .1))
+-- where every link is uncut or cut, and the cut ones have no cost: an end is up where the opposite one is, and the link of one that is down has
+-- no cost
+abbrev Paired : Plan → (ℕ → ℕ) → (ℕ → ℕ) → (ℕ → Bool) → Type 0
+Paired p v k down = (e : ℕ) → e < 2 * p .graph .links → down e ≡ false → down (opposite e) ≡ false
 
-stays-crosses : (l z : ℕ) → crosses l z ≡ stays → ⊥
-stays-crosses l z e =
-    let o : _≡_ {A = ℕ} 0 1 = cc in
-    omega arith
+abbrev Absent : ℕ → Plan → (ℕ → ℕ) → (ℕ → ℕ) → (ℕ → Bool) → Type 0
+Absent t p v k down = (e : ℕ) → e < 2 * p .graph .links → down e ≡ true → p .costs t (linkOf e) ≡ 0
+
+module _ (n : Network) (t : ℕ) (each : (l : ℕ) → l < n .plan .graph .links → Uncut n l ⊎ Cut n l) (absent : (l : ℕ) → l < n .plan .graph .links → Cut n l → n .plan .costs t l ≡ 0) where
+  paired-by : (e : ℕ) → e < 2 * n .plan .graph .links → UpAt (n .records) e → UpAt (n .records) (opposite e)
+  paired-by = each-end (λ e. UpAt (n .records) e → UpAt (n .records) (opposite e)) (n .plan .graph .links) (λ l h. go l (each l h))
+    where
+      go : (l : ℕ) → Uncut n l ⊎ Cut n l → (UpAt (n .records) (2 * l) → UpAt (n .records) (opposite (2 * l))) × (UpAt (n .records) (2 * l + 1) → UpAt (n .records) (opposite (2 * l + 1)))
+      go l (inl up) = (λ q. ap (n .records .down) (omega arith) ∙ up .1, λ q. ap (n .records .down) (omega arith) ∙ up .0)
+      go l (inr down) = (λ q. absurd (false≢true (sym q ∙ down .0)), λ q. absurd (false≢true (sym q ∙ down .1)))
+
+  absent-by : (e : ℕ) → e < 2 * n .plan .graph .links → DownAt (n .records) e → n .plan .costs t (linkOf e) ≡ 0
+  absent-by = each-end (λ e. DownAt (n .records) e → n .plan .costs t (linkOf e) ≡ 0) (n .plan .graph .links) (λ l h. go l h (each l h))
+    where
+      go : (l : ℕ) → l < n .plan .graph .links → Uncut n l ⊎ Cut n l → (DownAt (n .records) (2 * l) → n .plan .costs t (linkOf (2 * l)) ≡ 0) × (DownAt (n .records) (2 * l + 1) → n .plan .costs t (linkOf (2 * l + 1)) ≡ 0)
+      go l h (inl up) = (λ q. absurd (false≢true (sym (up .0) ∙ q)), λ q. absurd (false≢true (sym (up .1) ∙ q)))
+      go l h (inr down) = (λ q. ap (n .plan .costs t) (omega arith) ∙ absent l h down, λ q. ap (n .plan .costs t) (omega arith) ∙ absent l h down)
 
 -- two rounds make a network ready
 module _ (n : Network) (t : ℕ) (xs ys : List Call) (invariant : Invariant n) (s : Settling n t xs ys) where
@@ -54,29 +72,34 @@ module _ (n : Network) (t : ℕ) (xs ys : List Call) (invariant : Invariant n) (
   oneView : OneView n t
   oneView = record { invariant = invariant; onView = s .onView }
 
-  told-first : (e : ℕ) → Uncut (run n xs) e → InformedAt (run n xs) t e
-  told-first e u =
-      let v : Uncut n e = uncut-before n xs first e u in
-      round-told t n xs e first oneView (s .firstRound) (v .0) (v .1) .0
+  paired : (e : ℕ) → e < 2 * n .plan .graph .links → UpAt (n .records) e → UpAt (n .records) (opposite e)
+  paired = paired-by n t (s .uncutOrCut) (s .cutAbsent)
 
-  heard-second : (e : ℕ) → Uncut (run (run n xs) ys) e → InformedAt (run (run n xs) ys) t e × ClearedAt (run (run n xs) ys) t e
+  paired-first : (e : ℕ) → e < 2 * run n xs .plan .graph .links → UpAt (run n xs .records) e → UpAt (run n xs .records) (opposite e)
+  paired-first = fixed-run Paired n xs first paired
+
+  told-first : (e : ℕ) → Up (run n xs) e → InformedAt (run n xs) t e
+  told-first e u =
+      let v : Up n e = up-before n xs first e u in
+      round-told t n xs e first oneView (s .firstRound) (v .0) (paired e (v .0) (v .1)) .0
+
+  heard-second : (e : ℕ) → Up (run (run n xs) ys) e → InformedAt (run (run n xs) ys) t e × ClearedAt (run (run n xs) ys) t e
   heard-second e u =
-      let v : Uncut (run n xs) e = uncut-before (run n xs) ys second e u in
-      let done = round-told t (run n xs) ys e second (oneView-run t n xs first oneView) (s .secondRound) (v .0) (v .1) in
-      (done .0, done .1 (told-first (opposite e) (uncut-opposite (run n xs) e v)))
+      let v : Up (run n xs) e = up-before (run n xs) ys second e u in
+      let other : UpAt (run n xs .records) (opposite e) = paired-first e (v .0) (v .1) in
+      let done = round-told t (run n xs) ys e second (oneView-run t n xs first oneView) (s .secondRound) (v .0) other in
+      (done .0, done .1 (told-first (opposite e) (opposite-below e (run n xs .plan .graph .links) (v .0), other)))
 
   two-rounds : Ready (run n (xs ++ ys)) t
   two-rounds =
       rw run-append
       (record {
         oneView = oneView-run t (run n xs) ys second (oneView-run t n xs first oneView);
-        cutAbsent = fixed-run Absent (run n xs) ys second (fixed-run Absent n xs first (s .cutAbsent));
+        paired = fixed-run Paired (run n xs) ys second paired-first;
+        downAbsent = fixed-run (Absent t) (run n xs) ys second (fixed-run (Absent t) n xs first (absent-by n t (s .uncutOrCut) (s .cutAbsent)));
         told = λ e h up. heard-second e (h, up) .0;
         cleared = λ e h up. heard-second e (h, up) .1;
       })
-    where
-      Absent : Plan → (ℕ → ℕ) → (ℕ → ℕ) → (ℕ → Bool) → Type 0
-      Absent p v k cut = (l : ℕ) → l < p .graph .links → cut l ≡ true → p .costs t l ≡ 0
 
 -- from y with h hops behind it, over at most `left` links more, the frame for d is delivered, and the costs add up
 abbrev Arrives : Network → ℕ → ℕ → ℕ → ℕ → ℕ → Type 0
@@ -111,7 +134,7 @@ module _ (n : Network) (t : ℕ) (ready : Ready n t) (d : ℕ) where
     where
       go : (b : Bool) → eqb y d ≡ b → EndsByItself n d (cond b (delivered h) (stops y h)) → ((k : ℕ) × (cond b (delivered h) (stops y h) ≡ delivered k)) × (total (n .plan .costs t) [] ≡ distanceIn (n .plan) t y d)
       go true q ends = ((h, refl), total-none _ ∙ own-distance y (eqb-true y d q))
-      go false q ends = absurd (stays-crosses _ _ (sym (on y there (eqb-false y d q) reachable .hops) ∙ ends))
+      go false q ends = absurd (stays-crosses _ _ (sym ends ∙ on y there (eqb-false y d q) reachable .hops))
   arrival (suc left) h y there reachable ends = go (eqb y d) refl ends (arrival left (suc h))
     where
       Later : Type 0
@@ -143,10 +166,11 @@ settles-from n t xs ys invariant s y d there away reachable =
     ready-settled (run n (xs ++ ys)) t (two-rounds n t xs ys invariant s) y d (rw same there) away (rw same reachable)
 
 -- from any point of a list of calls
-pub settles : (p : Plan) → PlanInRange p → (cs ks xs ys : List Call) (t : ℕ) → cs ≡ ks ++ (xs ++ ys) → Settling (run (fresh p) ks) t xs ys → (y d : ℕ) → (y ≡ d → ⊥) → (distanceIn p t y d ≡ NONE → ⊥) → Settled (run (fresh p) cs) t y d
+pub settles : (p : Plan) → PlanInRange p → (cs ks xs ys : List Call) (t : ℕ) → cs ≡ ks ++ (xs ++ ys) → Settling (run (fresh p) ks) t xs ys → (y d : ℕ) → (y ≡ d → ⊥) → (distanceIn (run (fresh p) cs .plan) t y d ≡ NONE → ⊥) → Settled (run (fresh p) cs) t y d
 unfolding fresh
-settles p inRange cs ks xs ys t split s y d away reachable =
+settles p inRange cs ks xs ys t split s y d away some =
     let same : run (fresh p) ks .plan ≡ p = plan-run (fresh p) ks in
+    let reachable : distanceIn p t y d ≡ NONE → ⊥ = subst (λ (q : Plan). distanceIn q t y d ≡ NONE → ⊥) (plan-run (fresh p) cs) some in
     -- what has a path to another bridge is a bridge
     let there : y < p .graph .bridges = joins-bridge (inRange .graph) (next-hop (p .graph) (p .costs t) (inRange .graph) y d away reachable .2) in
     rw (split, run-append)

@@ -5,7 +5,7 @@ use mathlib.Core.Bool.{Bool, true, false, cond}
 use mathlib.Core.List.{List}
 use lib.Dec.{eqb}
 use Rattle.protocol.specs.Net.{Network, Plan, PlanInRange, fresh}
-use Rattle.protocol.specs.Calls.{Call, Change, change, send, deliver, repeat, lose, port, report, path, update, cut, restore, checks, accepted, withCut, moved, updatedTo, afterChange, act, step, run, receivedAt, afterDelivery, messageAt}
+use Rattle.protocol.specs.Calls.{Call, Change, change, send, deliver, repeat, lose, port, report, path, update, cut, restore, checks, accepted, withEnd, moved, updatedTo, afterChange, act, step, run, receivedAt, afterDelivery, messageAt}
 use Rattle.protocol.proofs.Invariant.{Invariant, InvariantBy}
 use Rattle.protocol.proofs.Accepted.{accepted-checks, update-listed, place-listed, send-listed}
 use Rattle.protocol.proofs.Runs.{every-run}
@@ -16,9 +16,9 @@ use Rattle.protocol.proofs.Received.{kept-delivered}
 
 module _ (n : Network) where
   -- cut and restore touch nothing that the invariant speaks of
-  kept-cut : {h : ℕ → ℕ → ℕ} → InvariantBy n h → (l : ℕ) (so : Bool) → InvariantBy (withCut n l so) h
-  unfolding withCut
-  kept-cut inv l so =
+  kept-end : {h : ℕ → ℕ → ℕ} → InvariantBy n h → (e : ℕ) (down : Bool) → InvariantBy (withEnd n e down) h
+  unfolding withEnd
+  kept-end inv e down =
       record {
         plan = inv .plan;
         numbered = inv .numbered;
@@ -41,8 +41,8 @@ module _ (n : Network) where
   kept-change : (c : Change) → accepted n (change c) ≡ true → Invariant n → Invariant (act n (change c))
   unfolding act afterChange
   kept-change (update b t) e inv = kept-update (inv .0) (inv .1) b t (update-listed n b t e .view)
-  kept-change (cut l) e inv = (inv .0, kept-cut (inv .1) l true)
-  kept-change (restore l) e inv = (inv .0, kept-cut (inv .1) l false)
+  kept-change (cut b l) e inv = (inv .0, kept-end (inv .1) _ true)
+  kept-change (restore b l) e inv = (inv .0, kept-end (inv .1) _ false)
 
   kept-act : (c : Call) → accepted n c ≡ true → Invariant n → Invariant (act n c)
   unfolding checks act afterDelivery receivedAt

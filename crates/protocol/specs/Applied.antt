@@ -9,12 +9,13 @@ use Rattle.distances.specs.Examples.{triangle, view1}
 use Rattle.agreement.specs.Offer.{opposite}
 use Rattle.agreement.specs.declared.Port.the-variants.{Closed, Open}
 use Rattle.protocol.specs.Net.{Network, offerIn, fresh}
-use Rattle.protocol.specs.Ports.{forwardingPort, stays, crosses, hop, Trail}
+use Rattle.protocol.specs.Ports.{forwardingPort, stays, crosses, hop, Crosses}
+use Rattle.protocol.specs.Rings.{Trail}
 use Rattle.protocol.specs.Paths.{path, delivered, hops, linksCrossed}
 use Rattle.protocol.specs.LimitViews.{viewsRun, freshViews, leastOver, offerHeld}
-use Rattle.protocol.specs.Demand2.{ForwardsBy, Demand2}
+use Rattle.protocol.specs.Demand2.{ForwardsBy, CrossesBy, Demand2}
 use Rattle.protocol.specs.Demand3.{Demand3}
-use Rattle.protocol.specs.Examples.{plan, after, callsE3, callsE4, callsE6, callsE7}
+use Rattle.protocol.specs.Examples.{plan, after, callsE3, callsOneEnd, callsE4, callsE6, callsE7}
 use Rattle.protocol.specs.SettlingMet.{before, first, second, SettlingCanBeMet}
 
 -- demand 2
@@ -27,11 +28,16 @@ pub record RuleAtExamples : Type 0 where
   -- E3: bridge 2 uses link 1, by document 01's conditions; and by them its port is open on it
   pub forwards : (e : ℕ) × ForwardsBy (after callsE3) 2 0 1 e
   pub opens : forwardingPort (after callsE3) 2 0 ≡ Open 1
+  -- E3: a frame crosses that link to bridge 1, both its ends being up. Of link 0 bridge 0's end alone is cut: bridge 1 forwards on it, and no frame
+  -- crosses it
+  pub crosses : (e : ℕ) × CrossesBy (after callsE3) 2 0 1 1 e
+  pub crossed : Crosses (after callsE3) 0 2 1 1
+  pub dies : ((e : ℕ) × ForwardsBy (after callsOneEnd) 1 0 0 e) × ((z e : ℕ) → CrossesBy (after callsOneEnd) 1 0 0 z e → ⊥)
   -- E2: fresh, bridge 2 forwards on no link, and so its port is closed
   pub closed : forwardingPort (after []) 2 0 ≡ Closed
   -- E3: the path from 2 goes to bridge 0 by two hops; E4: by one hop to bridge 1, from which no frame crosses a link
-  pub arrives : Trail (after callsE3) 0 2 2 0
-  pub stops : Trail (after callsE4) 0 2 1 1 × (hop (after callsE4) 0 1 ≡ stays)
+  pub arrives : Trail (Crosses (after callsE3) 0) 2 2 0
+  pub stops : Trail (Crosses (after callsE4) 0) 2 1 1 × (hop (after callsE4) 0 1 ≡ stays)
   -- E6: bridge 1's sent limit on link 1 is 2, the least of its offers over the views since the last clearing; it holds 4, the far bridge's offer
   -- in the view held
   pub sent : leastOver (λ t. offerIn plan t 2 0) (viewsRun (fresh plan) 2 freshViews callsE6 .since) ≡ 2

@@ -1,4 +1,5 @@
--- The calls, what turns each down, and what each does (document 01, "Events" and "Where input is turned down"). Assumes nothing.
+-- The calls, what turns each down, and what each does (document 01, "Events" and "Where input is turned down"; document 02, Change 1).
+-- Assumes nothing.
 use Prim.Native.Nat.{ℕ, suc, _+_, _*_, _%_}
 use mathlib.Core.Bool.{Bool, true, false, cond, _||_, not}
 use mathlib.Core.List.{List, [], _∷_, _++_}
@@ -14,12 +15,11 @@ use Rattle.agreement.specs.Update.{numbersUsedUp, nextNumber}
 use Rattle.agreement.specs.Forwarding.{Records}
 use Rattle.agreement.specs.declared.Answer.{Answer}
 use Rattle.agreement.specs.declared.EndRecord.{EndRecord}
-use Rattle.protocol.specs.Net.{Network, Message, sender, offerIn}
+use Rattle.protocol.specs.Net.{Network, Message, receiver, offerIn}
 
--- update b t, cut l, restore l: those that the settling statement bars
+-- update b t, cut b l, restore b l: those that the settling statement bars
 pub data Change : Type 0 where
-  update : ℕ → ℕ → Change
-  cut restore : ℕ → Change
+  update cut restore : ℕ → ℕ → Change
 
 -- send b l; deliver, repeat, lose at a place; port b d, report d and path s d only ask
 pub data Call : Type 0 where
@@ -49,9 +49,13 @@ unfoldable pub notOnLink : Network → ℕ → ℕ → Check
 notOnLink n b l =
     record { when = not (eqb (n .plan .graph .bridgeAt (2 * l)) b || eqb (n .plan .graph .bridgeAt (2 * l + 1)) b); number = 11 }
 
--- 13: the link is cut
-unfoldable pub linkCut : Network → ℕ → Check
-linkCut n l = record { when = n .records .cut l; number = 13 }
+-- the end of link l at bridge b
+unfoldable pub endOf : Graph → ℕ → ℕ → ℕ
+endOf g b l = cond (eqb (g .bridgeAt (2 * l)) b) (2 * l) (2 * l + 1)
+
+-- 13: the link is cut, "looks at the one end concerned"
+unfoldable pub endDown : Network → ℕ → Check
+endDown n e = record { when = n .records .down e; number = 13 }
 
 -- 14: already 64 in flight
 unfoldable pub noRoom : Network → Check
@@ -61,9 +65,9 @@ noRoom n = record { when = leb 64 (length (n .messages)); number = 14 }
 unfoldable pub noMessage : Network → ℕ → Check
 noMessage n p = record { when = not (ltb p (length (n .messages))); number = 15 }
 
--- 12: the link is already so
+-- 12: the end is already so, down or up
 unfoldable pub already : Network → Bool → ℕ → Check
-already n so l = record { when = cond so (n .records .cut l) (not (n .records .cut l)); number = 12 }
+already n down e = record { when = cond down (n .records .down e) (not (n .records .down e)); number = 12 }
 
 -- what stands for a message at a place where there is none
 abbrev pub noMessageThere : Message
@@ -75,14 +79,14 @@ messageAt n p = getD (n .messages) p noMessageThere
 
 unfoldable pub changeChecks : Network → Change → List Check
 changeChecks n (update b t) = noSuchBridge n b ∷ noSuchView n t ∷ noNumberLeft n b t ∷ []
-changeChecks n (cut l) = noSuchLink n l ∷ already n true l ∷ []
-changeChecks n (restore l) = noSuchLink n l ∷ already n false l ∷ []
+changeChecks n (cut b l) = noSuchBridge n b ∷ noSuchLink n l ∷ notOnLink n b l ∷ already n true (endOf (n .plan .graph) b l) ∷ []
+changeChecks n (restore b l) = noSuchBridge n b ∷ noSuchLink n l ∷ notOnLink n b l ∷ already n false (endOf (n .plan .graph) b l) ∷ []
 
 unfoldable pub checks : Network → Call → List Check
 checks n (change x) = changeChecks n x
-checks n (send b l) = noSuchBridge n b ∷ noSuchLink n l ∷ notOnLink n b l ∷ linkCut n l ∷ noRoom n ∷ []
-checks n (deliver p) = noMessage n p ∷ linkCut n (messageAt n p .link) ∷ []
-checks n (repeat p) = noMessage n p ∷ linkCut n (messageAt n p .link) ∷ []
+checks n (send b l) = noSuchBridge n b ∷ noSuchLink n l ∷ notOnLink n b l ∷ endDown n (endOf (n .plan .graph) b l) ∷ noRoom n ∷ []
+checks n (deliver p) = noMessage n p ∷ endDown n (receiver (messageAt n p)) ∷ []
+checks n (repeat p) = noMessage n p ∷ endDown n (receiver (messageAt n p)) ∷ []
 checks n (lose p) = noMessage n p ∷ []
 checks n (port b d) = noSuchBridge n b ∷ noSuchBridge n d ∷ []
 checks n (report d) = noSuchBridge n d ∷ []
@@ -110,7 +114,7 @@ moved n b t =
       number = λ z. cond (eqb z b) (nextNumber (n .number z)) (n .number z);
       records =
           record {
-            cut = n .records .cut;
+            down = n .records .down;
             ends = λ e. cond (eqb (n .plan .graph .bridgeAt e) b) (updated t (n .records .ends e)) (n .records .ends e);
             sent =
                 λ e. cond (eqb (n .plan .graph .bridgeAt e) b) (sentUpdated (offerIn (n .plan) t e) (n .records .sent e))
@@ -127,20 +131,16 @@ moved n b t =
 unfoldable pub updatedTo : Network → ℕ → ℕ → Network
 updatedTo n b t = cond (eqb (n .view b) t) n (moved n b t)
 
--- Cut and restore: records and messages in flight are retained
-unfoldable pub withCut : Network → ℕ → Bool → Network
-withCut n l so =
+-- Cut and restore "act on that end": records and messages in flight are retained
+unfoldable pub withEnd : Network → ℕ → Bool → Network
+withEnd n e down =
     withRecords n
     (record {
-      cut = λ k. cond (eqb k l) so (n .records .cut k);
+      down = λ k. cond (eqb k e) down (n .records .down k);
       ends = n .records .ends;
       sent = n .records .sent;
       held = n .records .held;
     })
-
--- the end of link l at bridge b
-unfoldable pub endOf : Graph → ℕ → ℕ → ℕ
-endOf g b l = cond (eqb (g .bridgeAt (2 * l)) b) (2 * l) (2 * l + 1)
 
 -- Send of bridge b over link l
 unfoldable pub messageOf : Network → ℕ → ℕ → Message
@@ -164,7 +164,7 @@ answerTo n e m = answer (n .view (n .plan .graph .bridgeAt e)) (n .records .ends
 
 -- what the message at place p is answered, if it is delivered: at the end opposite to its sender
 abbrev pub answerAt : Network → ℕ → Answer
-answerAt n p = answerTo n (opposite (sender (messageAt n p))) (messageAt n p)
+answerAt n p = answerTo n (receiver (messageAt n p)) (messageAt n p)
 
 -- Message m at end e
 unfoldable pub receivedAt : Network → ℕ → Message → Network
@@ -173,7 +173,7 @@ receivedAt n e m =
     let old : EndRecord = n .records .ends e in
     withRecords n
     (record {
-      cut = n .records .cut;
+      down = n .records .down;
       ends = λ k. cond (eqb k e) (recorded old (answerTo n e m)) (n .records .ends k);
       sent =
           λ k. cond (eqb k e)
@@ -187,13 +187,13 @@ receivedAt n e m =
 
 -- Delivery of message m, at the end opposite to its sender
 unfoldable pub afterDelivery : Network → Message → Network
-afterDelivery n m = receivedAt n (opposite (sender m)) m
+afterDelivery n m = receivedAt n (receiver m) m
 
 -- what an accepted call makes of the network
 unfoldable pub afterChange : Network → Change → Network
 afterChange n (update b t) = updatedTo n b t
-afterChange n (cut l) = withCut n l true
-afterChange n (restore l) = withCut n l false
+afterChange n (cut b l) = withEnd n (endOf (n .plan .graph) b l) true
+afterChange n (restore b l) = withEnd n (endOf (n .plan .graph) b l) false
 
 unfoldable pub act : Network → Call → Network
 act n (change x) = afterChange n x

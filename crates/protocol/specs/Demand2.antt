@@ -1,4 +1,4 @@
--- Demand 2 (document 01, "Network and views", "Records of a bridge", "Forwarding"): what is told of a network, whatever stands in its
+-- Demand 2 (document 01, "Network and views", "Records of a bridge", "Forwarding"; document 02, Change 1): what is told of a network, whatever stands in its
 -- records, is by the shortest distances and by the forwarding rule; and after every list of calls from a fresh network the limits in its
 -- records are those of document 01. Assumes nothing.
 use Prim.Native.Nat.{ℕ, _-_, _<_}
@@ -6,11 +6,14 @@ use mathlib.Core.Path.{_≡_}
 use mathlib.Core.Logic.{_⊎_}
 use mathlib.Core.List.{List}
 use Rattle.distances.specs.Meaning.{IsDistance}
+use Rattle.agreement.specs.Offer.{opposite}
+use Rattle.agreement.specs.Forwarding.{UpAt}
 use Rattle.agreement.specs.Rule.{Forwards}
 use Rattle.agreement.specs.declared.Port.the-variants.{Closed, Open}
 use Rattle.protocol.specs.Net.{Network, Plan, PlanInRange, distanceIn, fresh}
 use Rattle.protocol.specs.Calls.{Call, run}
-use Rattle.protocol.specs.Ports.{ownDistance, forwardingPort, stays, hop, Trail}
+use Rattle.protocol.specs.Ports.{ownDistance, forwardingPort, stays, hop, Crosses}
+use Rattle.protocol.specs.Rings.{Trail}
 use Rattle.protocol.specs.Paths.{PathResult, delivered, stops, path}
 use Rattle.protocol.specs.LimitViews.{LimitsAsDefined}
 
@@ -24,11 +27,18 @@ pub record NetworkInRange (n : Network) : Type 0 where
 abbrev pub ForwardsBy : Network → ℕ → ℕ → ℕ → ℕ → Type 0
 ForwardsBy n y d l e = Forwards (n .plan .graph) (n .plan .costs (n .view y)) (distanceIn (n .plan) (n .view y)) (n .records) y d l e
 
--- a path from s for d "follows forwarding ports from a bridge until the destination, or a bridge that does not forward"; "Unless delivered,
--- it stops after as many links as there are bridges less one"
+-- a frame for d crosses link l from y to z: y forwards on l by its end e, "both ends are up", and z is at the other
+pub record CrossesBy (n : Network) (y d l z e : ℕ) : Type 0 where
+  pub forwards : ForwardsBy n y d l e
+  pub nearUp : UpAt (n .records) e
+  pub farUp : UpAt (n .records) (opposite e)
+  pub arrives : n .plan .graph .bridgeAt (opposite e) ≡ z
+
+-- a path from s for d "follows forwarding ports from a bridge until the destination, or a bridge that does not forward", and "also stops at a
+-- bridge whose frame dies on the link"; "Unless delivered, it stops after as many links as there are bridges less one"
 abbrev pub FollowsPorts : Network → ℕ → ℕ → PathResult → Type 0
-FollowsPorts n s d (delivered h) = Trail n d s h d
-FollowsPorts n s d (stops b h) = Trail n d s h b × (b ≡ d → ⊥) × ((hop n d b ≡ stays) ⊎ (h ≡ n .plan .graph .bridges - 1))
+FollowsPorts n s d (delivered h) = Trail (Crosses n d) s h d
+FollowsPorts n s d (stops b h) = Trail (Crosses n d) s h b × (b ≡ d → ⊥) × ((hop n d b ≡ stays) ⊎ (h ≡ n .plan .graph .bridges - 1))
 
 -- what is told of a network
 pub record ByTheRule (n : Network) : Type 0 where
@@ -40,7 +50,10 @@ pub record ByTheRule (n : Network) : Type 0 where
   pub opens : (y d l e : ℕ) → ForwardsBy n y d l e → forwardingPort n y d ≡ Open l
   pub forwards : (y d l : ℕ) → forwardingPort n y d ≡ Open l → (e : ℕ) × ForwardsBy n y d l e
   pub closed : (y d : ℕ) → ((l e : ℕ) → ForwardsBy n y d l e → ⊥) → forwardingPort n y d ≡ Closed
-  -- a path goes by these ports
+  -- a frame crosses a link if and only if the port forwards on it and both its ends are up
+  pub crosses : (y d l z : ℕ) → Crosses n d y l z → (e : ℕ) × CrossesBy n y d l z e
+  pub crossed : (y d l z e : ℕ) → CrossesBy n y d l z e → Crosses n d y l z
+  -- a path goes by these hops
   pub paths : (s d : ℕ) → FollowsPorts n s d (path n s d)
 
 pub record Demand2 : Type 0 where

@@ -1,4 +1,5 @@
--- Document 01's known examples E1 to E8, one table: what is computed and what the document states. Assumes nothing.
+-- Document 01's known examples E1 to E8, and one of document 02's Change 1, one table: what is computed and what the document states.
+-- Assumes nothing.
 use Prim.Native.Nat.{ℕ, zero, suc}
 use mathlib.Core.List.{List, [], _∷_, _++_}
 use Rattle.distances.specs.View.{Costs, NONE}
@@ -34,8 +35,17 @@ round =
 abbrev pub callsE3 : List Call
 callsE3 = round ++ round ++ (send 1 1 ∷ [])
 
+-- of link 0 bridge 0's end alone is cut (Change 1)
+abbrev pub callsOneEnd : List Call
+callsOneEnd = callsE3 ++ (change (cut 0 0) ∷ [])
+
+-- bridge 0's message to bridge 1 over link 0
+abbrev pub sentBefore : List Call
+sentBefore = send 0 0 ∷ []
+
+-- "Known example E4 cuts both ends"
 abbrev pub callsE4 : List Call
-callsE4 = callsE3 ++ (change (cut 0) ∷ change (update 1 1) ∷ [])
+callsE4 = callsE3 ++ (change (cut 0 0) ∷ change (cut 1 0) ∷ change (update 1 1) ∷ [])
 
 abbrev pub callsE5 : List Call
 callsE5 = callsE4 ++ (change (update 2 1) ∷ [])
@@ -71,7 +81,8 @@ abbrev pub answered : List Call → ℕ → ℕ
 answered cs p = answerNumber (answerAt (after cs) p)
 
 -- E1 is layer 1's; end 2 is bridge 1's end of link 1. E8: a message over link 1 from end 2 (direction 0), of number 1; its delivery is
--- accepted (0) and stale
+-- accepted (0) and stale. The last: "a path also stops at a bridge whose frame dies on the link", at bridge 1, whose port is on link 0 still; its send is refused
+-- with 13 where its own end is down, and a delivery where the receiver's is
 abbrev pub allExamples : List Example
 allExamples =
     examples
@@ -98,8 +109,18 @@ allExamples =
           ∷ [];
       stated = 1 ∷ 0 ∷ 1 ∷ 0 ∷ 0 ∷ [];
     }
+    ∷ record {
+      found =
+          uses callsOneEnd 1 ∷ way callsOneEnd 2
+          ++ (refuse (after callsOneEnd) (send 0 0)
+          ∷ refuse (after callsOneEnd) (send 1 0)
+          ∷ refuse (after (sentBefore ++ (change (cut 0 0) ∷ []))) (deliver 0)
+          ∷ refuse (after (sentBefore ++ (change (cut 1 0) ∷ []))) (deliver 0)
+          ∷ []);
+      stated = 0 ∷ 1 ∷ 1 ∷ 1 ∷ 13 ∷ 0 ∷ 0 ∷ 13 ∷ [];
+    }
     ∷ [])
 
--- E1 to E8 hold
+-- they hold
 abbrev pub ExamplesHold : Type 0
 ExamplesHold = AllHold allExamples

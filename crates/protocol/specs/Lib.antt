@@ -1,6 +1,7 @@
 pub mod Net
 pub mod Calls
 pub mod Ports
+pub mod Rings
 pub mod Paths
 pub mod Rounds
 pub mod Demand2

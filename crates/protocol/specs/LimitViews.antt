@@ -12,7 +12,7 @@ use Rattle.agreement.specs.Offer.{opposite}
 use Rattle.agreement.specs.Record.{heldLimit, isStale, isAgreed, isClearing}
 use Rattle.agreement.specs.Forwarding.{Records}
 use Rattle.agreement.specs.declared.Agreement.{Agreement}
-use Rattle.protocol.specs.Net.{Network, Plan, sender, offerIn, fresh}
+use Rattle.protocol.specs.Net.{Network, Plan, receiver, offerIn, fresh}
 use Rattle.protocol.specs.Calls.{Call, change, update, cut, restore, send, deliver, repeat, lose, port, report, path, accepted, messageAt, step, run}
 
 -- what a call does to an end: its bridge moves to another view, it receives a message, or neither
@@ -27,13 +27,13 @@ updateEffect n e b t = cond (eqb (n .plan .graph .bridgeAt e) b && not (eqb (n .
 
 -- delivery of the message at place p, to the end opposite to its sender
 unfoldable pub deliveryEffect : Network → ℕ → ℕ → EndEffect
-deliveryEffect n e p = cond (eqb e (opposite (sender (messageAt n p)))) (receives (messageAt n p .agreement)) nothing
+deliveryEffect n e p = cond (eqb e (receiver (messageAt n p))) (receives (messageAt n p .agreement)) nothing
 
 -- an accepted call at end e; a refused one does nothing there
 unfoldable pub acceptedEffect : Network → ℕ → Call → EndEffect
 acceptedEffect n e (change (update b t)) = updateEffect n e b t
-acceptedEffect n e (change (cut l)) = nothing
-acceptedEffect n e (change (restore l)) = nothing
+acceptedEffect n e (change (cut b l)) = nothing
+acceptedEffect n e (change (restore b l)) = nothing
 acceptedEffect n e (send b l) = nothing
 acceptedEffect n e (deliver p) = deliveryEffect n e p
 acceptedEffect n e (repeat p) = deliveryEffect n e p

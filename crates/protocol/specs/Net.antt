@@ -5,7 +5,7 @@ use mathlib.Core.Bool.{false}
 use mathlib.Core.List.{List, []}
 use Rattle.distances.specs.View.{Graph, Costs, NONE, InRange, CostsInRange}
 use Rattle.distances.specs.Distance.{dist}
-use Rattle.agreement.specs.Offer.{offer}
+use Rattle.agreement.specs.Offer.{opposite, offer}
 use Rattle.agreement.specs.Record.{freshRecord}
 use Rattle.agreement.specs.Forwarding.{Records}
 use Rattle.agreement.specs.declared.Agreement.{Agreement}
@@ -20,6 +20,10 @@ pub record Message : Type 0 where
 abbrev pub sender : Message → ℕ
 sender m = 2 * m .link + m .direction
 
+-- and the one where it arrives
+abbrev pub receiver : Message → ℕ
+receiver m = opposite (sender m)
+
 -- what stays: the graph, the number of views, each view's costs
 pub record Plan : Type 0 where
   pub graph : Graph
@@ -33,7 +37,7 @@ pub record PlanInRange (p : Plan) : Type 0 where
   pub most : p .views ≤ 32
   pub costs : (t : ℕ) → t < p .views → CostsInRange (p .graph) (p .costs t)
 
--- the network: of each bridge its view and agreement number; of each end its record and rows of limits; of each link its cut;
+-- the network: of each bridge its view and agreement number; of each end whether it is down, its record and rows of limits;
 -- the messages in flight, oldest first
 pub record Network : Type 0 where
   pub plan : Plan
@@ -49,13 +53,14 @@ distanceIn p t = dist (p .graph) (p .costs t)
 abbrev pub offerIn : Plan → ℕ → ℕ → ℕ → ℕ
 offerIn p t = offer (p .graph) (p .costs t) (distanceIn p t)
 
--- "A fresh network": every bridge on view 0 with number 1, sent limits from view 0, nothing held, no link cut, no message in flight
+-- "A fresh network": every bridge on view 0 with number 1, sent limits from view 0, nothing held, no link cut (every end is up), no message in
+-- flight
 unfoldable pub fresh : Plan → Network
 fresh p =
     record {
       plan = p;
       view = λ b. 0;
       number = λ b. 1;
-      records = record { cut = λ l. false; ends = λ e. freshRecord; sent = λ e. offerIn p 0 e; held = λ e d. NONE };
+      records = record { down = λ e. false; ends = λ e. freshRecord; sent = λ e. offerIn p 0 e; held = λ e d. NONE };
       messages = [];
     }

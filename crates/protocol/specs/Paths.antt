@@ -1,4 +1,5 @@
--- A path follows forwarding ports (document 01, "Forwarding", second part). Assumes nothing.
+-- A path follows forwarding ports (document 01, "Forwarding", second part; document 02, Change 1: it "also stops at a bridge whose frame
+-- dies on the link"). Assumes nothing.
 use Prim.Native.Nat.{ℕ, zero, suc, _-_}
 use mathlib.Core.Path.{_≡_}
 use mathlib.Core.Bool.{cond}
@@ -39,7 +40,8 @@ onwardLinks next d (suc left) y = cond (eqb y d) [] (followLinks (onwardLinks ne
 unfoldable pub linksCrossed : Network → ℕ → ℕ → List ℕ
 linksCrossed n s d = onwardLinks (hop n d) d (n .plan .graph .bridges - 1) s
 
--- a path "ends by itself" if it is delivered, or ends at a bridge from which the frame crosses no link
+-- a path "ends by itself" if it is delivered, or ends at a bridge from which the frame crosses no link: the bridge does not forward, or the
+-- frame dies
 abbrev pub EndsByItself : Network → ℕ → PathResult → Type 0
 EndsByItself n d (delivered h) = Unit {0}
 EndsByItself n d (stops b h) = hop n d b ≡ stays

@@ -1,11 +1,12 @@
 -- Rounds within a list of calls (document 01, "Events", last part). A message is named by its place, followed through later calls.
 -- Assumes nothing.
-use Prim.Native.Nat.{ℕ, _+_, _*_, _-_}
+use Prim.Native.Nat.{ℕ, _*_, _-_}
 use mathlib.Core.Bool.{Bool, true, false, cond, _&&_, _||_, not}
 use mathlib.Core.List.{List, [], _∷_}
 use lib.ListN.{length}
 use lib.Dec.{eqb, ltb}
 use Rattle.distances.specs.Call.{allBelow}
+use Rattle.agreement.specs.Forwarding.{isUp}
 use Rattle.protocol.specs.Net.{Network}
 use Rattle.protocol.specs.Calls.{Call, change, send, deliver, repeat, lose, port, report, path, accepted, step, endOf}
 
@@ -59,9 +60,9 @@ unfoldable pub isSentAndDelivered : Network → List Call → ℕ → Bool
 isSentAndDelivered n [] e = false
 isSentAndDelivered n (c ∷ cs) e = isSendFrom n e c && isDelivered (step n c) cs (length (n .messages)) || isSentAndDelivered (step n c) cs e
 
--- the list holds a "round": every bridge sends over each of its uncut links, and all those messages are delivered
+-- the list holds a "round": every bridge sends over each of its links that is up at its end, and all those messages are delivered
 unfoldable pub hasRound : Network → List Call → Bool
-hasRound n cs = allBelow (n .plan .graph .links) (λ l. n .records .cut l || isSentAndDelivered n cs (2 * l) && isSentAndDelivered n cs (2 * l + 1))
+hasRound n cs = allBelow (2 * n .plan .graph .links) (λ e. not (isUp (n .records) e) || isSentAndDelivered n cs e)
 
 -- update, cut and restore
 unfoldable pub isChange : Call → Bool

@@ -8,10 +8,10 @@ use Rattle.protocol.specs.Calls.{Call, change, update, cut, send, delive
 use Rattle.protocol.specs.Demand3.{Settling}
 use Rattle.protocol.specs.Examples.{plan}
 
--- bridge 1 sends in view 0, and then all go to view 1, which has no link 0; link 0 is cut
+-- bridge 1 sends in view 0, and then all go to view 1, which has no link 0; link 0 is cut at both ends
 unfoldable pub before : List Call
 before =
-    send 1 1 ∷ change (update 0 1) ∷ change (update 1 1) ∷ change (update 2 1) ∷ change (cut 0) ∷ []
+    send 1 1 ∷ change (update 0 1) ∷ change (update 1 1) ∷ change (update 2 1) ∷ change (cut 0 0) ∷ change (cut 1 0) ∷ []
 
 -- a round in which one message is lost, and the one of view 0 comes after a newer one, which is delivered twice
 unfoldable pub opening : List Call
@@ -26,7 +26,7 @@ first = opening ++ closing
 -- a second round, with a refused cut and a refused send over the cut link
 unfoldable pub second : List Call
 second =
-    send 1 1 ∷ send 2 1 ∷ change (cut 0) ∷ send 0 0 ∷ send 0 2 ∷ send 2 2
+    send 1 1 ∷ send 2 1 ∷ change (cut 1 0) ∷ send 0 0 ∷ send 0 2 ∷ send 2 2
     ∷ deliver 3 ∷ deliver 0 ∷ repeat 0 ∷ deliver 1 ∷ lose 0 ∷ []
 
 unfoldable pub start : Network

@@ -26,7 +26,9 @@ fn known() {
     replay(b"e1_to_e8.plan");
     replay(b"e9_accepted.plan");
     replay(b"e9_refused.plan");
+    replay(b"frame_dies.plan");
     replay(b"greatest_distance.plan");
+    replay(b"limits_at_the_own_end.plan");
     replay(b"limits_on_every_link.plan");
     replay(b"messages.plan");
     replay(b"no_links.plan");
@@ -34,6 +36,7 @@ fn known() {
     replay(b"parallel_links.plan");
     replay(b"sample.plan");
     replay(b"views_with_equal_costs.plan");
+    replay(b"one_connector.plan");
     replay(b"ring_of_four.plan");
     replay(b"sixteen_bridges.plan");
     replay(b"ward_pair.plan");
@@ -41,6 +44,7 @@ fn known() {
 
 // Refused in the header.
 fn header() {
+    replay(b"r01_cut_without_link.plan");
     replay(b"r01_first_field.plan");
     replay(b"r01_one_byte.plan");
     replay(b"r01_two_bytes.plan");
@@ -51,9 +55,12 @@ fn header() {
     replay(b"r02_tag_255.plan");
     replay(b"r03_before_cut_short.plan");
     replay(b"r03_bridge_count_of_two_bytes.plan");
+    replay(b"r03_cut_of_one_byte.plan");
+    replay(b"r03_cut_of_three_bytes.plan");
     replay(b"r03_event_too_long.plan");
     replay(b"r03_event_too_short.plan");
     replay(b"r03_high_length_byte.plan");
+    replay(b"r03_restore_of_one_byte.plan");
     replay(b"r03_view_of_other_length.plan");
     replay(b"r03_view_without_links.plan");
     replay(b"r04_before_length.plan");
@@ -82,27 +89,44 @@ fn setup() {
     replay(b"r18_too_long.plan");
 }
 
-// Refused events.
-fn events() {
-    replay(b"r10_cut.plan");
+// Events refused for the bridge, view, link or end that they name.
+fn named() {
+    replay(b"r10_cut_bridge.plan");
+    replay(b"r10_cut_link.plan");
     replay(b"r10_path_destination.plan");
     replay(b"r10_path_start.plan");
     replay(b"r10_report.plan");
-    replay(b"r10_restore.plan");
+    replay(b"r10_restore_bridge.plan");
+    replay(b"r10_restore_link.plan");
     replay(b"r10_send_bridge.plan");
     replay(b"r10_send_link.plan");
     replay(b"r10_update_bridge.plan");
     replay(b"r10_update_view.plan");
-    replay(b"r11_before_cut.plan");
-    replay(b"r11_not_on_link.plan");
+    replay(b"r11_cut.plan");
+    replay(b"r11_cut_before_down.plan");
+    replay(b"r11_restore.plan");
+    replay(b"r11_restore_before_up.plan");
+    replay(b"r11_send.plan");
+    replay(b"r11_send_before_down.plan");
+    replay(b"r12_cut_again.plan");
     replay(b"r12_cut_twice.plan");
-    replay(b"r12_restore_uncut.plan");
+    replay(b"r12_other_end_is_allowed.plan");
+    replay(b"r12_restore_other_end.plan");
+    replay(b"r12_restore_up.plan");
     replay(b"r12_restored_twice.plan");
+}
+
+// Events refused for an end that is down, or for the messages in flight; and what an end that is down allows.
+fn flight() {
     replay(b"r13_before_full.plan");
     replay(b"r13_deliver.plan");
+    replay(b"r13_deliver_is_allowed.plan");
     replay(b"r13_lose_is_allowed.plan");
     replay(b"r13_repeat.plan");
+    replay(b"r13_repeat_is_allowed.plan");
     replay(b"r13_send.plan");
+    replay(b"r13_send_is_allowed.plan");
+    replay(b"r14_far_end_down.plan");
     replay(b"r15_before_cut.plan");
     replay(b"r15_deliver.plan");
     replay(b"r15_lose.plan");
@@ -113,5 +137,6 @@ fn main() {
     known();
     header();
     setup();
-    events();
+    named();
+    flight();
 }

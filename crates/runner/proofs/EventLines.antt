@@ -37,8 +37,8 @@ module _ (s : State) (n : Network) (r : Represents s n) where
   text-is (Deliver p) none = refl
   text-is (Repeat p) none = refl
   text-is (Lose p) none = refl
-  text-is (Cut l) none = refl
-  text-is (Restore l) none = refl
+  text-is (Cut y l) none = refl
+  text-is (Restore y l) none = refl
   text-is (Report d) none =
       let b : ℕ = s .bench .bridges in
       let listed : d < n .plan .graph .bridges = rw bridges-same (report-listed s d none) in

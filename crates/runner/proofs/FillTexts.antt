@@ -62,8 +62,8 @@ text-short s (Send y l) none = record { room = omega arith; few = omega arith }
 text-short s (Deliver p) none = record { room = omega arith; few = omega arith }
 text-short s (Repeat p) none = record { room = omega arith; few = omega arith }
 text-short s (Lose p) none = record { room = omega arith; few = omega arith }
-text-short s (Cut l) none = record { room = omega arith; few = omega arith }
-text-short s (Restore l) none = record { room = omega arith; few = omega arith }
+text-short s (Cut y l) none = record { room = omega arith; few = omega arith }
+text-short s (Restore y l) none = record { room = omega arith; few = omega arith }
 text-short s (Report d) none =
     let bridges = accepted-bridges s (Report d) none in
     let listed = report-listed s d none in

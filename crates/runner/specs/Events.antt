@@ -26,8 +26,8 @@ eventText bridges (Send b l) answers = []
 eventText bridges (Deliver p) answers = []
 eventText bridges (Repeat p) answers = []
 eventText bridges (Lose p) answers = []
-eventText bridges (Cut l) answers = []
-eventText bridges (Restore l) answers = []
+eventText bridges (Cut y l) answers = []
+eventText bridges (Restore y l) answers = []
 eventText bridges (Report d) answers = reportText d bridges answers
 eventText bridges (Path y d) answers = pathText y d answers
 

@@ -26,7 +26,7 @@ firstRunner =
             view = replicate 16 0;
             number = replicate 16 1;
             records = replicate 64 freshRecord;
-            cut = replicate 32 false;
+            down = replicate 64 false;
           };
       stage = 0;
       events = 0;

@@ -60,7 +60,7 @@ withBridges b n =
       view = b .view;
       number = b .number;
       records = b .records;
-      cut = b .cut;
+      down = b .down;
     }
 
 abbrev pub withLink : Bench → ℕ → ℕ → Bench
@@ -74,7 +74,7 @@ withLink b x y =
       view = b .view;
       number = b .number;
       records = b .records;
-      cut = b .cut;
+      down = b .down;
     }
 
 abbrev pub withView : Bench → Bench
@@ -88,7 +88,7 @@ withView b =
       view = b .view;
       number = b .number;
       records = b .records;
-      cut = b .cut;
+      down = b .down;
     }
 
 -- a view's costs in its row

@@ -33,8 +33,8 @@ pub(crate) fn has_text(event: Event) -> bool
         Event::Deliver(_) => false,
         Event::Repeat(_) => false,
         Event::Lose(_) => false,
-        Event::Cut(_) => false,
-        Event::Restore(_) => false,
+        Event::Cut(_, _) => false,
+        Event::Restore(_, _) => false,
     }
 }
 
@@ -49,8 +49,8 @@ pub(crate) fn event_text(bridges: usize, event: Event, answers: &[u32], out: &mu
         Event::Deliver(_) => 0,
         Event::Repeat(_) => 0,
         Event::Lose(_) => 0,
-        Event::Cut(_) => 0,
-        Event::Restore(_) => 0,
+        Event::Cut(_, _) => 0,
+        Event::Restore(_, _) => 0,
         Event::Report(dest) => count_of(text::lines::report(out, dest as u32, bridges, answers)),
         Event::Path(start, dest) => path_text(out, start, dest, answers),
     }

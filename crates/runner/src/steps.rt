@@ -18,7 +18,6 @@ use bench::sizes::MOST_MESSAGES;
 use bench::sizes::REPORT;
 use distances::ready::both;
 use distances::sizes::MOST_BRIDGES;
-use distances::sizes::MOST_LINKS;
 use messages::Message;
 use messages::batches::run_by_value;
 use plan::Field;
@@ -45,7 +44,7 @@ pub fn first() -> Runner
     let number = [1u16; MOST_BRIDGES];
     let record = agreement::calls::fresh_record();
     let records = [record; ENDS];
-    let cut = [false; MOST_LINKS];
+    let down = [false; ENDS];
     let bench = Bench {
         bridges: 0,
         links: 0,
@@ -55,7 +54,7 @@ pub fn first() -> Runner
         view,
         number,
         records,
-        cut,
+        down,
     };
     Runner {
         bench,

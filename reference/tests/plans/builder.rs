@@ -56,12 +56,21 @@ impl Plan {
         self.field(8, &[place])
     }
 
-    pub fn cut(self, link: u8) -> Plan {
-        self.field(9, &[link])
+    pub fn cut(self, bridge: u8, link: u8) -> Plan {
+        self.field(9, &[bridge, link])
     }
 
-    pub fn restore(self, link: u8) -> Plan {
-        self.field(10, &[link])
+    pub fn restore(self, bridge: u8, link: u8) -> Plan {
+        self.field(10, &[bridge, link])
+    }
+
+    /// Cuts both ends of a link; `bridges` are those that it joins.
+    pub fn cut_both(self, bridges: [u8; 2], link: u8) -> Plan {
+        self.cut(bridges[0], link).cut(bridges[1], link)
+    }
+
+    pub fn restore_both(self, bridges: [u8; 2], link: u8) -> Plan {
+        self.restore(bridges[0], link).restore(bridges[1], link)
     }
 
     pub fn report(self, destination: u8) -> Plan {

@@ -39,16 +39,16 @@ fn lines_before_a_refusal_stand() {
 #[test]
 fn an_update_to_the_present_view_changes_nothing() {
     // Bridge 1 waits for the discarded number 2, its own number. Were the number to rise to 3, it would get no port.
-    let plan = Plan::triangle().triangle_round(0).triangle_round(0).cut(0).update(1, 1).update(2, 1);
+    let plan = Plan::triangle().triangle_round(0).triangle_round(0).cut_both([0, 1], 0).update(1, 1).update(2, 1);
     let plan = plan.pass(1, 1, 0).update(1, 1).pass(2, 1, 0).report(0);
-    plan.prints(&["dest 0", "0 0 -", "1 4 1", "2 3 2", "end 33"]);
+    plan.prints(&["dest 0", "0 0 -", "1 4 1", "2 3 2", "end 34"]);
 }
 
 #[test]
 fn the_lowest_of_equal_parallel_links_is_chosen_even_if_cut() {
     let plan = Plan::new().bridges(2).link(0, 1).link(1, 0).view(&[5, 5]).pass_all(&[(0, 0), (0, 1)], 0);
     plan.clone().report(0).prints(&["dest 0", "0 0 -", "1 5 0", "end 5"]);
-    plan.clone().cut(0).report(0).prints(&["dest 0", "0 0 -", "1 5 -", "end 6"]);
+    plan.clone().cut(1, 0).report(0).prints(&["dest 0", "0 0 -", "1 5 -", "end 6"]);
 }
 
 #[test]
@@ -80,15 +80,15 @@ fn a_bridge_at_the_same_distance_gets_no_offer() {
 #[test]
 fn an_update_to_the_view_last_received_moves_the_discarded_number() {
     // Bridge 2 notes number 2 of bridge 1 before it goes over to view 1 itself; its next message reports the discard.
-    let plan = Plan::triangle().triangle_round(0).triangle_round(0).cut(0);
+    let plan = Plan::triangle().triangle_round(0).triangle_round(0).cut_both([0, 1], 0);
     let plan = plan.update(1, 1).pass(1, 1, 0).update(2, 1).pass(2, 1, 0).report(0);
-    plan.prints(&["dest 0", "0 0 -", "1 4 1", "2 3 2", "end 32"]);
+    plan.prints(&["dest 0", "0 0 -", "1 4 1", "2 3 2", "end 33"]);
 }
 
 #[test]
 fn clearing_does_not_need_an_agreed_view() {
     // Bridge 2 agrees to number 2 of bridge 1, then goes back to view 0. Its message is only noted, yet it clears.
-    let plan = Plan::triangle().triangle_round(0).triangle_round(0).cut(0).update(1, 1).update(2, 1);
+    let plan = Plan::triangle().triangle_round(0).triangle_round(0).cut_both([0, 1], 0).update(1, 1).update(2, 1);
     let plan = plan.send(2, 1).deliver(0).pass(1, 1, 0).update(2, 0).pass(2, 1, 0).report(0);
-    plan.prints(&["dest 0", "0 0 -", "1 4 1", "2 2 -", "end 35"]);
+    plan.prints(&["dest 0", "0 0 -", "1 4 1", "2 2 -", "end 36"]);
 }

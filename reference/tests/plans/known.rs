@@ -8,7 +8,7 @@ fn e3() -> Plan {
 }
 
 fn e4() -> Plan {
-    e3().cut(0).update(1, 1)
+    e3().cut_both([0, 1], 0).update(1, 1)
 }
 
 fn e5() -> Plan {
@@ -50,29 +50,29 @@ fn e3_two_rounds() {
 #[test]
 fn e4_cut_and_update() {
     let plan = e4().report(0).path(2, 0);
-    plan.prints(&["dest 0", "0 0 -", "1 4 -", "2 2 1", "path 2 0 stops 1 1", "end 29"]);
+    plan.prints(&["dest 0", "0 0 -", "1 4 -", "2 2 1", "path 2 0 stops 1 1", "end 30"]);
 }
 
 #[test]
 fn e5_second_update() {
-    e5().report(0).path(2, 0).prints(&["dest 0", "0 0 -", "1 4 -", "2 3 2", "path 2 0 delivered 1", "end 30"]);
+    e5().report(0).path(2, 0).prints(&["dest 0", "0 0 -", "1 4 -", "2 3 2", "path 2 0 delivered 1", "end 31"]);
 }
 
 #[test]
 fn e6_sent_limit_still_too_low() {
-    e6().report(0).path(1, 0).prints(&["dest 0", "0 0 -", "1 4 -", "2 3 2", "path 1 0 stops 1 0", "end 32"]);
+    e6().report(0).path(1, 0).prints(&["dest 0", "0 0 -", "1 4 -", "2 3 2", "path 1 0 stops 1 0", "end 33"]);
 }
 
 #[test]
 fn e7_agreement() {
-    e7().report(0).path(1, 0).prints(&["dest 0", "0 0 -", "1 4 1", "2 3 2", "path 1 0 delivered 2", "end 36"]);
+    e7().report(0).path(1, 0).prints(&["dest 0", "0 0 -", "1 4 1", "2 3 2", "path 1 0 delivered 2", "end 37"]);
 }
 
 #[test]
 fn e8_stale() {
-    e8().report(0).path(1, 0).prints(&["dest 0", "0 0 -", "1 4 1", "2 3 2", "path 1 0 delivered 2", "end 37"]);
+    e8().report(0).path(1, 0).prints(&["dest 0", "0 0 -", "1 4 1", "2 3 2", "path 1 0 delivered 2", "end 38"]);
     // Had the stale message been recorded, bridge 2 would hold view 0 from bridge 1 once back on it, and use link 1.
-    e8().update(2, 0).report(0).prints(&["dest 0", "0 0 -", "1 4 1", "2 2 -", "end 37"]);
+    e8().update(2, 0).report(0).prints(&["dest 0", "0 0 -", "1 4 1", "2 2 -", "end 38"]);
 }
 
 #[test]

@@ -2,6 +2,7 @@
 
 mod arbitrary;
 mod builder;
+mod ends;
 mod errors;
 mod example;
 mod known;

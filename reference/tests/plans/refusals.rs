@@ -76,7 +76,7 @@ fn r3_wrong_length() {
     let link = bridges.link(0, 1);
     link.clone().view(&[]).refused(3, &link);
     link.clone().view(&[5, 5]).refused(3, &link);
-    for (tag, length) in [(4, 2), (5, 2), (6, 1), (7, 1), (8, 1), (9, 1), (10, 1), (11, 1), (12, 2)] {
+    for (tag, length) in [(4, 2), (5, 2), (6, 1), (7, 1), (8, 1), (9, 2), (10, 2), (11, 1), (12, 2)] {
         pair().field(tag, &vec![0; length - 1]).refused(3, &pair());
         pair().field(tag, &vec![0; length + 1]).refused(3, &pair());
         // Before 1: the value is also cut short.
@@ -130,17 +130,21 @@ fn r8_and_r9_views() {
 
 #[test]
 fn r10_no_such_bridge_view_or_link() {
-    let values: [(u8, &[u8]); 16] = [
+    let values: [(u8, &[u8]); 20] = [
         (4, &[2, 0]),
         (4, &[0, 1]),
         (4, &[255, 255]),
         (5, &[2, 0]),
         (5, &[0, 1]),
         (5, &[2, 1]),
-        (9, &[1]),
-        (9, &[255]),
-        (10, &[1]),
-        (10, &[255]),
+        (9, &[2, 0]),
+        (9, &[0, 1]),
+        (9, &[2, 1]),
+        (9, &[255, 255]),
+        (10, &[2, 0]),
+        (10, &[0, 1]),
+        (10, &[2, 1]),
+        (10, &[255, 255]),
         (11, &[2]),
         (11, &[255]),
         (12, &[2, 0]),
@@ -157,32 +161,80 @@ fn r10_no_such_bridge_view_or_link() {
 fn r11_bridge_not_on_the_link() {
     let plan = Plan::triangle();
     plan.clone().send(2, 0).refused(11, &plan);
-    // Before 13.
-    plan.clone().cut(0).send(2, 0).refused(11, &plan.clone().cut(0));
+    plan.clone().cut(2, 0).refused(11, &plan);
+    // Before 12: both ends of the link are up.
+    plan.clone().restore(2, 0).refused(11, &plan);
+    // Before 12 and 13: both ends are down.
+    let cut = plan.cut_both([0, 1], 0);
+    cut.clone().send(2, 0).refused(11, &cut);
+    cut.clone().cut(2, 0).refused(11, &cut);
+    cut.clone().restore(2, 0).refused(11, &cut);
 }
 
 #[test]
-fn r12_link_already_so() {
-    pair().restore(0).refused(12, &pair());
-    let cut = pair().cut(0);
-    cut.clone().cut(0).refused(12, &cut);
-    let restored = cut.restore(0);
-    restored.clone().restore(0).refused(12, &restored);
-    restored.clone().cut(0).accepted(3);
+fn r12_end_already_so() {
+    for (end, other) in [(0, 1), (1, 0)] {
+        pair().restore(end, 0).refused(12, &pair());
+        let cut = pair().cut(end, 0);
+        cut.clone().cut(end, 0).refused(12, &cut);
+        // The other end is still up.
+        cut.clone().restore(other, 0).refused(12, &cut);
+        let both = cut.clone().cut(other, 0);
+        both.accepted(2);
+        both.clone().cut(end, 0).refused(12, &both);
+        both.clone().cut(other, 0).refused(12, &both);
+        let restored = cut.restore(end, 0);
+        restored.clone().restore(end, 0).refused(12, &restored);
+        restored.clone().cut(end, 0).accepted(3);
+        let one = both.restore(end, 0);
+        one.clone().restore(end, 0).refused(12, &one);
+        one.clone().cut(other, 0).refused(12, &one);
+        one.clone().cut(end, 0).restore(other, 0).accepted(5);
+    }
 }
 
 #[test]
-fn r13_link_cut() {
-    let cut = pair().send(0, 0).cut(0);
-    cut.clone().send(0, 0).refused(13, &cut);
-    cut.clone().deliver(0).refused(13, &cut);
-    cut.clone().repeat(0).refused(13, &cut);
-    cut.clone().lose(0).accepted(3);
-    // 15 before 13.
-    cut.clone().deliver(1).refused(15, &cut);
-    // 13 before 14.
-    let full = (0..64).fold(pair(), |plan, _| plan.send(1, 0)).cut(0);
-    full.clone().send(1, 0).refused(13, &full);
+fn r13_send_with_the_own_end_down() {
+    for (own, far) in [(0, 1), (1, 0)] {
+        let cut = pair().cut(own, 0);
+        cut.clone().send(own, 0).refused(13, &cut);
+        cut.clone().send(far, 0).accepted(2);
+        let both = cut.cut(far, 0);
+        both.clone().send(own, 0).refused(13, &both);
+        both.clone().send(far, 0).refused(13, &both);
+        let restored = both.restore(own, 0);
+        restored.clone().send(own, 0).accepted(4);
+        restored.clone().send(far, 0).refused(13, &restored);
+        // Before 14.
+        let full = (0..64).fold(pair(), |plan, _| plan.send(own, 0)).cut(own, 0);
+        full.clone().send(own, 0).refused(13, &full);
+        full.clone().send(far, 0).refused(14, &full);
+    }
+}
+
+#[test]
+fn r13_delivery_with_the_receivers_end_down() {
+    for (sender, receiver) in [(0, 1), (1, 0)] {
+        let sent = pair().send(sender, 0);
+        let cut = sent.clone().cut(receiver, 0);
+        cut.clone().deliver(0).refused(13, &cut);
+        cut.clone().repeat(0).refused(13, &cut);
+        cut.clone().lose(0).accepted(3);
+        // 15 comes before.
+        cut.clone().deliver(1).refused(15, &cut);
+        cut.clone().repeat(1).refused(15, &cut);
+        // The sender's end does not matter.
+        let sender_down = sent.cut(sender, 0);
+        sender_down.clone().repeat(0).deliver(0).accepted(4);
+        sender_down.clone().lose(0).accepted(3);
+        let both = cut.cut(sender, 0);
+        both.clone().deliver(0).refused(13, &both);
+        both.clone().repeat(0).refused(13, &both);
+        both.clone().lose(0).accepted(4);
+        both.clone().restore(receiver, 0).repeat(0).deliver(0).accepted(6);
+        let receiver_down = both.restore(sender, 0);
+        receiver_down.clone().deliver(0).refused(13, &receiver_down);
+    }
 }
 
 #[test]

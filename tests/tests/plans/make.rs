@@ -13,9 +13,10 @@ pub struct Maker<'a> {
     /// The two bridges of each link.
     pub ends: Vec<[usize; 2]>,
     pub views: usize,
-    cut: Vec<bool>,
-    /// The link of each message in flight.
-    pub flight: Vec<usize>,
+    /// Whether each end of each link is down.
+    down: Vec<[bool; 2]>,
+    /// The link of each message in flight, and the receiver's side of it.
+    pub flight: Vec<(usize, usize)>,
 }
 
 impl<'a> Maker<'a> {
@@ -24,7 +25,7 @@ impl<'a> Maker<'a> {
         let bridges = if random.one_in(3) { 2 + random.below(15) } else { 2 + random.below(5) };
         let views = if random.one_in(8) { 1 + random.below(32) } else { 1 + random.below(4) };
         let mut maker =
-            Maker { random, fields: Vec::new(), bridges, ends: Vec::new(), views, cut: Vec::new(), flight: Vec::new() };
+            Maker { random, fields: Vec::new(), bridges, ends: Vec::new(), views, down: Vec::new(), flight: Vec::new() };
         maker.set_up();
         maker
     }
@@ -34,11 +35,30 @@ impl<'a> Maker<'a> {
         let bytes: Vec<u8> = value.iter().map(|&n| n as u8).collect();
         self.fields.push(field(tag, &bytes));
         match (tag, value) {
-            (5, &[_, link]) if link < self.cut.len() => self.flight.push(link),
+            (5 | 9 | 10, &[bridge, link]) if link < self.ends.len() => self.act_on_end(tag, bridge, link),
             (6 | 8, &[place]) if place < self.flight.len() => drop(self.flight.remove(place)),
-            (9 | 10, &[link]) if link < self.cut.len() => self.cut[link] = tag == 9,
             _ => {}
         }
+    }
+
+    fn act_on_end(&mut self, tag: u8, bridge: usize, link: usize) {
+        let Some(side) = self.ends[link].iter().position(|&end| end == bridge) else { return };
+        match tag {
+            5 => self.flight.push((link, 1 - side)),
+            _ => self.down[link][side] = tag == 9,
+        }
+    }
+
+    /// The ends that are up or down, each a link and a side of it.
+    fn ends_that_are(&self, down: bool) -> Vec<(usize, usize)> {
+        let ends = (0..self.down.len()).flat_map(|link| [(link, 0), (link, 1)]);
+        ends.filter(|&(link, side)| self.down[link][side] == down).collect()
+    }
+
+    /// Is the receiver's end of a message down.
+    fn is_stopped(&self, place: usize) -> bool {
+        let (link, side) = self.flight[place];
+        self.down[link][side]
     }
 
     fn cost(&mut self) -> usize {
@@ -80,7 +100,7 @@ impl<'a> Maker<'a> {
                 }
             }
         }
-        self.cut = vec![false; links];
+        self.down = vec![[false; 2]; links];
     }
 
     /// A number below `n`, and rarely one that is not.
@@ -93,26 +113,24 @@ impl<'a> Maker<'a> {
 
     /// A message leaves the flight, or is only repeated, wherever that is allowed.
     fn move_message(&mut self, place: usize) {
-        let cut = self.cut[self.flight[place]];
+        let stopped = self.is_stopped(place);
         let tag = match self.random.below(10) {
             0 => 8,
-            1 | 2 if !cut => 7,
-            _ if cut && !self.random.one_in(20) => 8,
+            1 | 2 if !stopped => 7,
+            _ if stopped && !self.random.one_in(20) => 8,
             _ => 6,
         };
         self.put(tag, &[place]);
     }
 
-    /// Every uncut link both ways, then what is in flight, oldest first or in any order, now and then with a loss.
+    /// Every end that is up sends, then what is in flight, oldest first or in any order, now and then with a loss.
     pub fn round(&mut self) {
-        let uncut: Vec<usize> = (0..self.ends.len()).filter(|&l| !self.cut[l]).collect();
-        while self.flight.len() + 2 * uncut.len() > 64 {
+        let up = self.ends_that_are(false);
+        while self.flight.len() + up.len() > 64 {
             self.put(8, &[0]);
         }
-        for l in uncut {
-            for side in [0, 1] {
-                self.put(5, &[self.ends[l][side], l]);
-            }
+        for (link, side) in up {
+            self.put(5, &[self.ends[link][side], link]);
         }
         let (in_order, careless) = (self.random.one_in(2), self.random.one_in(4));
         while let Some(last) = self.flight.len().checked_sub(1) {
@@ -120,7 +138,7 @@ impl<'a> Maker<'a> {
             if careless {
                 self.move_message(place);
             } else {
-                let tag = if self.cut[self.flight[place]] { 8 } else { 6 };
+                let tag = if self.is_stopped(place) { 8 } else { 6 };
                 self.put(tag, &[place]);
             }
         }
@@ -128,28 +146,34 @@ impl<'a> Maker<'a> {
 
     /// As many messages as may be in flight, and now and then one more.
     pub fn crowd(&mut self) {
-        let uncut: Vec<usize> = (0..self.ends.len()).filter(|&l| !self.cut[l]).collect();
+        let up = self.ends_that_are(false);
         let most = if self.random.one_in(20) { 65 } else { 64 };
-        while !uncut.is_empty() && self.flight.len() < most {
-            let link = uncut[self.random.below(uncut.len())];
-            let end = self.ends[link][self.random.below(2)];
-            self.put(5, &[end, link]);
+        while !up.is_empty() && self.flight.len() < most {
+            let (link, side) = self.random.pick(&up);
+            self.put(5, &[self.ends[link][side], link]);
         }
     }
 
-    fn switch(&mut self) {
+    /// A cut or a restore of an end, mostly a restore where many are down. A slip is at `other`, or of an end that is already so.
+    fn switch(&mut self, other: usize) {
+        let down = self.ends_that_are(true);
         let link = self.about(self.ends.len());
-        let down = self.cut.get(link).copied().unwrap_or(false) ^ self.random.one_in(300);
-        self.put(if down { 10 } else { 9 }, &[link]);
+        let (link, side) = match self.random.below(3) {
+            0 if !down.is_empty() => self.random.pick(&down),
+            _ => (link, self.random.below(2)),
+        };
+        let is_down = self.down.get(link).is_some_and(|down| down[side]) ^ self.random.one_in(300);
+        let end = self.ends.get(link).map_or(other, |ends| ends[side]);
+        let bridge = if self.random.one_in(300) { other } else { end };
+        self.put(if is_down { 10 } else { 9 }, &[bridge, link]);
     }
 
     /// A send, by an end of the link but for a slip: then by `other`.
     fn send(&mut self, other: usize) {
-        let link = self.random.below(self.ends.len());
-        let end = self.ends[link][self.random.below(2)];
-        let shut = self.flight.len() == 64 || self.cut[link];
+        let (link, side) = (self.random.below(self.ends.len()), self.random.below(2));
+        let shut = self.flight.len() == 64 || self.down[link][side];
         if !shut || self.random.one_in(200) {
-            let sender = if self.random.one_in(300) { other } else { end };
+            let sender = if self.random.one_in(300) { other } else { self.ends[link][side] };
             self.put(5, &[sender, link]);
         }
     }
@@ -174,7 +198,7 @@ impl<'a> Maker<'a> {
                     self.move_message(place);
                 }
             },
-            58..=63 if !self.ends.is_empty() => self.switch(),
+            58..=63 if !self.ends.is_empty() => self.switch(bridge),
             64..=69 => self.round(),
             70..=71 => {
                 self.round();

@@ -152,9 +152,8 @@ fn ranges(maker: &Maker, tag: usize) -> Vec<usize> {
         2 | 12 => vec![bridges, bridges],
         3 => vec![2; 4 * links],
         4 => vec![bridges, maker.views],
-        5 => vec![bridges, links],
+        5 | 9 | 10 => vec![bridges, links],
         6..=8 => vec![maker.flight.len()],
-        9 | 10 => vec![links],
         11 => vec![bridges],
         _ => vec![],
     }

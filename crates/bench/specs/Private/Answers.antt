@@ -35,7 +35,7 @@ unfoldable pub portIn : State → ℕ → ℕ → Port
 portIn s y d =
     let b : Bench = s .bench in
     found
-    (portOutcome (lentView b (s .costs) (getD (b .view) y 0)) (b .views) (b .cut) (b .records) (s .sent) (s .held) y d
+    (portOutcome (lentView b (s .costs) (getD (b .view) y 0)) (b .views) (b .down) (b .records) (s .sent) (s .held) y d
     .value)
 
 -- bridge y in a report of destination d: its distance in its own view and its link, NONE for no port
@@ -53,7 +53,7 @@ reported s d (suc y) rows = reportedRow s d y (reported s d y rows)
 
 -- The path from bridge y to destination d, by the ports found
 unfoldable pub hopIn : State → ℕ → ℕ → Hop
-hopIn s d y = hopBy (graphOf (s .bench .bridges) (s .bench .links) (s .bench .ends)) y (portIn s y d)
+hopIn s d y = hopBy (graphOf (s .bench .bridges) (s .bench .links) (s .bench .ends)) (network s .records) y (portIn s y d)
 
 unfoldable pub pathOf : State → ℕ → ℕ → Response paths.PathResult
 pathOf s y d =

@@ -4,10 +4,11 @@ use mathlib.Core.Bool.{Bool, true, false, cond}
 use mathlib.Core.List.{List, []}
 use lib.ListN.{getD, set}
 use lib.Dec.{eqb}
+use Rattle.distances.specs.View.{graphOf}
 use Rattle.agreement.specs.Record.{freshRecord}
 use Rattle.agreement.specs.Call.{ViewData, updateOutcome, freshOutcome}
 use Rattle.agreement.specs.declared.EndRecord.{EndRecord}
-use Rattle.protocol.specs.Calls.{change, update, cut, restore}
+use Rattle.protocol.specs.Calls.{Change, change, update, cut, restore, endOf}
 use Rattle.bench.specs.State.{State, network}
 use Rattle.bench.specs.Private.Views.{networkOf, lentView}
 use Rattle.bench.specs.Ranges.{benchInRange, networkInRange}
@@ -22,9 +23,9 @@ pub record BenchOutcome : Type 0 where
 abbrev pub benchOutcome : ℕ → Bench → BenchOutcome
 benchOutcome reply bench = record { reply = reply; bench = bench }
 
--- Cut and restore
-abbrev pub benchWithCut : Bench → ℕ → Bool → Bench
-benchWithCut b l so =
+-- end e goes down, or up
+abbrev pub benchWithEnd : Bench → ℕ → Bool → Bench
+benchWithEnd b e down =
     record {
       bridges = b .bridges;
       links = b .links;
@@ -34,16 +35,22 @@ benchWithCut b l so =
       view = b .view;
       number = b .number;
       records = b .records;
-      cut = set (b .cut) l so;
+      down = set (b .down) e down;
     }
 
-unfoldable pub cutOf : Bench → ℕ → BenchOutcome
-cutOf b l =
-    orRefused (refusalOf (benchInRange b) (networkOf b []) (change (cut l))) (λ k. benchOutcome k b) (benchOutcome 0 (benchWithCut b l true))
+-- bridge y's end of link l
+abbrev pub ownEnd : Bench → ℕ → ℕ → ℕ
+ownEnd b y l = endOf (graphOf (b .bridges) (b .links) (b .ends)) y l
 
-unfoldable pub restoreOf : Bench → ℕ → BenchOutcome
-restoreOf b l =
-    orRefused (refusalOf (benchInRange b) (networkOf b []) (change (restore l))) (λ k. benchOutcome k b) (benchOutcome 0 (benchWithCut b l false))
+-- Cut, by which it goes down, and restore, by which it goes up
+abbrev pub switch : Bool → ℕ → ℕ → Change
+switch true y l = cut y l
+switch false y l = restore y l
+
+unfoldable pub switchOf : Bench → ℕ → ℕ → Bool → BenchOutcome
+switchOf b y l down =
+    orRefused (refusalOf (benchInRange b) (networkOf b []) (change (switch down y l))) (λ k. benchOutcome k b)
+    (benchOutcome 0 (benchWithEnd b (ownEnd b y l) down))
 
 -- one end's record, and the limit tables
 pub record Ended : Type 0 where
@@ -102,7 +109,7 @@ movedBench b y t x =
       view = set (b .view) y t;
       number = set (b .number) y (getD (b .number) y 0 + 1);
       records = x .records;
-      cut = b .cut;
+      down = b .down;
     })
     (x .sent)
     (x .held)

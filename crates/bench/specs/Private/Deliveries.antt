@@ -41,7 +41,7 @@ benchWithRecords b records =
       view = b .view;
       number = b .number;
       records = records;
-      cut = b .cut;
+      down = b .down;
     }
 
 -- what a message carries, at end e, as layer 2 takes it there in the view of the end's bridge

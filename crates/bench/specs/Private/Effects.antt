@@ -15,7 +15,7 @@ use Rattle.distances.specs.View.{graphOf}
 use Rattle.protocol.specs.Calls.{endOf}
 use Rattle.bench.specs.State.{State, state, messageFrom}
 use Rattle.bench.specs.Private.Views.{lentView}
-use Rattle.bench.specs.Private.Changes.{ChangeOutcome, changeOutcome, ends, movedEnds, movedBench, benchWithCut}
+use Rattle.bench.specs.Private.Changes.{ChangeOutcome, changeOutcome, ends, movedEnds, movedBench, benchWithEnd}
 use Rattle.bench.specs.Private.Queue.{withCount}
 use Rattle.bench.specs.Private.Deliveries.{arrivalEnd, benchWithRecords}
 use Rattle.bench.specs.Contracts.{refusedBy}
@@ -115,8 +115,8 @@ HasRecord (Deliver p) b m old = p < b .messages → old ≡ getD (b .records) (a
 HasRecord (Repeat p) b m old = p < b .messages → old ≡ getD (b .records) (arrivalEnd m p) freshRecord
 HasRecord (Update y t) b m old = Unit {0}
 HasRecord (Lose p) b m old = Unit {0}
-HasRecord (Cut l) b m old = Unit {0}
-HasRecord (Restore l) b m old = Unit {0}
+HasRecord (Cut y l) b m old = Unit {0}
+HasRecord (Restore y l) b m old = Unit {0}
 HasRecord (Report d) b m old = Unit {0}
 HasRecord (Path y d) b m old = Unit {0}
 
@@ -170,7 +170,7 @@ stateWith s b = state b (s .costs) (s .sent) (s .held) (s .messages)
 abbrev pub appliedTo : Effect → State → State
 appliedTo Effect.Same s = s
 appliedTo (Effect.Messages n) s = stateWith s (withCount (s .bench) n)
-appliedTo (Effect.Cut l so) s = stateWith s (benchWithCut (s .bench) l so)
+appliedTo (Effect.End e down) s = stateWith s (benchWithEnd (s .bench) e down)
 appliedTo (Effect.Received e r n) s = stateWith s (withCount (benchWithRecords (s .bench) (set (s .bench .records) e r)) n)
 appliedTo (Effect.Moves y t) s = stateOf s (movedTo s y t)
 
@@ -178,7 +178,7 @@ appliedTo (Effect.Moves y t) s = stateOf s (movedTo s y t)
 abbrev pub CanApply : Effect → Bench → List Bool → Type 0
 CanApply Effect.Same b known = Unit {0}
 CanApply (Effect.Messages n) b known = Unit {0}
-CanApply (Effect.Cut l so) b known = l < 32
+CanApply (Effect.End e down) b known = e < mostEnds
 CanApply (Effect.Received e r n) b known = e < mostEnds
 CanApply (Effect.Moves y t) b known = CanMove b known y t
 

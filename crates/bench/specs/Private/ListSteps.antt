@@ -1,5 +1,6 @@
 -- One call and one event, by what the private functions make of the lists. Assumes nothing.
 use Prim.Native.Nat.{ℕ, zero, suc}
+use mathlib.Core.Bool.{true, false}
 use mathlib.Core.List.{List, [], _∷_, _++_}
 use lib.ListN.{getD}
 use Rattle.distances.specs.Table.{cell}
@@ -9,7 +10,7 @@ use Rattle.protocol.specs.Calls.{Call, change, update, cut, restore, send, deli
 use Rattle.bench.specs.State.{State, state}
 use Rattle.bench.specs.Private.Views.{lentView}
 use Rattle.bench.specs.Contracts.{orRefused, pathNumbers}
-use Rattle.bench.specs.Private.Changes.{cutOf, restoreOf, updateOf}
+use Rattle.bench.specs.Private.Changes.{switchOf, updateOf}
 use Rattle.bench.specs.Private.Queue.{sendOf, loseOf}
 use Rattle.bench.specs.Private.Deliveries.{deliverOf, repeatOf}
 use Rattle.bench.specs.Private.Answers.{portIn, pathOf}
@@ -22,8 +23,8 @@ use Rattle.bench.specs.declared.Disposition.the-variants.{Complete, Refu
 unfoldable pub stepBy : State → Call → State
 stepBy s (change (update y t)) =
     let o = updateOf s y t in state (o .bench) (s .costs) (o .sent) (o .held) (s .messages)
-stepBy s (change (cut l)) = state (cutOf (s .bench) l .bench) (s .costs) (s .sent) (s .held) (s .messages)
-stepBy s (change (restore l)) = state (restoreOf (s .bench) l .bench) (s .costs) (s .sent) (s .held) (s .messages)
+stepBy s (change (cut y l)) = state (switchOf (s .bench) y l true .bench) (s .costs) (s .sent) (s .held) (s .messages)
+stepBy s (change (restore y l)) = state (switchOf (s .bench) y l false .bench) (s .costs) (s .sent) (s .held) (s .messages)
 stepBy s (send y l) =
     let o = sendOf (s .bench) (s .messages) y l in state (o .bench) (s .costs) (s .sent) (s .held) (o .messages)
 stepBy s (deliver p) =
@@ -55,8 +56,8 @@ answersBy s (Send b l) = []
 answersBy s (Deliver p) = valueNumbers answerNumbers (deliverOf s p .reply .value)
 answersBy s (Repeat p) = valueNumbers answerNumbers (repeatOf s p .reply .value)
 answersBy s (Lose p) = []
-answersBy s (Cut l) = []
-answersBy s (Restore l) = []
+answersBy s (Cut y l) = []
+answersBy s (Restore y l) = []
 answersBy s (Report d) = rowsBy s d (s .bench .bridges)
 answersBy s (Path y d) = valueNumbers pathNumbers (pathOf s y d .value)
 

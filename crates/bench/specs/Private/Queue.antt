@@ -25,7 +25,7 @@ withCount b k =
       view = b .view;
       number = b .number;
       records = b .records;
-      cut = b .cut;
+      down = b .down;
     }
 
 -- of `count` messages the one at place p is taken out: later ones move up by one

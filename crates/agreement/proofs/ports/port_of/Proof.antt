@@ -19,13 +19,13 @@ use Rattle.agreement.proofs.ports.port_of.Statement.{statement}
 use Rattle.agreement.proofs.ports.port_of.Tie as tie
 
 abbrev Inv-loop : tie.InvT-loop
-Inv-loop bridges links ends costs table sent held bridge dest cut records own choice₀ e₀ choice e =
+Inv-loop bridges links ends costs table sent held bridge dest down records own choice₀ e₀ choice e =
     (e ≤ 2 * links)
     × (choice
-    ≡ choiceBelow (graphOf bridges links ends) (costsOf costs) (cell table) (lentRecords cut records sent held) bridge dest e)
+    ≡ choiceBelow (graphOf bridges links ends) (costsOf costs) (cell table) (lentRecords down records sent held) bridge dest e)
 
 abbrev μ-loop : tie.MeasureT-loop
-μ-loop bridges links ends costs table sent held bridge dest cut records own choice₀ e₀ choice e = 2 * links - e
+μ-loop bridges links ends costs table sent held bridge dest down records own choice₀ e₀ choice e = 2 * links - e
 
 -- both ends of the link
 both :
@@ -147,7 +147,7 @@ loop-again c =
             isLink = refl;
             isCost = refl;
             isFar = rw (w .1 .ensures, cell-is);
-            isCut = refl;
+            isDown = refl;
             isHolding = ap (λ (z : EndRecord). z .holding) (getD-default (a .t7) e _ freshRecord h);
             isSent = sym (cell-is _ _ _);
             isHeld = sym (cell-is _ _ _);

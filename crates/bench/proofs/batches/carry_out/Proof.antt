@@ -1,7 +1,7 @@
 -- `batches::carry_out` meets its contract: no room, or each event is the bench's call, and what it is not lent stays as it was. Assumes nothing.
 use Prim.Native.Nat.{_≤_, ℕ, _<_}
 use mathlib.Core.Path.{_≡_, sym, ap, _∙_, refl}
-use mathlib.Core.Bool.{true}
+use mathlib.Core.Bool.{true, false}
 use Rattle.distances.proofs.Booleans.{both-true}
 use Rattle.bench.specs.State.{State, state}
 use Rattle.bench.specs.Private.Queue.{QueueOutcome}
@@ -11,8 +11,8 @@ use Rattle.bench.specs.Batches.{answerSize}
 use Rattle.bench.specs.declared.Event.the-variants.{Deliver, Repeat}
 use Rattle.bench.proofs.TieRanges.{StateReady, told, ready, few}
 use Rattle.bench.proofs.QueueRanges.{network-told}
-use Rattle.bench.proofs.RangesSteps.{flightInRange, flight-of, update-stays, cut-stays, restore-stays, send-stays, lose-stays, deliver-stays, repeat-stays}
-use Rattle.bench.proofs.BatchSteps.{full-leaves, room-leaves, leaves-by, told-by, update-leaves, update-told, cut-leaves, cut-told, restore-leaves, restore-told, send-leaves, lose-leaves, queue-told, deliver-receives, repeat-receives, received-leaves, reception-effect-told, report-leaves, report-told, path-leaves, quiet-told}
+use Rattle.bench.proofs.RangesSteps.{flightInRange, flight-of, update-stays, switch-stays, send-stays, lose-stays, deliver-stays, repeat-stays}
+use Rattle.bench.proofs.BatchSteps.{full-leaves, room-leaves, leaves-by, told-by, update-leaves, update-told, switch-leaves, switch-told, send-leaves, lose-leaves, queue-told, deliver-receives, repeat-receives, received-leaves, reception-effect-told, report-leaves, report-told, path-leaves, quiet-told}
 use Rattle.bench.proofs.AnswerRanges.{path-fits}
 use Rattle.bench.proofs.ChangeSteps.{length-mapped}
 use borrow.Author.Needs.{needs}
@@ -131,20 +131,26 @@ queue-result-requires-2 c κs = tt
 enum-known-event-6 : tie.Need-enum-known-event-6
 enum-known-event-6 c = c .match .keys6
 
-cast-cut-result : tie.Need-cast-cut-result
-cast-cut-result c = byte-fits (c .known-told6 .given .0 .1)
+cast-switch-result : tie.Need-cast-switch-result
+cast-switch-result c = byte-fits (c .known-told6 .given .0 .1)
 
-cut-result-requires : tie.Need-cut-result-requires
-cut-result-requires c κs = links-few (c .before .before .before .before .before .before .before .before .before .before .before .before .before .before)
+cast-switch-result-2 : tie.Need-cast-switch-result-2
+cast-switch-result-2 c = byte-fits (c .known-told6 .given .1 .0 .1)
+
+switch-result-requires : tie.Need-switch-result-requires
+switch-result-requires c κs = links-few (c .before .before .before .before .before .before .before .before .before .before .before .before .before .before)
 
 enum-known-event-7 : tie.Need-enum-known-event-7
 enum-known-event-7 c = c .match .keys7
 
-cast-restore-result : tie.Need-cast-restore-result
-cast-restore-result c = byte-fits (c .known-told7 .given .0 .1)
+cast-switch-result-3 : tie.Need-cast-switch-result-3
+cast-switch-result-3 c = byte-fits (c .known-told7 .given .0 .1)
 
-restore-result-requires : tie.Need-restore-result-requires
-restore-result-requires c κs = links-few (c .before .before .before .before .before .before .before .before .before .before .before .before .before .before)
+cast-switch-result-4 : tie.Need-cast-switch-result-4
+cast-switch-result-4 c = byte-fits (c .known-told7 .given .1 .0 .1)
+
+switch-result-requires-2 : tie.Need-switch-result-requires-2
+switch-result-requires-2 c κs = links-few (c .before .before .before .before .before .before .before .before .before .before .before .before .before .before)
 
 enum-known-event-8 : tie.Need-enum-known-event-8
 enum-known-event-8 c = c .match .keys8
@@ -255,14 +261,14 @@ returns-6 c = (
 
 returns-7 : tie.Need-returns-7
 returns-7 c = (
-  room-leaves _ _ _ (c .before .before .before .before .before .before .before .before .before .before .before .before .before .before .before .pre .0) (typed (c .before .before .before .before .before .before .before .before .before .before .before .before .before .before .before)) (roomy (c .before .before .before .before)) (leaves-by (Given (c .before .before .before .before .before .before .before .before .before .before .before .before .before .before .before)) _ (c .before .before .event6 .given .1) (c .cut-result .ensures) (cut-leaves (c .before .before .before .before .before .before .before .before .before .before .before .before .before .before .before .args .bench) (c .before .before .before .before .before .before .before .before .before .before .before .before .before .before .before .args .costs .now) (c .before .before .before .before .before .before .before .before .before .before .before .before .before .before .before .args .sent .now) (c .before .before .before .before .before .before .before .before .before .before .before .before .before .before .before .args .held .now) (c .before .before .before .before .before .before .before .before .before .before .before .before .before .before .before .args .flight .now) (c .before .before .before .before .before .before .before .before .before .before .before .before .before .before .before .args .answers .now) _ (c .before .before .before .before .before .before .before .before .before .before .before .before .before .before .before .pre .0) (ready _ (cut-stays (Given (c .before .before .before .before .before .before .before .before .before .before .before .before .before .before .before)) (inside (c .before .before .before .before .before .before .before .before .before .before .before .before .before .before .before)) _)))),
-  (told-by (c .before .before .before .before .before .before .before .before .before .before .before .before .before .before .before .args .bench) _ (c .cut-result .ensures) (cut-told (c .before .before .before .before .before .before .before .before .before .before .before .before .before .before .before .args .bench) (c .before .before .before .before .before .before .before .before .before .before .before .before .before .before .before .args .costs .now) (c .before .before .before .before .before .before .before .before .before .before .before .before .before .before .before .args .sent .now) (c .before .before .before .before .before .before .before .before .before .before .before .before .before .before .before .args .held .now) (c .before .before .before .before .before .before .before .before .before .before .before .before .before .before .before .args .flight .now) (c .before .before .before .before .before .before .before .before .before .before .before .before .before .before .before .args .answers .now) _ (c .before .before .before .before .before .before .before .before .before .before .before .before .before .before .before .pre .0) _), c .before .before .before .before .before .before .before .before .before .before .before .before .before .before .before .pre .1 .1),
+  room-leaves _ _ _ (c .before .before .before .before .before .before .before .before .before .before .before .before .before .before .before .pre .0) (typed (c .before .before .before .before .before .before .before .before .before .before .before .before .before .before .before)) (roomy (c .before .before .before .before)) (leaves-by (Given (c .before .before .before .before .before .before .before .before .before .before .before .before .before .before .before)) _ (c .before .before .event6 .given .1) (c .switch-result .ensures) (switch-leaves (c .before .before .before .before .before .before .before .before .before .before .before .before .before .before .before .args .bench) (c .before .before .before .before .before .before .before .before .before .before .before .before .before .before .before .args .costs .now) (c .before .before .before .before .before .before .before .before .before .before .before .before .before .before .before .args .sent .now) (c .before .before .before .before .before .before .before .before .before .before .before .before .before .before .before .args .held .now) (c .before .before .before .before .before .before .before .before .before .before .before .before .before .before .before .args .flight .now) (c .before .before .before .before .before .before .before .before .before .before .before .before .before .before .before .args .answers .now) _ _ true (c .before .before .before .before .before .before .before .before .before .before .before .before .before .before .before .pre .0) (ready _ (switch-stays (Given (c .before .before .before .before .before .before .before .before .before .before .before .before .before .before .before)) (inside (c .before .before .before .before .before .before .before .before .before .before .before .before .before .before .before)) _ _ true)))),
+  (told-by (c .before .before .before .before .before .before .before .before .before .before .before .before .before .before .before .args .bench) _ (c .switch-result .ensures) (switch-told (c .before .before .before .before .before .before .before .before .before .before .before .before .before .before .before .args .bench) (c .before .before .before .before .before .before .before .before .before .before .before .before .before .before .before .args .costs .now) (c .before .before .before .before .before .before .before .before .before .before .before .before .before .before .before .args .sent .now) (c .before .before .before .before .before .before .before .before .before .before .before .before .before .before .before .args .held .now) (c .before .before .before .before .before .before .before .before .before .before .before .before .before .before .before .args .flight .now) (c .before .before .before .before .before .before .before .before .before .before .before .before .before .before .before .args .answers .now) _ _ true (c .before .before .before .before .before .before .before .before .before .before .before .before .before .before .before .pre .0) _), c .before .before .before .before .before .before .before .before .before .before .before .before .before .before .before .pre .1 .1),
 )
 
 returns-8 : tie.Need-returns-8
 returns-8 c = (
-  room-leaves _ _ _ (c .before .before .before .before .before .before .before .before .before .before .before .before .before .before .before .pre .0) (typed (c .before .before .before .before .before .before .before .before .before .before .before .before .before .before .before)) (roomy (c .before .before .before .before)) (leaves-by (Given (c .before .before .before .before .before .before .before .before .before .before .before .before .before .before .before)) _ (c .before .before .event7 .given .1) (c .restore-result .ensures) (restore-leaves (c .before .before .before .before .before .before .before .before .before .before .before .before .before .before .before .args .bench) (c .before .before .before .before .before .before .before .before .before .before .before .before .before .before .before .args .costs .now) (c .before .before .before .before .before .before .before .before .before .before .before .before .before .before .before .args .sent .now) (c .before .before .before .before .before .before .before .before .before .before .before .before .before .before .before .args .held .now) (c .before .before .before .before .before .before .before .before .before .before .before .before .before .before .before .args .flight .now) (c .before .before .before .before .before .before .before .before .before .before .before .before .before .before .before .args .answers .now) _ (c .before .before .before .before .before .before .before .before .before .before .before .before .before .before .before .pre .0) (ready _ (restore-stays (Given (c .before .before .before .before .before .before .before .before .before .before .before .before .before .before .before)) (inside (c .before .before .before .before .before .before .before .before .before .before .before .before .before .before .before)) _)))),
-  (told-by (c .before .before .before .before .before .before .before .before .before .before .before .before .before .before .before .args .bench) _ (c .restore-result .ensures) (restore-told (c .before .before .before .before .before .before .before .before .before .before .before .before .before .before .before .args .bench) (c .before .before .before .before .before .before .before .before .before .before .before .before .before .before .before .args .costs .now) (c .before .before .before .before .before .before .before .before .before .before .before .before .before .before .before .args .sent .now) (c .before .before .before .before .before .before .before .before .before .before .before .before .before .before .before .args .held .now) (c .before .before .before .before .before .before .before .before .before .before .before .before .before .before .before .args .flight .now) (c .before .before .before .before .before .before .before .before .before .before .before .before .before .before .before .args .answers .now) _ (c .before .before .before .before .before .before .before .before .before .before .before .before .before .before .before .pre .0) _), c .before .before .before .before .before .before .before .before .before .before .before .before .before .before .before .pre .1 .1),
+  room-leaves _ _ _ (c .before .before .before .before .before .before .before .before .before .before .before .before .before .before .before .pre .0) (typed (c .before .before .before .before .before .before .before .before .before .before .before .before .before .before .before)) (roomy (c .before .before .before .before)) (leaves-by (Given (c .before .before .before .before .before .before .before .before .before .before .before .before .before .before .before)) _ (c .before .before .event7 .given .1) (c .switch-result2 .ensures) (switch-leaves (c .before .before .before .before .before .before .before .before .before .before .before .before .before .before .before .args .bench) (c .before .before .before .before .before .before .before .before .before .before .before .before .before .before .before .args .costs .now) (c .before .before .before .before .before .before .before .before .before .before .before .before .before .before .before .args .sent .now) (c .before .before .before .before .before .before .before .before .before .before .before .before .before .before .before .args .held .now) (c .before .before .before .before .before .before .before .before .before .before .before .before .before .before .before .args .flight .now) (c .before .before .before .before .before .before .before .before .before .before .before .before .before .before .before .args .answers .now) _ _ false (c .before .before .before .before .before .before .before .before .before .before .before .before .before .before .before .pre .0) (ready _ (switch-stays (Given (c .before .before .before .before .before .before .before .before .before .before .before .before .before .before .before)) (inside (c .before .before .before .before .before .before .before .before .before .before .before .before .before .before .before)) _ _ false)))),
+  (told-by (c .before .before .before .before .before .before .before .before .before .before .before .before .before .before .before .args .bench) _ (c .switch-result2 .ensures) (switch-told (c .before .before .before .before .before .before .before .before .before .before .before .before .before .before .before .args .bench) (c .before .before .before .before .before .before .before .before .before .before .before .before .before .before .before .args .costs .now) (c .before .before .before .before .before .before .before .before .before .before .before .before .before .before .before .args .sent .now) (c .before .before .before .before .before .before .before .before .before .before .before .before .before .before .before .args .held .now) (c .before .before .before .before .before .before .before .before .before .before .before .before .before .before .before .args .flight .now) (c .before .before .before .before .before .before .before .before .before .before .before .before .before .before .before .args .answers .now) _ _ false (c .before .before .before .before .before .before .before .before .before .before .before .before .before .before .before .pre .0) _), c .before .before .before .before .before .before .before .before .before .before .before .before .before .before .before .pre .1 .1),
 )
 
 same-length-17 : tie.Need-same-length-17
@@ -346,11 +352,13 @@ carry-out-spec =
     lose-ready-requires
     queue-result-requires-2
     enum-known-event-6
-    cast-cut-result
-    cut-result-requires
+    cast-switch-result
+    cast-switch-result-2
+    switch-result-requires
     enum-known-event-7
-    cast-restore-result
-    restore-result-requires
+    cast-switch-result-3
+    cast-switch-result-4
+    switch-result-requires-2
     enum-known-event-8
     cast-d
     answer-report-requires

@@ -48,7 +48,7 @@ taken c =
     c .receive-at .ensures .0 (c .before .before .before .before .before .before .before .before .before .before .before .before .before .before .before .before .before .before .before .before .before .before .before .args .bench) (stands-in (c .before .before .before .before .before .before .before .before .before .before .before .before .before .before .before .before .before .before .before .before .before .before .before .args .bench) _ (c .before .before .before .before .before .before .before .before .before .before .before .before .before .before .before .before .before .before .before .before .before .before .before .args .old) _ (c .before .before .before .before .before .before .before .arrival-state .ensures) (c .before .before .before .before .before .before .before .before .before .before .before .before .before .before .before .before .before .before .before .before .before .before .before .pre .1 .1 (there (c .before .before .before .before .before .before .before .before .before .before .before .before .before)))) refl (c .before .before .before .before .before .before .before .before .before .before .before .before .before .before .before .before .before .before .before .before .before .before .before .pre .0) (there (c .before .before .before .before .before .before .before .before .before .before .before .before .before))
 
 deliver-refusal-requires : tie.Need-deliver-refusal-requires
-deliver-refusal-requires c κs = let h = told (Given (c .before .before .before .before .before .before .before .before)) (c .before .before .before .before .before .before .before .before .pre .0) in ((h .count, h .messagesLong), λ low. omega (arith, few (c .before .before .before .before .before .before .before .before .args .bench) (c .before .before .before .before .before .before .before .before .args .costs .now) (h .lasting), message-told _ _ _ (h .message (c .before .before .before .before .before .before .before .before .args .place) low) .link))
+deliver-refusal-requires c κs = let h = told (Given (c .before .before .before .before .before .before .before .before)) (c .before .before .before .before .before .before .before .before .pre .0) in (h .count, h .messagesLong, λ low. let m = message-told _ _ _ (h .message (c .before .before .before .before .before .before .before .before .args .place) low) in (omega (arith, few (c .before .before .before .before .before .before .before .before .args .bench) (c .before .before .before .before .before .before .before .before .args .costs .now) (h .lasting), m .link), m .direction))
 
 same-length : tie.Need-same-length
 same-length c = refl

@@ -136,7 +136,7 @@ shared-slice-read-choice-with-2 : tie.Need-shared-slice-read-choice-with-2 Inv-l
 shared-slice-read-choice-with-2 c = distance-there (own-low (c .before .before .before .before .before .before .before .before .before .before .before .before .before .before .before)) (other-low (c .before .before .before)) (dest-low (c .before .before .before .before .before .before .before .before .before .before .before .before .before .before .before)) (c .before .before .before .before .before .before .before .before .before .before .before .before .before .before .before .pre .1 .0 .2)
 
 element-copy-out-choice-with : tie.Need-element-copy-out-choice-with Inv-loop μ-loop
-element-copy-out-choice-with c = link-low (low (c .before .before .before .before))
+element-copy-out-choice-with c = low (c .before .before .before .before)
 
 mul-choice-with-6 : tie.Need-mul-choice-with-6 Inv-loop μ-loop
 mul-choice-with-6 c = record-fits (low (c .before .before .before .before .before))

@@ -1,91 +1,68 @@
 -- `refusals::send_refusal` meets its contract. Each return cites the tests that led to it. Assumes nothing.
-use mathlib.Core.Path.{sym, _∙_}
+use native.Mathlib.Omega.{arith}
+use mathlib.Core.Path.{_≡_, sym, _∙_}
 use borrow.Author.Needs.{needs}
-use borrow.Author.Tests.{lt-ltb, le-ltb, le-leb, lt-leb}
+use lib.ListN.{length}
+use Rattle.distances.specs.View.{graphOf}
+use borrow.Author.Tests.{le-leb, lt-leb}
 use Rattle.distances.proofs.Refusals.{First.none, First.here, First.next, first}
-use Rattle.protocol.specs.Calls.{refuse, checks, noSuchBridge, noSuchLink, notOnLink, linkCut, noRoom}
-use Rattle.bench.proofs.EntryChecks.{neither}
+use Rattle.protocol.specs.Calls.{refuse, checks, endDown, noRoom}
+use Rattle.protocol.proofs.Links.{endOf-below}
+use Rattle.bench.proofs.ChoiceReads.{end-low}
+use Rattle.bench.proofs.EntryOutcomes.{first-refused, first-passed}
 use Rattle.bench.proofs.TieQueue.{messages-length}
 use Rattle.bench.proofs.refusals.send_refusal.Statement.{statement}
 use Rattle.bench.proofs.refusals.send_refusal.Tie as tie
 
+-- as many ends as the type says
+placed : (s : tie.Start) → length (s .args .t4) ≡ 64
+placed s = search needs
+
+end-refusal-requires : tie.Need-end-refusal-requires
+end-refusal-requires c κs = c .pre
+
 returns : tie.Need-returns
-unfolding refuse checks noSuchBridge
-returns c = λ b bridges links count places cut. rw (bridges, links, count, places, cut) (first (here (rw (le-ltb _ _ (c .if1 .taken)))))
+unfolding refuse checks
+returns c = λ b bridges links count places down. first-refused _ _ _ (c .before .end-refusal .ensures .0 b bridges links places _) (c .if1 .taken)
+
+slice-aggregate-end-of : tie.Need-slice-aggregate-end-of
+slice-aggregate-end-of c = search needs
+
+end-of-requires : tie.Need-end-of-requires
+end-of-requires c κs = (omega (arith, c .before .before .end-refusal .ensures .1 (c .before .if1 .left), c .before .before .before .pre), omega (arith, c .before .before .end-refusal .ensures .1 (c .before .if1 .left), c .before .before .before .pre, placed (c .before .before .before)))
+
+array-read-if2 : tie.Need-array-read-if2
+array-read-if2 c = end-low (rw (c .end-of .ensures 0 0) (endOf-below (graphOf 0 0 (c .before .before .before .before .args .t4)) (c .before .before .before .before .args .bridge) (c .before .before .before .before .args .link) (c .before .before .before .before .args .links) (c .before .before .before .end-refusal .ensures .1 (c .before .before .if1 .left)))) (c .before .before .before .before .pre)
 
 returns-2 : tie.Need-returns-2
-unfolding refuse checks noSuchBridge noSuchLink
-returns-2 c = λ b bridges links count places cut. rw (bridges, links, count, places, cut) (first (next (rw (lt-ltb _ _ (c .before .if1 .left))) (here (rw (le-ltb _ _ (c .if2 .taken))))))
-
-mul-first : tie.Need-mul-first
-mul-first c = search needs
-
-array-read-near : tie.Need-array-read-near
-array-read-near c = search needs
-
-cast-near : tie.Need-cast-near
-cast-near c = search needs
-
-add-far : tie.Need-add-far
-add-far c = search needs
-
-array-read-far : tie.Need-array-read-far
-array-read-far c = search needs
-
-cast-far : tie.Need-cast-far
-cast-far c = search needs
-
-both-requires : tie.Need-both-requires
-both-requires c κs = tt
+unfolding refuse checks endDown
+returns-2 c = λ b bridges links count places down.
+    first-passed _ _ _ (c .before .before .before .before .end-refusal .ensures .0 b bridges links places _) (c .before .before .before .if1 .left)
+    (rw (bridges, links, places, down) (first (here (rw (c .before .end-of .ensures (c .before .before .before .before .before .args .bridges) (c .before .before .before .before .before .args .links)) at (c .if2 .taken)))))
 
 returns-3 : tie.Need-returns-3
-unfolding refuse checks noSuchBridge noSuchLink notOnLink
-returns-3 c = λ b bridges links count places cut. rw (bridges, links, count, places, cut) (first
-    (next (rw (lt-ltb _ _ (c .before .before .before .if1 .left)))
-    (next (rw (lt-ltb _ _ (c .before .before .if2 .left)))
-    (here (rw neither (sym (c .before .both .ensures) ∙ c .if3 .taken))))))
-
-array-read-if4 : tie.Need-array-read-if4
-array-read-if4 c = search needs
+unfolding refuse checks endDown noRoom
+returns-3 c = λ b bridges links count places down.
+    first-passed _ _ _ (c .before .before .before .before .before .end-refusal .ensures .0 b bridges links places _) (c .before .before .before .before .if1 .left)
+    (rw (bridges, links, places, down, count)
+    (first (next (rw (c .before .before .end-of .ensures (c .before .before .before .before .before .before .args .bridges) (c .before .before .before .before .before .before .args .links)) at (c .before .if2 .left)) (here (rw (messages-length, le-leb 64 _ (c .if3 .taken)))))))
 
 returns-4 : tie.Need-returns-4
-unfolding refuse checks noSuchBridge noSuchLink notOnLink linkCut
-returns-4 c = λ b bridges links count places cut. rw (bridges, links, count, places, cut) (first
-    (next (rw (lt-ltb _ _ (c .before .before .before .before .if1 .left)))
-    (next (rw (lt-ltb _ _ (c .before .before .before .if2 .left)))
-    (next (rw neither (sym (c .before .before .both .ensures) ∙ c .before .if3 .left)) (here (c .if4 .taken))))))
-
-returns-5 : tie.Need-returns-5
-unfolding refuse checks noSuchBridge noSuchLink notOnLink linkCut noRoom
-returns-5 c = λ b bridges links count places cut. rw (bridges, links, count, places, cut) (first
-    (next (rw (lt-ltb _ _ (c .before .before .before .before .before .if1 .left)))
-    (next (rw (lt-ltb _ _ (c .before .before .before .before .if2 .left)))
-    (next (rw neither (sym (c .before .before .before .both .ensures) ∙ c .before .before .if3 .left))
-    (next (c .before .if4 .left) (here (rw (messages-length, le-leb 64 _ (c .if5 .taken)))))))))
-
-returns-6 : tie.Need-returns-6
-unfolding refuse checks noSuchBridge noSuchLink notOnLink linkCut noRoom
-returns-6 c = λ b bridges links count places cut. rw (bridges, links, count, places, cut) (first
-    (next (rw (lt-ltb _ _ (c .before .before .before .before .before .if1 .left)))
-    (next (rw (lt-ltb _ _ (c .before .before .before .before .if2 .left)))
-    (next (rw neither (sym (c .before .before .before .both .ensures) ∙ c .before .before .if3 .left))
-    (next (c .before .if4 .left) (next (rw (messages-length, lt-leb 64 _ (c .if5 .left))) none))))))
+unfolding refuse checks endDown noRoom
+returns-4 c = λ b bridges links count places down.
+    first-passed _ _ _ (c .before .before .before .before .before .end-refusal .ensures .0 b bridges links places _) (c .before .before .before .before .if1 .left)
+    (rw (bridges, links, places, down, count)
+    (first (next (rw (c .before .before .end-of .ensures (c .before .before .before .before .before .before .args .bridges) (c .before .before .before .before .before .before .args .links)) at (c .before .if2 .left)) (next (rw (messages-length, lt-leb 64 _ (c .if3 .left))) none))))
 
 pub send-refusal-spec : {M : Type 1} → statement M
 send-refusal-spec =
     tie.close
     (tie.spec
+    end-refusal-requires
     returns
+    slice-aggregate-end-of
+    end-of-requires
+    array-read-if2
     returns-2
-    mul-first
-    array-read-near
-    cast-near
-    add-far
-    array-read-far
-    cast-far
-    both-requires
     returns-3
-    array-read-if4
-    returns-4
-    returns-5
-    returns-6)
+    returns-4)

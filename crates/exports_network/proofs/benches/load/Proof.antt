@@ -26,8 +26,8 @@ part-records-in-end c = search needs
 records-in-requires : tie.Need-records-in-requires
 records-in-requires c κs = search needs
 
-cuts-in-requires : tie.Need-cuts-in-requires
-cuts-in-requires c κs = search needs
+flags-in-requires : tie.Need-flags-in-requires
+flags-in-requires c κs = search needs
 
 shared-slice-read-t12 : tie.Need-shared-slice-read-t12
 shared-slice-read-t12 c = search needs
@@ -55,7 +55,7 @@ cast-t21 c = omega (arith, c .shared-slice-known5 .given 3)
 
 returns : tie.Need-returns
 unfolding benchIn
-returns c = rw (c .before .before .before .before .before .before .before .before .before .ends-in .ensures, c .before .before .before .before .before .before .before .before .views-in .ensures, c .before .before .before .before .before .before .before .agreement-numbers-in .ensures, c .before .before .before .before .before .records-in .ensures, c .before .before .before .before .cuts-in .ensures)
+returns c = rw (c .before .before .before .before .before .before .before .before .before .ends-in .ensures, c .before .before .before .before .before .before .before .before .views-in .ensures, c .before .before .before .before .before .before .before .agreement-numbers-in .ensures, c .before .before .before .before .before .records-in .ensures, c .before .before .before .before .flags-in .ensures)
 
 pub load-spec : {M : Type 1} → statement M
 load-spec =
@@ -68,7 +68,7 @@ load-spec =
     part-records-in-start
     part-records-in-end
     records-in-requires
-    cuts-in-requires
+    flags-in-requires
     shared-slice-read-t12
     cast-t8
     shared-slice-read-t14

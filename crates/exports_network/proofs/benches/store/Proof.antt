@@ -36,10 +36,10 @@ stored-more b xs k l x h same here =
     (λ q other. below-same q k other))
 
 abbrev Inv-loop : tie.InvT-loop
-Inv-loop bench numbers₀ k₀ numbers k = (k ≤ 388) × (length numbers ≡ length numbers₀) × (numbers ≡ rewritten (λ q. ltb q k) (numberAt bench) numbers₀)
+Inv-loop bench numbers₀ k₀ numbers k = (k ≤ 420) × (length numbers ≡ length numbers₀) × (numbers ≡ rewritten (λ q. ltb q k) (numberAt bench) numbers₀)
 
 abbrev μ-loop : tie.MeasureT-loop
-μ-loop bench numbers₀ k₀ numbers k = 388 - k
+μ-loop bench numbers₀ k₀ numbers k = 420 - k
 
 loop-holds : tie.Need-loop-holds Inv-loop μ-loop
 loop-holds c = (omega arith, refl, rewritten-none _ _ _ (λ q. le-ltb q 0 (omega arith)))
@@ -67,7 +67,7 @@ same-length c = c .before .loop .inv .1
 
 returns : tie.Need-returns Inv-loop μ-loop
 unfolding stored
-returns c = let e : c .before .loop .k ≡ 388 = omega arith in rw e at (c .before .loop .inv .2)
+returns c = let e : c .before .loop .k ≡ 420 = omega arith in rw e at (c .before .loop .inv .2)
 
 pub store-spec : {M : Type 1} → statement M
 store-spec =

@@ -28,13 +28,13 @@ unfolding netDeliverReply withValue
 returns-2 c = rw (passed (c .before .before .holds .ensures) (c .before .if1 .left), lt-leb _ _ (c .if2 .taken))
 
 load-requires : tie.Need-load-requires
-load-requires c κs = room 388 _ _ (c .before .before .before .holds .ensures) (c .before .before .if1 .left)
+load-requires c κs = room 420 _ _ (c .before .before .before .holds .ensures) (c .before .before .if1 .left)
 
 deliver-requires : tie.Need-deliver-requires
 deliver-requires c κs = search needs
 
 store-delivery-requires : tie.Need-store-delivery-requires
-store-delivery-requires c κs = ((room 388 _ _ (c .before .before .before .before .before .before .before .before .before .before .before .before .before .before .before .before .holds .ensures) (c .before .before .before .before .before .before .before .before .before .before .before .before .before .before .before .if1 .left), c .before .before .before .before .before .before .before .before .before .before .before .before .before .before .if2 .left), refused-by _ _ _ (c .before .before .before .before .before .before .before .before .deliver .ensures))
+store-delivery-requires c κs = ((room 420 _ _ (c .before .before .before .before .before .before .before .before .before .before .before .before .before .before .before .before .holds .ensures) (c .before .before .before .before .before .before .before .before .before .before .before .before .before .before .before .if1 .left), c .before .before .before .before .before .before .before .before .before .before .before .before .before .before .if2 .left), refused-by _ _ _ (c .before .before .before .before .before .before .before .before .deliver .ensures))
 
 same-length-3 : tie.Need-same-length-3
 same-length-3 c = search needs

@@ -24,7 +24,7 @@ unfolding netPathReply
 returns-2 c = rw (passed (c .before .before .holds .ensures) (c .before .if1 .left), lt-leb _ _ (c .if2 .taken))
 
 load-requires : tie.Need-load-requires
-load-requires c κs = room 388 _ _ (c .before .before .holds .ensures) (c .before .if1 .left)
+load-requires c κs = room 420 _ _ (c .before .before .holds .ensures) (c .before .if1 .left)
 
 path-requires : tie.Need-path-requires
 path-requires c κs = search needs

@@ -22,7 +22,7 @@ unfolding netPortReply
 returns-2 c = rw (passed (c .before .before .holds .ensures) (c .before .if1 .left), lt-leb _ _ (c .if2 .taken))
 
 load-requires : tie.Need-load-requires
-load-requires c κs = room 388 _ _ (c .before .before .holds .ensures) (c .before .if1 .left)
+load-requires c κs = room 420 _ _ (c .before .before .holds .ensures) (c .before .if1 .left)
 
 port-requires : tie.Need-port-requires
 port-requires c κs = search needs

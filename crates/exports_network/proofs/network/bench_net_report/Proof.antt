@@ -19,7 +19,7 @@ unfolding netReportReply
 returns c = rw (failed (c .before .holds .ensures) (c .if1 .taken))
 
 load-requires : tie.Need-load-requires
-load-requires c κs = room 388 _ _ (c .before .holds .ensures) (c .if1 .left)
+load-requires c κs = room 420 _ _ (c .before .holds .ensures) (c .if1 .left)
 
 report-requires : tie.Need-report-requires
 report-requires c κs = search needs

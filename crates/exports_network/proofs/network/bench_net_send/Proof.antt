@@ -19,13 +19,13 @@ unfolding netSendReply
 returns c = rw (failed (c .before .holds .ensures) (c .if1 .taken))
 
 load-requires : tie.Need-load-requires
-load-requires c κs = room 388 _ _ (c .before .before .holds .ensures) (c .before .if1 .left)
+load-requires c κs = room 420 _ _ (c .before .before .holds .ensures) (c .before .if1 .left)
 
 send-requires : tie.Need-send-requires
 send-requires c κs = search needs
 
 store-change-requires : tie.Need-store-change-requires
-store-change-requires c κs = room 388 _ _ (c .before .before .before .before .before .before .before .before .holds .ensures) (c .before .before .before .before .before .before .before .if1 .left)
+store-change-requires c κs = room 420 _ _ (c .before .before .before .before .before .before .before .before .holds .ensures) (c .before .before .before .before .before .before .before .if1 .left)
 
 same-length-2 : tie.Need-same-length-2
 same-length-2 c = search needs

@@ -35,7 +35,7 @@ unfolding sliceDeliverReply netDeliverReply withValue followed
 returns-3 c = rw (le-leb _ _ (c .before .before .before .before .if1 .left), passed (c .before .before .holds .ensures) (c .before .if2 .left), lt-leb _ _ (c .if3 .taken), take-append-drop 320 (c .before .before .before .before .before .before .before .before .before .before .before .args .messages .now))
 
 load-requires : tie.Need-load-requires
-load-requires c κs = room 388 _ _ (c .before .before .before .holds .ensures) (c .before .before .if2 .left)
+load-requires c κs = room 420 _ _ (c .before .before .before .holds .ensures) (c .before .before .if2 .left)
 
 array-of-requires : tie.Need-array-of-requires
 array-of-requires c κs = search needs
@@ -47,7 +47,7 @@ put-array-requires : tie.Need-put-array-requires
 put-array-requires c κs = search needs
 
 store-delivery-requires : tie.Need-store-delivery-requires
-store-delivery-requires c κs = ((room 388 _ _ (c .before .before .before .before .before .before .before .before .before .before .before .before .before .before .before .before .before .before .before .before .before .holds .ensures) (c .before .before .before .before .before .before .before .before .before .before .before .before .before .before .before .before .before .before .before .before .if2 .left), c .before .before .before .before .before .before .before .before .before .before .before .before .before .before .before .before .before .before .before .if3 .left), refused-by _ _ _ (c .before .before .before .before .before .before .before .before .before .before .before .before .deliver .ensures))
+store-delivery-requires c κs = ((room 420 _ _ (c .before .before .before .before .before .before .before .before .before .before .before .before .before .before .before .before .before .before .before .before .before .holds .ensures) (c .before .before .before .before .before .before .before .before .before .before .before .before .before .before .before .before .before .before .before .before .if2 .left), c .before .before .before .before .before .before .before .before .before .before .before .before .before .before .before .before .before .before .before .if3 .left), refused-by _ _ _ (c .before .before .before .before .before .before .before .before .before .before .before .before .deliver .ensures))
 
 same-length-3 : tie.Need-same-length-3
 same-length-3 c = search needs

@@ -35,7 +35,7 @@ unfolding sliceRepeatReply netRepeatReply withValue followed
 returns-3 c = rw (le-leb _ _ (c .before .before .before .before .if1 .left), passed (c .before .before .holds .ensures) (c .before .if2 .left), lt-leb _ _ (c .if3 .taken), take-append-drop 320 (c .before .before .before .before .before .before .before .before .before .before .before .args .messages .now))
 
 load-requires : tie.Need-load-requires
-load-requires c κs = room 388 _ _ (c .before .before .before .holds .ensures) (c .before .before .if2 .left)
+load-requires c κs = room 420 _ _ (c .before .before .before .holds .ensures) (c .before .before .if2 .left)
 
 array-of-requires : tie.Need-array-of-requires
 array-of-requires c κs = search needs
@@ -44,7 +44,7 @@ repeat-requires : tie.Need-repeat-requires
 repeat-requires c κs = search needs
 
 store-delivery-requires : tie.Need-store-delivery-requires
-store-delivery-requires c κs = ((room 388 _ _ (c .before .before .before .before .before .before .before .before .before .before .before .before .before .before .holds .ensures) (c .before .before .before .before .before .before .before .before .before .before .before .before .before .if2 .left), c .before .before .before .before .before .before .before .before .before .before .before .before .if3 .left), refused-by _ _ _ (c .before .before .before .before .before .before .repeat .ensures))
+store-delivery-requires c κs = ((room 420 _ _ (c .before .before .before .before .before .before .before .before .before .before .before .before .before .before .holds .ensures) (c .before .before .before .before .before .before .before .before .before .before .before .before .before .if2 .left), c .before .before .before .before .before .before .before .before .before .before .before .before .if3 .left), refused-by _ _ _ (c .before .before .before .before .before .before .repeat .ensures))
 
 same-length-3 : tie.Need-same-length-3
 same-length-3 c = search needs

@@ -27,7 +27,7 @@ unfolding sliceSendReply netSendReply followed
 returns-2 c = rw (le-leb _ _ (c .before .before .before .if1 .left), failed (c .before .holds .ensures) (c .if2 .taken), take-append-drop 320 (c .before .before .before .before .before .before .args .messages .now))
 
 load-requires : tie.Need-load-requires
-load-requires c κs = room 388 _ _ (c .before .before .holds .ensures) (c .before .if2 .left)
+load-requires c κs = room 420 _ _ (c .before .before .holds .ensures) (c .before .if2 .left)
 
 array-of-requires : tie.Need-array-of-requires
 array-of-requires c κs = search needs
@@ -39,7 +39,7 @@ put-array-requires : tie.Need-put-array-requires
 put-array-requires c κs = search needs
 
 store-change-requires : tie.Need-store-change-requires
-store-change-requires c κs = room 388 _ _ (c .before .before .before .before .before .before .before .before .before .before .before .before .before .holds .ensures) (c .before .before .before .before .before .before .before .before .before .before .before .before .if2 .left)
+store-change-requires c κs = room 420 _ _ (c .before .before .before .before .before .before .before .before .before .before .before .before .before .holds .ensures) (c .before .before .before .before .before .before .before .before .before .before .before .before .if2 .left)
 
 same-length-2 : tie.Need-same-length-2
 same-length-2 c = search needs

@@ -1,5 +1,5 @@
 -- The forwarding choice of a bridge for a destination, made of its ends one after another, the lowest first (document 01,
--- "Forwarding"), and the claim that it is the forwarding port. A choice has the bridge's distance in its view; whether some end
+-- "Forwarding"; document 02, Change 1), and the claim that it is the forwarding port. A choice has the bridge's distance in its view; whether some end
 -- reaches it ("whose cost plus far bridge's distance equals Y's distance"), and the link of the first; whether that link may be used;
 -- and whether all else allows the bridge to forward. Assumes nothing.
 use Prim.Native.Nat.{ℕ, zero, suc, _+_, _*_}
@@ -8,7 +8,7 @@ use mathlib.Core.Bool.{Bool, false, cond, _&&_, _||_, not}
 use lib.Dec.{eqb, leb, ltb}
 use Rattle.distances.specs.View.{Graph, Costs, NONE, maxCost}
 use Rattle.agreement.specs.Offer.{linkOf, farBridge}
-use Rattle.agreement.specs.Forwarding.{Records, port}
+use Rattle.agreement.specs.Forwarding.{Records, isDown, port}
 use Rattle.agreement.specs.Call.{Response, says, refused}
 use Rattle.agreement.specs.declared.Port.{Port}
 use Rattle.agreement.specs.declared.Port.the-variants.{Closed, Open}
@@ -31,7 +31,7 @@ becomesChosen old cost far = not (old .found) && reachesDistance old cost far
 -- with one end more of the bridge: its link, the link's cost and the far bridge's distance in the bridge's view, whether the link is down
 -- at the bridge's end, whether a view is held from the neighbour, and the sent and held limits for the destination.
 -- "the link is not cut; its held limit is at most Y's distance", of the chosen one;
--- "and Y's distance is below the sent limit of every uncut link of Y". Its own end governs
+-- "and Y's distance is below the sent limit of every uncut link of Y"; uncut is up at the bridge's own end
 unfoldable pub nextChoice : Choice → ℕ → ℕ → ℕ → Bool → Bool → ℕ → ℕ → Choice
 nextChoice old link cost far down holding sent held =
     record {
@@ -61,7 +61,7 @@ choiceOutcome c = cond (ltb (c .link) 32) (says (portBy c)) refused
 -- the choice with end e of a bridge
 unfoldable pub choiceWith : Graph → Costs → (ℕ → ℕ → ℕ) → Records → ℕ → ℕ → Choice → Choice
 choiceWith g c f r d e old =
-    nextChoice old (linkOf e) (c (linkOf e)) (f (farBridge g e) d) (r .down e) (r .ends e .holding) (r .sent e d) (r .held e d)
+    nextChoice old (linkOf e) (c (linkOf e)) (f (farBridge g e) d) (isDown r e) (r .ends e .holding) (r .sent e d) (r .held e d)
 
 -- the choice of bridge y for destination d by its ends below n: f are the distances and c the costs of y's view
 unfoldable pub choiceBelow : Graph → Costs → (ℕ → ℕ → ℕ) → Records → ℕ → ℕ → ℕ → Choice

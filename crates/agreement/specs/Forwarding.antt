@@ -1,4 +1,4 @@
--- The chosen link of a bridge and whether the bridge forwards on it (document 01, "Forwarding"). The bridge is y, the destination d,
+-- The chosen link of a bridge and whether the bridge forwards on it (document 01, "Forwarding"; document 02, Change 1). The bridge is y, the destination d,
 -- f the distances and c the costs of y's view. An end at y stands for its link: the lowest end is on the lowest-numbered link.
 -- Assumes nothing.
 use Prim.Native.Nat.{ℕ, _+_, _*_}
@@ -24,12 +24,18 @@ pub record Records : Type 0 where
   pub sent : ℕ → ℕ → ℕ
   pub held : ℕ → ℕ → ℕ
 
--- a link is up, or down, at end e (document 02, Change 1: "Each end sees its own cut")
+-- a link is down, or up, at end e ("Each end sees its own cut")
+abbrev pub isDown : Records → ℕ → Bool
+isDown r e = r .down e
+
+unfoldable pub isUp : Records → ℕ → Bool
+isUp r e = not (isDown r e)
+
 abbrev pub UpAt : Records → ℕ → Type 0
-UpAt r e = r .down e ≡ false
+UpAt r e = isDown r e ≡ false
 
 abbrev pub DownAt : Records → ℕ → Type 0
-DownAt r e = r .down e ≡ true
+DownAt r e = isDown r e ≡ true
 
 -- the bridge has end e; its link is present, and its cost plus the far bridge's distance equals the bridge's distance
 unfoldable pub reaches : Graph → Costs → (ℕ → ℕ → ℕ) → ℕ → ℕ → ℕ → Bool
@@ -45,10 +51,6 @@ isNotDestination y d = not (eqb y d)
 
 unfoldable pub hasPath : (ℕ → ℕ → ℕ) → ℕ → ℕ → Bool
 hasPath f y d = not (eqb (f y d) NONE)
-
--- up at end e, as a test
-unfoldable pub isUp : Records → ℕ → Bool
-isUp r e = not (r .down e)
 
 unfoldable pub heldSuffices : (ℕ → ℕ → ℕ) → Records → ℕ → ℕ → ℕ → Bool
 heldSuffices f r y d e = leb (heldLimit (r .ends e) (r .held e) d) (f y d)

@@ -15,7 +15,7 @@ use Rattle.agreement.specs.Record.{answerNumbers}
 use Rattle.agreement.specs.declared.Answer.{Answer}
 use Rattle.agreement.specs.declared.Answer.the-variants.{Stale, Agreed, Noted}
 use Rattle.bench.specs.declared.Event.{Event}
-use Rattle.bench.specs.declared.Event.the-variants.{Update, Send, Deliver, Repeat, Lose, Cut, Restore, Report, Path}
+use Rattle.bench.specs.declared.Event.the-variants.{Update, Send, Deliver, Repeat, Lose, Report, Path}
 use Rattle.protocol.specs.Calls as calls
 use Rattle.protocol.specs.Calls.{refuse}
 use Rattle.protocol.specs.Paths as paths
@@ -33,11 +33,11 @@ use Rattle.bench.specs.Private.Answers.{reported, hopIn, pathOf}
 use Rattle.bench.specs.Contracts.{pathNumbers}
 use Rattle.bench.specs.Batches.{callOf, replyOf, answerSize, Batch, batch, eventBatchIn}
 use Rattle.bench.specs.Private.ListSteps.{stepBy, valueNumbers, answersBy, eventOnLists}
-use Rattle.bench.specs.Private.Effects.{queueChangeNumber, queueChangeBench, queueChangeEffect, receptionResponse, receptionBench, receptionEffect, ReceptionFits, updatingTo, updatingNumber, updatingEffect, UpdatingFits, stateOf, appliedTo, CanApply, eventResult}
+use Rattle.bench.specs.Private.Effects.{queueChangeNumber, queueChangeBench, queueChangeEffect, receptionResponse, receptionBench, receptionEffect, ReceptionFits, updatingTo, updatingNumber, updatingEffect, UpdatingFits, switchingNumber, switchingEffect, SwitchingFits, stateOf, appliedTo, CanApply, eventResult}
 use Rattle.bench.specs.Private.Steps.{ReportsTo, BatchLeft}
 use Rattle.bench.specs.declared.Bench.{Bench}
 use Rattle.bench.specs.declared.effects.EventResult.{EventResult}
-use Rattle.bench.specs.declared.effects.Effect.{Effect}
+use Rattle.bench.specs.declared.effects.Switching.{Switching}
 use Rattle.bench.specs.declared.effects.Effect.the-variants.{Same}
 use Rattle.bench.specs.declared.effects.Effect.the-variants.{End as EndFlag}
 use Rattle.bench.specs.declared.effects.QueueChange.{QueueChange}
@@ -85,12 +85,10 @@ flag-told k e down b known low = go (eqb k 0) refl
     go true q = low (eqb-true k 0 q)
     go false q = tt
 
--- an event that is refused by the number k, and one that is not, whatever would become of the bench
-pub refused-result : {k j : ℕ} (effect : Effect) → k ≡ j → (k ≡ 0 → ⊥) → eventResult k 0 Same ≡ eventResult j 0 effect
-refused-result {k} effect same some = rw (← same, ne-eqb k 0 some)
-
-pub done-result : {j : ℕ} {effect other : Effect} → j ≡ 0 → effect ≡ other → eventResult 0 0 effect ≡ eventResult j 0 other
-done-result none same = rw (none, same)
+-- what becomes of the bench by a cut or a restore at the bridge's own end, by its number
+switched : (w : Switching) (own j : ℕ) (down : Bool) → switchingNumber w ≡ j → SwitchingFits w own → cond (eqb j 0) (EndFlag own down) Same ≡ cond (eqb (switchingNumber w) 0) (switchingEffect w down) Same
+switched (Switching.Refused k) own j down number fits = rw (← number, ne-eqb k 0 (λ z. omega arith))
+switched (Switching.End e) own j down number fits = rw (← number, fits)
 
 -- nothing becomes of the bench, whether the event is refused or not
 same-either : (t : Bool) (z : State) → appliedTo (cond t Same Same) z ≡ z
@@ -299,19 +297,23 @@ module _ (b : Bench) (costs sent held m answers : List ℕ) where
     switch-call true = refl
     switch-call false = refl
 
-    pub switch-leaves :
-        stateInRange (stepBy Whole (callOf (switchEvent down y l))) ≡ true →
-        BatchLeft (eventOnLists Whole (switchEvent down y l)) answers (cond (eqb switchNumber 0) 1 0) (cond (eqb switchNumber 0) Complete (Refused switchNumber))
-        (appliedTo (cond (eqb switchNumber 0) (EndFlag (ownEnd b y l) down) Same) Whole) (cond (eqb switchNumber 0) 0 0) answers
-    switch-leaves ok =
-        renumbered 0 (switch-flagged .0) (switch-flagged .1)
-        (quiet Whole (switchEvent down y l) (switchOf b y l down .reply) _ answers (switch-silent down) (switch-reply Whole ready y l down)
-        (ap (stepBy Whole) (switch-call down) ∙ switch-step Whole y l down) (λ some. ap (stepBy Whole) (switch-call down) ∙ switch-kept Whole y l down some) ok)
+    module _ (w : Switching) (number : switchingNumber w ≡ switchNumber) (fits : SwitchingFits w (ownEnd b y l)) where
+      pub switch-leaves :
+          stateInRange (stepBy Whole (callOf (switchEvent down y l))) ≡ true →
+          let k = switchingNumber w in
+          BatchLeft (eventOnLists Whole (switchEvent down y l)) answers (cond (eqb k 0) 1 0) (cond (eqb k 0) Complete (Refused k))
+          (appliedTo (cond (eqb k 0) (switchingEffect w down) Same) Whole) (cond (eqb k 0) 0 0) answers
+      switch-leaves ok =
+          rw (← switched w (ownEnd b y l) switchNumber down number fits, number)
+          (renumbered 0 (switch-flagged .0) (switch-flagged .1)
+          (quiet Whole (switchEvent down y l) (switchOf b y l down .reply) _ answers (switch-silent down) (switch-reply Whole ready y l down)
+          (ap (stepBy Whole) (switch-call down) ∙ switch-step Whole y l down) (λ some. ap (stepBy Whole) (switch-call down) ∙ switch-kept Whole y l down some) ok))
 
-    pub switch-told : (known : List Bool) → CanApply (cond (eqb switchNumber 0) (EndFlag (ownEnd b y l) down) Same) b known
-    switch-told known =
-        flag-told switchNumber (ownEnd b y l) down b known
-        (λ none. omega (arith, switch-end y l b [] down none, few b costs (told Whole ready .lasting)))
+      pub switch-told : (known : List Bool) → CanApply (cond (eqb (switchingNumber w) 0) (switchingEffect w down) Same) b known
+      switch-told known =
+          rw (← switched w (ownEnd b y l) switchNumber down number fits)
+          (flag-told switchNumber (ownEnd b y l) down b known
+          (λ none. omega (arith, switch-end y l b [] down none, few b costs (told Whole ready .lasting))))
 
   queued :
       (e : Event) (q : QueueChange) (m' : List ℕ) →

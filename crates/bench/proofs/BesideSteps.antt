@@ -11,7 +11,7 @@ use Rattle.agreement.specs.Offer.{opposite}
 use Rattle.agreement.specs.Record.{freshRecord}
 use Rattle.agreement.specs.declared.EndRecord.{EndRecord}
 use Rattle.protocol.specs.Net.{Message, sender}
-use Rattle.protocol.specs.Calls.{Call, Change, change, update, cut, restore, send, deliver, repeat, lose, port, report, path, refuse, checks, changeChecks, accepted, step, messageOf}
+use Rattle.protocol.specs.Calls.{Call, Change, change, update, cut, restore, send, deliver, repeat, lose, port, report, path, refuse, checks, accepted, step, messageOf}
 use Rattle.bench.specs.State.{State, state, network, messageFrom}
 use Rattle.bench.specs.Private.Views.{networkOf, lentView}
 use Rattle.bench.specs.Ranges.{benchInRange, messagesInRange}

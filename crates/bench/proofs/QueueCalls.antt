@@ -6,19 +6,19 @@ use mathlib.Core.Bool.{Bool, true}
 use mathlib.Core.List.{List, [], _∷_}
 use borrow.Author.Tests.{eq-eqb, ne-eqb, not-false}
 use lib.ListN.{length, getD}
-use Rattle.distances.specs.View.{graphOf}
 use Rattle.distances.proofs.Booleans.{both-true, true-both}
 use Rattle.agreement.specs.Record.{freshRecord}
 use Rattle.agreement.specs.Call.{Response, says, carryOutcome}
 use Rattle.agreement.specs.declared.Agreement.{Agreement}
 use Rattle.agreement.specs.declared.Answer.{Answer}
 use Rattle.protocol.specs.Net.{Network}
-use Rattle.protocol.specs.Calls.{Call, send, deliver, repeat, lose, refuse, accepted, checks, noSuchBridge, noSuchLink, notOnLink, endDown, noRoom, noMessage, endOf, messageOf}
+use Rattle.protocol.specs.Calls.{Call, send, deliver, repeat, lose, refuse, accepted, checks, noSuchBridge, noSuchLink, notOnLink, endDown, noRoom, noMessage, messageOf}
 use Rattle.bench.specs.State.{State, network}
 use Rattle.bench.specs.Private.Views.{networkOf}
 use Rattle.bench.specs.Ranges.{messageInRange}
 use Rattle.bench.specs.Contracts.{refusalOf, orRefused}
 use Rattle.bench.specs.Ranges.{networkInRange}
+use Rattle.bench.specs.Private.Changes.{ownEnd}
 use Rattle.bench.specs.Private.Queue.{withCount, takenOut}
 use Rattle.bench.specs.State.{numbersOf}
 use Rattle.bench.specs.Private.Deliveries.{DeliveryOutcome, deliveryOutcome, received, deliveryRefused, deliverOf, repeatOf}
@@ -68,9 +68,6 @@ unfolding refuse checks
 lose-told b m p none = rw messages-length at (place-listed (networkOf b m) p _ none)
 
 -- ---- send
-
-abbrev ownEnd : Bench → ℕ → ℕ → ℕ
-ownEnd b y l = endOf (graphOf (b .bridges) (b .links) (b .ends)) y l
 
 -- an accepted send: all is listed, and layer 2 does not refuse to carry
 pub record SendFacts (b : Bench) (m : List ℕ) (y l : ℕ) : Type 0 where

@@ -1,10 +1,10 @@
 -- Cut and restore as one call: what turns it down, and what it does. Assumes nothing.
 use Prim.Native.Nat.{ℕ, _*_, _<_}
-use mathlib.Core.Path.{_≡_, refl, sym, _∙_, ap}
+use mathlib.Core.Path.{_≡_, refl, _∙_, ap}
 use mathlib.Core.Bool.{Bool, true, false}
 use mathlib.Core.List.{List, [], _∷_}
 use Rattle.protocol.specs.Net.{Network}
-use Rattle.protocol.specs.Calls.{Check, change, refusal, noSuchBridge, noSuchLink, notOnLink, already, changeChecks, checks, refuse, endOf, withEnd, afterChange}
+use Rattle.protocol.specs.Calls.{change, refusal, noSuchBridge, noSuchLink, notOnLink, already, changeChecks, checks, refuse, endOf, withEnd, afterChange}
 use Rattle.protocol.proofs.Links.{endOf-below}
 use Rattle.bench.specs.State.{State, network}
 use Rattle.bench.specs.Private.Views.{networkOf}

@@ -10,6 +10,7 @@ use crate::effects::Effect;
 use crate::effects::EventResult;
 use crate::effects::QueueChange;
 use crate::effects::Reception;
+use crate::effects::Switching;
 use crate::effects::Updating;
 use crate::messages::deliver_ready;
 use crate::messages::lose_ready;
@@ -35,23 +36,19 @@ ghost use Prim.Native.Nat.{ℕ, _*_, _≤_, _<_};
 ghost use lib.ListN.{length, take, getD};
 ghost use lib.Seq.{sets};
 ghost use Rattle.bench.specs.Ranges.{partsInRange};
-ghost use Rattle.protocol.specs.Calls.{change, refuse};
 ghost use Rattle.bench.specs.Ranges.{stateInRange};
 ghost use Rattle.bench.specs.Private.Answers.{PathFits};
 ghost use Rattle.bench.specs.Contracts.{pathResponse, pathNumbers};
 ghost use Rattle.bench.specs.State.{state};
-ghost use Rattle.bench.specs.Private.Views.{networkOf};
 ghost use Rattle.bench.specs.Batches.{refusalIn, answerSize, eventBatchIn, batchFrom, batchOutcome, batchOutcomeOf, batchOf};
 ghost use Rattle.bench.specs.Private.ListSteps.{valueNumbers};
 ghost use Rattle.bench.specs.Private.Chains.{Chained};
-ghost use Rattle.bench.specs.Private.Changes.{ownEnd, switch};
-ghost use Rattle.bench.specs.Private.Effects.{queueChangeNumber, queueChangeEffect, receptionResponse, receptionEffect, updatingNumber, updatingEffect, eventResult, appliedTo, CanApply, LinkFits, HasRecord};
+ghost use Rattle.bench.specs.Private.Effects.{switchingNumber, switchingEffect, queueChangeNumber, queueChangeEffect, receptionResponse, receptionEffect, updatingNumber, updatingEffect, eventResult, appliedTo, CanApply, LinkFits, HasRecord};
 ghost use Rattle.agreement.specs.Record.{freshRecord, answerNumbers};
 ghost use Rattle.agreement.specs.declared.EndRecord.{EndRecord};
 ghost use Rattle.bench.specs.declared.Bench.{Bench};
 ghost use Rattle.bench.specs.Private.Steps.{Tables, ReportsTo, BatchLeft};
 ghost use Rattle.bench.specs.declared.effects.Effect.the-variants.{Same};
-ghost use Rattle.bench.specs.declared.effects.Effect.the-variants.{End as EndFlag};
 
 // Document 01's number of the event that was refused, 17 where the list itself was, 0 where it ended otherwise.
 pub fn refusal_in(how: Disposition) -> u8
@@ -174,26 +171,13 @@ pub fn answer_size(bridges: u8, event: Event) -> usize
     }
 }
 
-// A cut, by which the bridge's end of the link goes down, or a restore.
-fn switch_result(bench: Bench, bridge: usize, link: usize, down: bool) -> EventResult
-    requires { ⌜ bench .links ≤ 32 ⌝ }
-    ensures { λ r. ⌜ r ≡ eventResult (refuse (networkOf bench []) (change (switch down bridge link))) 0 (EndFlag (ownEnd bench bridge link) down) ⌝ }
+fn switch_result(switching: Switching, down: bool) -> EventResult
+    ensures { λ r. ⌜ r ≡ eventResult (switchingNumber switching) 0 (switchingEffect switching down) ⌝ }
 {
-    let ends = bench.ends;
-    let flags = bench.down;
-    let refusal = refusals::switch_refusal(
-        bench.bridges,
-        bench.links,
-        ends,
-        flags,
-        bridge,
-        link,
-        down,
-    );
-    if refusal != 0 {
-        return event_result(refusal, 0, Effect::Same);
+    match switching {
+        Switching::Refused(number) => event_result(number, 0, Effect::Same),
+        Switching::End(end) => event_result(0, 0, Effect::End(end, down)),
     }
-    event_result(0, 0, Effect::End(queue::end_of(&ends, bridge, link), down))
 }
 
 // The end whose record an event looks at: the sender's, or the one where its message arrives. The others look at none, and get 0.
@@ -270,8 +254,16 @@ fn carry_out(
             answer_delivery(done, bench.messages, answers)
         }
         Event::Lose(place) => queue_result(lose_ready(bench, flight, place as usize)),
-        Event::Cut(bridge, link) => switch_result(bench, bridge as usize, link as usize, true),
-        Event::Restore(bridge, link) => switch_result(bench, bridge as usize, link as usize, false),
+        Event::Cut(bridge, link) => {
+            let y = bridge as usize;
+            let l = link as usize;
+            switch_result(changes::switch_ready(bench, y, l, true), true)
+        }
+        Event::Restore(bridge, link) => {
+            let y = bridge as usize;
+            let l = link as usize;
+            switch_result(changes::switch_ready(bench, y, l, false), false)
+        }
         Event::Report(dest) => {
             let d = dest as usize;
             answer_report(bench, costs, tables, known, sent, held, d, answers)

@@ -2,6 +2,7 @@
 use crate::Bench;
 use crate::Changed;
 use crate::Reply;
+use crate::effects::Switching;
 use crate::effects::Updating;
 use crate::initial;
 use crate::queue::end_of;
@@ -17,14 +18,16 @@ use distances::sizes::MOST_VIEWS;
 use distances::sizes::TABLE;
 ghost use mathlib.Core.Path.{_≡_};
 ghost use mathlib.Core.Bool.{true};
-ghost use Prim.Native.Nat.{_<_};
+ghost use Prim.Native.Nat.{_≤_, _<_};
 ghost use Prim.Native.Nat.{ℕ};
-ghost use mathlib.Core.List.{List};
+ghost use mathlib.Core.List.{List, []};
+ghost use Rattle.protocol.specs.Calls.{refuse};
 ghost use Rattle.protocol.specs.Calls as calls;
-ghost use Rattle.bench.specs.Private.Changes.{benchWithEnd, switch, updateOf};
+ghost use Rattle.bench.specs.Private.Views.{networkOf};
+ghost use Rattle.bench.specs.Private.Changes.{benchWithEnd, ownEnd, switch, updateOf};
 ghost use Rattle.bench.specs.Contracts.{doneResponse, outcome, outcomeOf, freshOf};
 ghost use Rattle.bench.specs.Ranges.{networkInRange};
-ghost use Rattle.bench.specs.Private.Effects.{updatingTo, UpdatingFits};
+ghost use Rattle.bench.specs.Private.Effects.{switchingNumber, SwitchingFits, updatingTo, UpdatingFits};
 ghost use Rattle.bench.specs.State.{State, state};
 ghost use Rattle.bench.specs.Private.Steps.{Ready, Tables};
 
@@ -37,13 +40,11 @@ fn with_end(bench: Bench, end: usize, down: bool) -> Bench
     next
 }
 
-// A bridge's end of a link goes down, or up.
-fn switched(bench: Bench, bridge: usize, link: usize, down: bool) -> Changed
-    ensures { λ r. ⌜ ((costs sent held messages : List ℕ) → outcome (doneResponse (r .reply)) (state (r .bench) costs sent held messages) ≡ outcomeOf (state bench costs sent held messages) (calls.change (switch down bridge link)) (λ n. tt)) ⌝ }
+// Whether a cut, by which a bridge's end of a link goes down, or a restore of what is in range is accepted, and then which end it is.
+pub(crate) fn switch_ready(bench: Bench, bridge: usize, link: usize, down: bool) -> Switching
+    requires { ⌜ bench .links ≤ 32 ⌝ }
+    ensures { λ r. ⌜ (switchingNumber r ≡ refuse (networkOf bench []) (calls.change (switch down bridge link))) × SwitchingFits r (ownEnd bench bridge link) ⌝ }
 {
-    if !ready::bench_in_range(bench) {
-        return refused(17, bench);
-    }
     let ends = bench.ends;
     let flags = bench.down;
     let refusal = refusals::switch_refusal(
@@ -56,11 +57,24 @@ fn switched(bench: Bench, bridge: usize, link: usize, down: bool) -> Changed
         down,
     );
     if refusal != 0 {
-        return refused(refusal, bench);
+        return Switching::Refused(refusal);
     }
-    Changed {
-        reply: Reply::Done,
-        bench: with_end(bench, end_of(&ends, bridge, link), down),
+    Switching::End(end_of(&ends, bridge, link))
+}
+
+// A bridge's end of a link goes down, or up.
+fn switched(bench: Bench, bridge: usize, link: usize, down: bool) -> Changed
+    ensures { λ r. ⌜ ((costs sent held messages : List ℕ) → outcome (doneResponse (r .reply)) (state (r .bench) costs sent held messages) ≡ outcomeOf (state bench costs sent held messages) (calls.change (switch down bridge link)) (λ n. tt)) ⌝ }
+{
+    if !ready::bench_in_range(bench) {
+        return refused(17, bench);
+    }
+    match switch_ready(bench, bridge, link, down) {
+        Switching::Refused(number) => refused(number, bench),
+        Switching::End(end) => Changed {
+            reply: Reply::Done,
+            bench: with_end(bench, end, down),
+        },
     }
 }
 

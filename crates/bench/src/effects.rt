@@ -32,6 +32,12 @@ pub(crate) enum Updating {
     Moves,
 }
 
+// A cut or a restore: the end that goes down or up.
+pub(crate) enum Switching {
+    Refused(u8),
+    End(usize),
+}
+
 // One event of a list.
 pub(crate) struct EventResult {
     pub(crate) disposition: Disposition,

@@ -22,7 +22,7 @@ mod tables;
 mod updates;
 
 // Link l joins ends[2 l] and ends[2 l + 1]; `messages` is how many are in flight; `view` and `number` are each bridge's view and agreement
-// number; `records` and `down` are each end's record and whether it is cut.
+// number; `records` and `down` are each end's record and whether it is down.
 pub struct Bench {
     pub bridges: usize,
     pub links: usize,

@@ -1,4 +1,4 @@
-// What turns a call down, by document 01's table, once the ranges are checked: its number, 0 where nothing does. Each takes the numbers that
+// What turns a call down, by document 01's table and document 02's Change 1, once the ranges are checked: its number, 0 where nothing does. Each takes the numbers that
 // it looks at, of a bench that has them.
 use crate::queue::arrival_end;
 use crate::queue::end_of;

@@ -30,8 +30,9 @@ rule-applies claim met =
     let four = reached (at callsE4 .distance 1 0 (omega arith)) (λ e. omega arith) in
     let three = reached (at callsE4 .others 1 2 0 (omega arith)) (λ e. omega arith) in
     let by = at callsE3 .forwards 2 0 1 refl in
-    let crossing = at callsE3 .crosses 2 0 1 1 refl in
+    let crossing = at callsE3 .crosses 0 2 1 1 refl in
     let stop = at callsE4 .paths 2 0 in
+    let dying = at callsOneEnd .paths 2 0 in
     record {
       attained = four .attained;
       least = four .least;
@@ -39,11 +40,12 @@ rule-applies claim met =
       forwards = by;
       opens = at callsE3 .opens 2 0 1 (by .0) (by .1);
       crosses = crossing;
-      crossed = at callsE3 .crossed 2 0 1 1 (crossing .0) (crossing .1);
-      dies = (at callsOneEnd .forwards 1 0 0 refl, λ z e w. stays-crosses 0 z (at callsOneEnd .crossed 1 0 0 z e w));
+      crossed = at callsE3 .crossed 0 2 1 1 (crossing .0) (crossing .1);
+      dies = (at callsOneEnd .forwards 1 0 0 refl, λ z e w. stays-crosses 0 z (at callsOneEnd .crossed 0 1 0 z e w));
       closed = at [] .closed 2 0 (λ l e w. omega (arith, w .allowed .held));
       arrives = at callsE3 .paths 2 0;
       stops = (stop .0, over (stop .2));
+      stopsDying = (dying .0, over-dying (dying .2));
       sent = sym (claim .limits plan callsE6 2 0 .sent);
       held = sym (claim .limits plan callsE6 2 0 .held);
     }
@@ -51,6 +53,10 @@ rule-applies claim met =
     over : (hop (after callsE4) 0 1 ≡ stays) ⊎ (_≡_ {A = ℕ} 1 2) → hop (after callsE4) 0 1 ≡ stays
     over (inl here) = here
     over (inr two) = absurd (omega arith)
+
+    over-dying : (hop (after callsOneEnd) 0 1 ≡ stays) ⊎ (_≡_ {A = ℕ} 1 2) → hop (after callsOneEnd) 0 1 ≡ stays
+    over-dying (inl here) = here
+    over-dying (inr two) = absurd (omega arith)
 
 lists-apply : Demand3 → SettlingCanBeMet → ListsAtExamples
 unfolding computing
@@ -62,6 +68,7 @@ lists-apply claim met =
       short = at callsE7 .pathShort 1 0;
       counted = at callsE7 .pathCounted 1 0;
       ends = at callsE4 .pathEnds 2 0;
+      endsDying = at callsOneEnd .pathEnds 2 0;
       forwards = settled .forwards;
       arrives = settled .arrives;
       shortest = settled .shortest;

@@ -6,7 +6,7 @@ use mathlib.Core.Bool.{Bool, true, false, cond, _&&_, not}
 use native.Mathlib.Omega.{arith}
 use borrow.Author.Tests.{not-true}
 use Rattle.distances.specs.View.{NONE, InRange}
-use Rattle.distances.proofs.Booleans.{both-true, true-both}
+use Rattle.distances.proofs.Booleans.{both-true}
 use Rattle.distances.proofs.Laws.{dist-le-none}
 use Rattle.distances.proofs.Ranges.{side}
 use Rattle.agreement.specs.Offer.{linkOf, opposite}
@@ -17,7 +17,7 @@ use Rattle.agreement.proofs.Ends.{opposite-below, bridge-in-range}
 use Rattle.agreement.proofs.Forwards.{open-forwards}
 use Rattle.protocol.specs.Net.{Network}
 use Rattle.protocol.specs.Demand2.{ForwardsBy, CrossesBy}
-use Rattle.protocol.specs.Ports.{Hop, stays, crosses, ownDistance, forwardingPort, across, isLive, hopBy, hop, Crosses}
+use Rattle.protocol.specs.Ports.{stays, crosses, ownDistance, forwardingPort, across, isLive, hopBy, hop, Crosses}
 use Rattle.protocol.proofs.Invariant.{far}
 use Rattle.protocol.proofs.Links.{across-far}
 
@@ -86,12 +86,11 @@ module _ (n : Network) where
 
   module _ (range : InRange (n .plan .graph)) where
     -- the end by which it crosses, and the bridge that it comes to
-    pub hop-end : (d y l z : ℕ) → Crosses n d y l z → (e : ℕ) × CrossesBy n y d l z e
+    pub hop-end : (d y l z : ℕ) → Crosses n d y l z → (e : ℕ) × CrossesBy n d y l z e
     hop-end d y l z c =
         let crossed = hop-crosses d y l z c in
         let by = port-forwards y d l (crossed .0) in
-        let up = live-ends (n .records) (by .0) (rw (by .1 .link) (crossed .1)) in
-        (
+        let up = live-ends (n .records) (by .0) (rw (by .1 .link) (crossed .1)) in (
           by .0,
           record {
             forwards = by .1;

@@ -62,9 +62,9 @@ module _ (n : Network) (d : ℕ) where
       go (stops b k) w = let same : k ≡ w .0 = omega (arith, w .1) in rw same (w .2, w .3, w .4)
 
 -- a frame crosses where the port forwards and both ends are up
-crossed : (n : Network) → NetworkInRange n → (y d l z e : ℕ) → CrossesBy n y d l z e → Crosses n d y l z
+crossed : (n : Network) → NetworkInRange n → (d y l z e : ℕ) → CrossesBy n d y l z e → Crosses n d y l z
 unfolding forwardingPort
-crossed n ok y d l z e by =
+crossed n ok d y l z e by =
     let range = ok .plan .graph in
     let so = by .forwards in
     let opens = port-follows-rule _ (range .differ) _ _ (n .records) y d .1 l (e, so) in
@@ -79,7 +79,7 @@ by-the-rule n ok =
       opens = λ y d l e w. port-follows-rule _ (ok .plan .graph .differ) _ _ (n .records) y d .1 l (e, w);
       forwards = λ y d. port-follows-rule _ (ok .plan .graph .differ) _ _ (n .records) y d .0;
       closed = λ y d. port-follows-rule _ (ok .plan .graph .differ) _ _ (n .records) y d .2;
-      crosses = λ y d. hop-end n (ok .plan .graph) d y;
+      crosses = hop-end n (ok .plan .graph);
       crossed = crossed n ok;
       paths = λ s d. follows-ports n d s;
     }

@@ -30,14 +30,16 @@ pub record RuleAtExamples : Type 0 where
   pub opens : forwardingPort (after callsE3) 2 0 ≡ Open 1
   -- E3: a frame crosses that link to bridge 1, both its ends being up. Of link 0 bridge 0's end alone is cut: bridge 1 forwards on it, and no frame
   -- crosses it
-  pub crosses : (e : ℕ) × CrossesBy (after callsE3) 2 0 1 1 e
+  pub crosses : (e : ℕ) × CrossesBy (after callsE3) 0 2 1 1 e
   pub crossed : Crosses (after callsE3) 0 2 1 1
-  pub dies : ((e : ℕ) × ForwardsBy (after callsOneEnd) 1 0 0 e) × ((z e : ℕ) → CrossesBy (after callsOneEnd) 1 0 0 z e → ⊥)
+  pub dies : ((e : ℕ) × ForwardsBy (after callsOneEnd) 1 0 0 e) × ((z e : ℕ) → CrossesBy (after callsOneEnd) 0 1 0 z e → ⊥)
   -- E2: fresh, bridge 2 forwards on no link, and so its port is closed
   pub closed : forwardingPort (after []) 2 0 ≡ Closed
   -- E3: the path from 2 goes to bridge 0 by two hops; E4: by one hop to bridge 1, from which no frame crosses a link
   pub arrives : Trail (Crosses (after callsE3) 0) 2 2 0
   pub stops : Trail (Crosses (after callsE4) 0) 2 1 1 × (hop (after callsE4) 0 1 ≡ stays)
+  -- of link 0 bridge 0's end alone is cut: the path from 2 goes by one hop to bridge 1, whose port is open and from which no frame crosses a link
+  pub stopsDying : Trail (Crosses (after callsOneEnd) 0) 2 1 1 × (hop (after callsOneEnd) 0 1 ≡ stays)
   -- E6: bridge 1's sent limit on link 1 is 2, the least of its offers over the views since the last clearing; it holds 4, the far bridge's offer
   -- in the view held
   pub sent : leastOver (λ t. offerIn plan t 2 0) (viewsRun (fresh plan) 2 freshViews callsE6 .since) ≡ 2
@@ -56,6 +58,8 @@ pub record ListsAtExamples : Type 0 where
   pub counted : hops (path (after callsE7) 1 0) ≡ length (linksCrossed (after callsE7) 1 0)
   -- E4: the path from 2 stops at bridge 1, and ends there by itself
   pub ends : hop (after callsE4) 0 1 ≡ stays
+  -- of link 0 bridge 0's end alone is cut: the path from 2 stops at bridge 1, whose frame dies, and ends there by itself
+  pub endsDying : hop (after callsOneEnd) 0 1 ≡ stays
   -- the settling list: bridge 1 forwards for bridge 0, its path is delivered, and the links crossed cost 4 in view 1
   pub forwards : (l : ℕ) × (forwardingPort settledThere 1 0 ≡ Open l)
   pub arrives : (h : ℕ) × (path settledThere 1 0 ≡ delivered h)

@@ -12,7 +12,7 @@ unfoldable pub use Rattle.distances.specs.Refusal.{refusal}
 use Rattle.agreement.specs.Offer.{opposite}
 use Rattle.agreement.specs.Record.{carried, updated, sentUpdated, heldUpdated, answer, recorded, sentDelivered, heldDelivered}
 use Rattle.agreement.specs.Update.{numbersUsedUp, nextNumber}
-use Rattle.agreement.specs.Forwarding.{Records}
+use Rattle.agreement.specs.Forwarding.{Records, isDown}
 use Rattle.agreement.specs.declared.Answer.{Answer}
 use Rattle.agreement.specs.declared.EndRecord.{EndRecord}
 use Rattle.protocol.specs.Net.{Network, Message, receiver, offerIn}
@@ -53,9 +53,9 @@ notOnLink n b l =
 unfoldable pub endOf : Graph → ℕ → ℕ → ℕ
 endOf g b l = cond (eqb (g .bridgeAt (2 * l)) b) (2 * l) (2 * l + 1)
 
--- 13: the link is cut, "looks at the one end concerned"
+-- 13: the end concerned is down
 unfoldable pub endDown : Network → ℕ → Check
-endDown n e = record { when = n .records .down e; number = 13 }
+endDown n e = record { when = isDown (n .records) e; number = 13 }
 
 -- 14: already 64 in flight
 unfoldable pub noRoom : Network → Check
@@ -67,7 +67,7 @@ noMessage n p = record { when = not (ltb p (length (n .messages))); number = 15 
 
 -- 12: the end is already so, down or up
 unfoldable pub already : Network → Bool → ℕ → Check
-already n down e = record { when = cond down (n .records .down e) (not (n .records .down e)); number = 12 }
+already n down e = record { when = cond down (isDown (n .records) e) (not (isDown (n .records) e)); number = 12 }
 
 -- what stands for a message at a place where there is none
 abbrev pub noMessageThere : Message

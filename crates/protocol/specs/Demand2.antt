@@ -28,7 +28,7 @@ abbrev pub ForwardsBy : Network → ℕ → ℕ → ℕ → ℕ → Type 0
 ForwardsBy n y d l e = Forwards (n .plan .graph) (n .plan .costs (n .view y)) (distanceIn (n .plan) (n .view y)) (n .records) y d l e
 
 -- a frame for d crosses link l from y to z: y forwards on l by its end e, "both ends are up", and z is at the other
-pub record CrossesBy (n : Network) (y d l z e : ℕ) : Type 0 where
+pub record CrossesBy (n : Network) (d y l z e : ℕ) : Type 0 where
   pub forwards : ForwardsBy n y d l e
   pub nearUp : UpAt (n .records) e
   pub farUp : UpAt (n .records) (opposite e)
@@ -51,8 +51,8 @@ pub record ByTheRule (n : Network) : Type 0 where
   pub forwards : (y d l : ℕ) → forwardingPort n y d ≡ Open l → (e : ℕ) × ForwardsBy n y d l e
   pub closed : (y d : ℕ) → ((l e : ℕ) → ForwardsBy n y d l e → ⊥) → forwardingPort n y d ≡ Closed
   -- a frame crosses a link if and only if the port forwards on it and both its ends are up
-  pub crosses : (y d l z : ℕ) → Crosses n d y l z → (e : ℕ) × CrossesBy n y d l z e
-  pub crossed : (y d l z e : ℕ) → CrossesBy n y d l z e → Crosses n d y l z
+  pub crosses : (d y l z : ℕ) → Crosses n d y l z → (e : ℕ) × CrossesBy n d y l z e
+  pub crossed : (d y l z e : ℕ) → CrossesBy n d y l z e → Crosses n d y l z
   -- a path goes by these hops
   pub paths : (s d : ℕ) → FollowsPorts n s d (path n s d)
 

@@ -1,5 +1,5 @@
--- Document 01's known examples E1 to E8, and one of document 02's Change 1, one table: what is computed and what the document states.
--- Assumes nothing.
+-- Document 01's known examples E1 to E8, and last a case of ours for the sentences of document 02's Change 1, one table: what is computed and
+-- what the document states. Assumes nothing.
 use Prim.Native.Nat.{ℕ, zero, suc}
 use mathlib.Core.List.{List, [], _∷_, _++_}
 use Rattle.distances.specs.View.{Costs, NONE}
@@ -81,8 +81,9 @@ abbrev pub answered : List Call → ℕ → ℕ
 answered cs p = answerNumber (answerAt (after cs) p)
 
 -- E1 is layer 1's; end 2 is bridge 1's end of link 1. E8: a message over link 1 from end 2 (direction 0), of number 1; its delivery is
--- accepted (0) and stale. The last: "a path also stops at a bridge whose frame dies on the link", at bridge 1, whose port is on link 0 still; its send is refused
--- with 13 where its own end is down, and a delivery where the receiver's is
+-- accepted (0) and stale. The last, ours: bridge 0's end of link 0 alone is down. Bridge 1's port stays on link 0 and the path stops there; bridge 0's send
+-- is refused with 13, bridge 1's is not; a delivery over link 0 is accepted where the sender's end is down, and refused with 13 where the
+-- receiver's is
 abbrev pub allExamples : List Example
 allExamples =
     examples

@@ -1,4 +1,5 @@
--- The network with its views, records, cuts and messages in flight (document 01, "Network and views", "Records of a bridge").
+-- The network with its views, records, ends and messages in flight (document 01, "Network and views", "Records of a bridge"; document 02,
+-- Change 1).
 -- Assumes nothing.
 use Prim.Native.Nat.{ℕ, _+_, _*_, _<_, _≤_}
 use mathlib.Core.Bool.{false}

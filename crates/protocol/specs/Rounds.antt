@@ -1,4 +1,4 @@
--- Rounds within a list of calls (document 01, "Events", last part). A message is named by its place, followed through later calls.
+-- Rounds within a list of calls (document 01, "Events", last part; document 02, Change 1). A message is named by its place, followed through later calls.
 -- Assumes nothing.
 use Prim.Native.Nat.{ℕ, _*_, _-_}
 use mathlib.Core.Bool.{Bool, true, false, cond, _&&_, _||_, not}
@@ -60,7 +60,8 @@ unfoldable pub isSentAndDelivered : Network → List Call → ℕ → Bool
 isSentAndDelivered n [] e = false
 isSentAndDelivered n (c ∷ cs) e = isSendFrom n e c && isDelivered (step n c) cs (length (n .messages)) || isSentAndDelivered (step n c) cs e
 
--- the list holds a "round": every bridge sends over each of its links that is up at its end, and all those messages are delivered
+-- the list holds a "round": "every bridge sends over each of its uncut links, and all those messages are delivered". By ends: over each of its
+-- links that is up at its end; where every link is uncut or cut, as in the settling statement, these are the same
 unfoldable pub hasRound : Network → List Call → Bool
 hasRound n cs = allBelow (2 * n .plan .graph .links) (λ e. not (isUp (n .records) e) || isSentAndDelivered n cs e)
 

@@ -3,12 +3,11 @@ use Prim.Native.Nat.{ℕ, _-_}
 use mathlib.Core.List.{List}
 use lib.ListN.{getD, set}
 use Rattle.agreement.specs.Record.{freshRecord}
-use Rattle.agreement.specs.Offer.{opposite}
 use Rattle.agreement.specs.Call.{Response, deliverOutcome}
 use Rattle.agreement.specs.declared.Agreement.{Agreement}
 use Rattle.agreement.specs.declared.Answer.{Answer}
 use Rattle.agreement.specs.declared.EndRecord.{EndRecord}
-use Rattle.protocol.specs.Net.{sender}
+use Rattle.protocol.specs.Net.{receiver}
 use Rattle.protocol.specs.Calls.{deliver, repeat}
 use Rattle.bench.specs.State.{State, network, messageFrom}
 use Rattle.bench.specs.Private.Views.{lentView}
@@ -55,9 +54,9 @@ deliveryAt s e m =
     (getD (b .records) e freshRecord) m (s .sent) (s .held) in
     deliveryOutcome (o .reply) (benchWithRecords b (set (b .records) e (o .end))) (o .sent) (o .held) (s .messages)
 
--- the message at place p arrives at the end opposite to its sender
+-- the end where the message at place p arrives
 abbrev pub arrivalEnd : List ℕ → ℕ → ℕ
-arrivalEnd m p = opposite (sender (messageFrom m p))
+arrivalEnd m p = receiver (messageFrom m p)
 
 abbrev pub received : State → ℕ → DeliveryOutcome
 received s p = deliveryAt s (arrivalEnd (s .messages) p) (messageFrom (s .messages) p .agreement)

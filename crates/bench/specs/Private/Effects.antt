@@ -11,11 +11,9 @@ use Rattle.agreement.specs.Record.{freshRecord}
 use Rattle.agreement.specs.declared.Agreement.{Agreement}
 use Rattle.agreement.specs.declared.Answer.{Answer}
 use Rattle.agreement.specs.declared.EndRecord.{EndRecord}
-use Rattle.distances.specs.View.{graphOf}
-use Rattle.protocol.specs.Calls.{endOf}
 use Rattle.bench.specs.State.{State, state, messageFrom}
 use Rattle.bench.specs.Private.Views.{lentView}
-use Rattle.bench.specs.Private.Changes.{ChangeOutcome, changeOutcome, ends, movedEnds, movedBench, benchWithEnd}
+use Rattle.bench.specs.Private.Changes.{ChangeOutcome, changeOutcome, ends, movedEnds, movedBench, benchWithEnd, ownEnd}
 use Rattle.bench.specs.Private.Queue.{withCount}
 use Rattle.bench.specs.Private.Deliveries.{arrivalEnd, benchWithRecords}
 use Rattle.bench.specs.Contracts.{refusedBy}
@@ -25,6 +23,7 @@ use Rattle.bench.specs.declared.effects.Effect.{Effect}
 use Rattle.bench.specs.declared.effects.QueueChange.{QueueChange}
 use Rattle.bench.specs.declared.effects.Reception.{Reception}
 use Rattle.bench.specs.declared.effects.Updating.{Updating}
+use Rattle.bench.specs.declared.effects.Switching.{Switching}
 use Rattle.bench.specs.declared.effects.EventResult.{EventResult}
 use Rattle.bench.specs.declared.effects.EndState.{EndState}
 use Rattle.bench.specs.declared.Event.{Event}
@@ -110,7 +109,7 @@ pub record StandsIn (b : Bench) (bridges views : ℕ) (places : List ℕ) (here 
 
 -- the record that an event looks at, where it is accepted: of the end that sends, or where its message arrives; the others look at none
 abbrev pub HasRecord : Event → Bench → List ℕ → EndRecord → Type 0
-HasRecord (Send y l) b m old = l < b .links → old ≡ getD (b .records) (endOf (graphOf (b .bridges) (b .links) (b .ends)) y l) freshRecord
+HasRecord (Send y l) b m old = l < b .links → old ≡ getD (b .records) (ownEnd b y l) freshRecord
 HasRecord (Deliver p) b m old = p < b .messages → old ≡ getD (b .records) (arrivalEnd m p) freshRecord
 HasRecord (Repeat p) b m old = p < b .messages → old ≡ getD (b .records) (arrivalEnd m p) freshRecord
 HasRecord (Update y t) b m old = Unit {0}
@@ -159,6 +158,20 @@ abbrev pub UpdatingFits : Updating → Bench → List Bool → ℕ → ℕ → T
 UpdatingFits (Updating.Refused k) b known y t = 0 < k
 UpdatingFits Updating.Stays b known y t = Unit {0}
 UpdatingFits Updating.Moves b known y t = CanMove b known y t
+
+-- a cut or a restore: its number, what becomes of the bench where the end gets this flag
+abbrev pub switchingNumber : Switching → ℕ
+switchingNumber (Switching.Refused k) = k
+switchingNumber (Switching.End e) = 0
+
+abbrev pub switchingEffect : Switching → Bool → Effect
+switchingEffect (Switching.Refused k) down = Effect.Same
+switchingEffect (Switching.End e) down = Effect.End e down
+
+-- a refusal has a number, and an accepted one is at the bridge's own end
+abbrev pub SwitchingFits : Switching → ℕ → Type 0
+SwitchingFits (Switching.Refused k) own = 0 < k
+SwitchingFits (Switching.End e) own = e ≡ own
 
 -- what becomes of a state
 abbrev pub stateOf : State → ChangeOutcome → State

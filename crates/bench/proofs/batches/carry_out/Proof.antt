@@ -131,26 +131,32 @@ queue-result-requires-2 c κs = tt
 enum-known-event-6 : tie.Need-enum-known-event-6
 enum-known-event-6 c = c .match .keys6
 
-cast-switch-result : tie.Need-cast-switch-result
-cast-switch-result c = byte-fits (c .known-told6 .given .0 .1)
+cast-y-3 : tie.Need-cast-y-3
+cast-y-3 c = byte-fits (c .known-told6 .given .0 .1)
 
-cast-switch-result-2 : tie.Need-cast-switch-result-2
-cast-switch-result-2 c = byte-fits (c .known-told6 .given .1 .0 .1)
+cast-l-2 : tie.Need-cast-l-2
+cast-l-2 c = byte-fits (c .known-told6 .given .1 .0 .1)
+
+switch-ready-requires : tie.Need-switch-ready-requires
+switch-ready-requires c κs = links-few (c .before .before .before .before .before .before .before .before .before .before .before .before .before .before)
 
 switch-result-requires : tie.Need-switch-result-requires
-switch-result-requires c κs = links-few (c .before .before .before .before .before .before .before .before .before .before .before .before .before .before)
+switch-result-requires c κs = tt
 
 enum-known-event-7 : tie.Need-enum-known-event-7
 enum-known-event-7 c = c .match .keys7
 
-cast-switch-result-3 : tie.Need-cast-switch-result-3
-cast-switch-result-3 c = byte-fits (c .known-told7 .given .0 .1)
+cast-y-4 : tie.Need-cast-y-4
+cast-y-4 c = byte-fits (c .known-told7 .given .0 .1)
 
-cast-switch-result-4 : tie.Need-cast-switch-result-4
-cast-switch-result-4 c = byte-fits (c .known-told7 .given .1 .0 .1)
+cast-l-3 : tie.Need-cast-l-3
+cast-l-3 c = byte-fits (c .known-told7 .given .1 .0 .1)
+
+switch-ready-requires-2 : tie.Need-switch-ready-requires-2
+switch-ready-requires-2 c κs = links-few (c .before .before .before .before .before .before .before .before .before .before .before .before .before .before)
 
 switch-result-requires-2 : tie.Need-switch-result-requires-2
-switch-result-requires-2 c κs = links-few (c .before .before .before .before .before .before .before .before .before .before .before .before .before .before)
+switch-result-requires-2 c κs = tt
 
 enum-known-event-8 : tie.Need-enum-known-event-8
 enum-known-event-8 c = c .match .keys8
@@ -261,14 +267,14 @@ returns-6 c = (
 
 returns-7 : tie.Need-returns-7
 returns-7 c = (
-  room-leaves _ _ _ (c .before .before .before .before .before .before .before .before .before .before .before .before .before .before .before .pre .0) (typed (c .before .before .before .before .before .before .before .before .before .before .before .before .before .before .before)) (roomy (c .before .before .before .before)) (leaves-by (Given (c .before .before .before .before .before .before .before .before .before .before .before .before .before .before .before)) _ (c .before .before .event6 .given .1) (c .switch-result .ensures) (switch-leaves (c .before .before .before .before .before .before .before .before .before .before .before .before .before .before .before .args .bench) (c .before .before .before .before .before .before .before .before .before .before .before .before .before .before .before .args .costs .now) (c .before .before .before .before .before .before .before .before .before .before .before .before .before .before .before .args .sent .now) (c .before .before .before .before .before .before .before .before .before .before .before .before .before .before .before .args .held .now) (c .before .before .before .before .before .before .before .before .before .before .before .before .before .before .before .args .flight .now) (c .before .before .before .before .before .before .before .before .before .before .before .before .before .before .before .args .answers .now) _ _ true (c .before .before .before .before .before .before .before .before .before .before .before .before .before .before .before .pre .0) (ready _ (switch-stays (Given (c .before .before .before .before .before .before .before .before .before .before .before .before .before .before .before)) (inside (c .before .before .before .before .before .before .before .before .before .before .before .before .before .before .before)) _ _ true)))),
-  (told-by (c .before .before .before .before .before .before .before .before .before .before .before .before .before .before .before .args .bench) _ (c .switch-result .ensures) (switch-told (c .before .before .before .before .before .before .before .before .before .before .before .before .before .before .before .args .bench) (c .before .before .before .before .before .before .before .before .before .before .before .before .before .before .before .args .costs .now) (c .before .before .before .before .before .before .before .before .before .before .before .before .before .before .before .args .sent .now) (c .before .before .before .before .before .before .before .before .before .before .before .before .before .before .before .args .held .now) (c .before .before .before .before .before .before .before .before .before .before .before .before .before .before .before .args .flight .now) (c .before .before .before .before .before .before .before .before .before .before .before .before .before .before .before .args .answers .now) _ _ true (c .before .before .before .before .before .before .before .before .before .before .before .before .before .before .before .pre .0) _), c .before .before .before .before .before .before .before .before .before .before .before .before .before .before .before .pre .1 .1),
+  room-leaves _ _ _ (c .before .before .before .before .before .before .before .before .before .before .before .before .before .before .before .before .pre .0) (typed (c .before .before .before .before .before .before .before .before .before .before .before .before .before .before .before .before)) (roomy (c .before .before .before .before .before)) (leaves-by (Given (c .before .before .before .before .before .before .before .before .before .before .before .before .before .before .before .before)) _ (c .before .before .before .event6 .given .1) (c .switch-result .ensures) (switch-leaves (c .before .before .before .before .before .before .before .before .before .before .before .before .before .before .before .before .args .bench) (c .before .before .before .before .before .before .before .before .before .before .before .before .before .before .before .before .args .costs .now) (c .before .before .before .before .before .before .before .before .before .before .before .before .before .before .before .before .args .sent .now) (c .before .before .before .before .before .before .before .before .before .before .before .before .before .before .before .before .args .held .now) (c .before .before .before .before .before .before .before .before .before .before .before .before .before .before .before .before .args .flight .now) (c .before .before .before .before .before .before .before .before .before .before .before .before .before .before .before .before .args .answers .now) _ _ true (c .before .before .before .before .before .before .before .before .before .before .before .before .before .before .before .before .pre .0) (c .before .switch-ready .result) (c .before .switch-ready .ensures .0) (c .before .switch-ready .ensures .1) (ready _ (switch-stays (Given (c .before .before .before .before .before .before .before .before .before .before .before .before .before .before .before .before)) (inside (c .before .before .before .before .before .before .before .before .before .before .before .before .before .before .before .before)) _ _ true)))),
+  (told-by (c .before .before .before .before .before .before .before .before .before .before .before .before .before .before .before .before .args .bench) _ (c .switch-result .ensures) (switch-told (c .before .before .before .before .before .before .before .before .before .before .before .before .before .before .before .before .args .bench) (c .before .before .before .before .before .before .before .before .before .before .before .before .before .before .before .before .args .costs .now) (c .before .before .before .before .before .before .before .before .before .before .before .before .before .before .before .before .args .sent .now) (c .before .before .before .before .before .before .before .before .before .before .before .before .before .before .before .before .args .held .now) (c .before .before .before .before .before .before .before .before .before .before .before .before .before .before .before .before .args .flight .now) (c .before .before .before .before .before .before .before .before .before .before .before .before .before .before .before .before .args .answers .now) _ _ true (c .before .before .before .before .before .before .before .before .before .before .before .before .before .before .before .before .pre .0) (c .before .switch-ready .result) (c .before .switch-ready .ensures .0) (c .before .switch-ready .ensures .1) _), c .before .before .before .before .before .before .before .before .before .before .before .before .before .before .before .before .pre .1 .1),
 )
 
 returns-8 : tie.Need-returns-8
 returns-8 c = (
-  room-leaves _ _ _ (c .before .before .before .before .before .before .before .before .before .before .before .before .before .before .before .pre .0) (typed (c .before .before .before .before .before .before .before .before .before .before .before .before .before .before .before)) (roomy (c .before .before .before .before)) (leaves-by (Given (c .before .before .before .before .before .before .before .before .before .before .before .before .before .before .before)) _ (c .before .before .event7 .given .1) (c .switch-result2 .ensures) (switch-leaves (c .before .before .before .before .before .before .before .before .before .before .before .before .before .before .before .args .bench) (c .before .before .before .before .before .before .before .before .before .before .before .before .before .before .before .args .costs .now) (c .before .before .before .before .before .before .before .before .before .before .before .before .before .before .before .args .sent .now) (c .before .before .before .before .before .before .before .before .before .before .before .before .before .before .before .args .held .now) (c .before .before .before .before .before .before .before .before .before .before .before .before .before .before .before .args .flight .now) (c .before .before .before .before .before .before .before .before .before .before .before .before .before .before .before .args .answers .now) _ _ false (c .before .before .before .before .before .before .before .before .before .before .before .before .before .before .before .pre .0) (ready _ (switch-stays (Given (c .before .before .before .before .before .before .before .before .before .before .before .before .before .before .before)) (inside (c .before .before .before .before .before .before .before .before .before .before .before .before .before .before .before)) _ _ false)))),
-  (told-by (c .before .before .before .before .before .before .before .before .before .before .before .before .before .before .before .args .bench) _ (c .switch-result2 .ensures) (switch-told (c .before .before .before .before .before .before .before .before .before .before .before .before .before .before .before .args .bench) (c .before .before .before .before .before .before .before .before .before .before .before .before .before .before .before .args .costs .now) (c .before .before .before .before .before .before .before .before .before .before .before .before .before .before .before .args .sent .now) (c .before .before .before .before .before .before .before .before .before .before .before .before .before .before .before .args .held .now) (c .before .before .before .before .before .before .before .before .before .before .before .before .before .before .before .args .flight .now) (c .before .before .before .before .before .before .before .before .before .before .before .before .before .before .before .args .answers .now) _ _ false (c .before .before .before .before .before .before .before .before .before .before .before .before .before .before .before .pre .0) _), c .before .before .before .before .before .before .before .before .before .before .before .before .before .before .before .pre .1 .1),
+  room-leaves _ _ _ (c .before .before .before .before .before .before .before .before .before .before .before .before .before .before .before .before .pre .0) (typed (c .before .before .before .before .before .before .before .before .before .before .before .before .before .before .before .before)) (roomy (c .before .before .before .before .before)) (leaves-by (Given (c .before .before .before .before .before .before .before .before .before .before .before .before .before .before .before .before)) _ (c .before .before .before .event7 .given .1) (c .switch-result2 .ensures) (switch-leaves (c .before .before .before .before .before .before .before .before .before .before .before .before .before .before .before .before .args .bench) (c .before .before .before .before .before .before .before .before .before .before .before .before .before .before .before .before .args .costs .now) (c .before .before .before .before .before .before .before .before .before .before .before .before .before .before .before .before .args .sent .now) (c .before .before .before .before .before .before .before .before .before .before .before .before .before .before .before .before .args .held .now) (c .before .before .before .before .before .before .before .before .before .before .before .before .before .before .before .before .args .flight .now) (c .before .before .before .before .before .before .before .before .before .before .before .before .before .before .before .before .args .answers .now) _ _ false (c .before .before .before .before .before .before .before .before .before .before .before .before .before .before .before .before .pre .0) (c .before .switch-ready2 .result) (c .before .switch-ready2 .ensures .0) (c .before .switch-ready2 .ensures .1) (ready _ (switch-stays (Given (c .before .before .before .before .before .before .before .before .before .before .before .before .before .before .before .before)) (inside (c .before .before .before .before .before .before .before .before .before .before .before .before .before .before .before .before)) _ _ false)))),
+  (told-by (c .before .before .before .before .before .before .before .before .before .before .before .before .before .before .before .before .args .bench) _ (c .switch-result2 .ensures) (switch-told (c .before .before .before .before .before .before .before .before .before .before .before .before .before .before .before .before .args .bench) (c .before .before .before .before .before .before .before .before .before .before .before .before .before .before .before .before .args .costs .now) (c .before .before .before .before .before .before .before .before .before .before .before .before .before .before .before .before .args .sent .now) (c .before .before .before .before .before .before .before .before .before .before .before .before .before .before .before .before .args .held .now) (c .before .before .before .before .before .before .before .before .before .before .before .before .before .before .before .before .args .flight .now) (c .before .before .before .before .before .before .before .before .before .before .before .before .before .before .before .before .args .answers .now) _ _ false (c .before .before .before .before .before .before .before .before .before .before .before .before .before .before .before .before .pre .0) (c .before .switch-ready2 .result) (c .before .switch-ready2 .ensures .0) (c .before .switch-ready2 .ensures .1) _), c .before .before .before .before .before .before .before .before .before .before .before .before .before .before .before .before .pre .1 .1),
 )
 
 same-length-17 : tie.Need-same-length-17
@@ -318,8 +324,8 @@ returns-10 c = let room : 3 ≤ length (c .before .before .before .before .befor
 cast-l : tie.Need-cast-l
 cast-l c = byte-fits (c .known-told2 .given .1 .0 .1)
 
-cast-y-3 : tie.Need-cast-y-3
-cast-y-3 c = byte-fits (c .known-told9 .given .0 .1)
+cast-y-5 : tie.Need-cast-y-5
+cast-y-5 c = byte-fits (c .known-told9 .given .0 .1)
 
 pub carry-out-spec : {M : Type 1} → statement M
 carry-out-spec =
@@ -352,18 +358,20 @@ carry-out-spec =
     lose-ready-requires
     queue-result-requires-2
     enum-known-event-6
-    cast-switch-result
-    cast-switch-result-2
+    cast-y-3
+    cast-l-2
+    switch-ready-requires
     switch-result-requires
     enum-known-event-7
-    cast-switch-result-3
-    cast-switch-result-4
+    cast-y-4
+    cast-l-3
+    switch-ready-requires-2
     switch-result-requires-2
     enum-known-event-8
     cast-d
     answer-report-requires
     enum-known-event-9
-    cast-y-3
+    cast-y-5
     cast-d-2
     path-ready-requires
     answer-path-requires

@@ -1,6 +1,6 @@
 -- `ports::hop_at` meets its contract: no port, a link that is down at an end, or the bridge across. Assumes nothing.
 use native.Mathlib.Omega.{arith}
-use mathlib.Core.Path.{_≡_, sym, _∙_}
+use mathlib.Core.Path.{sym, _∙_}
 use borrow.Author.Needs.{needs}
 use borrow.Author.Tests.{not-true, not-false}
 use Rattle.protocol.specs.Ports.{hopBy}

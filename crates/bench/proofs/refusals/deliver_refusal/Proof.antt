@@ -1,10 +1,6 @@
 -- `refusals::deliver_refusal` meets its contract. Each return cites the tests that led to it. Assumes nothing.
-use Prim.Native.Nat.{ℕ}
 use native.Mathlib.Omega.{arith}
-use mathlib.Core.Path.{_≡_}
-use mathlib.Core.Bool.{Bool, false}
 use borrow.Author.Tests.{lt-ltb, le-ltb}
-use lib.ListN.{getD}
 use Rattle.distances.proofs.Refusals.{First.none, First.here, First.next, first}
 use Rattle.protocol.specs.Calls.{refuse, checks, noMessage, endDown}
 use Rattle.bench.proofs.TieQueue.{messages-length, message-at}

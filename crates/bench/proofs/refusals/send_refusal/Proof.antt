@@ -1,6 +1,6 @@
 -- `refusals::send_refusal` meets its contract. Each return cites the tests that led to it. Assumes nothing.
 use native.Mathlib.Omega.{arith}
-use mathlib.Core.Path.{_≡_, sym, _∙_}
+use mathlib.Core.Path.{_≡_}
 use borrow.Author.Needs.{needs}
 use lib.ListN.{length}
 use Rattle.distances.specs.View.{graphOf}

@@ -1,8 +1,8 @@
 -- `benches::flags_in` meets its contract. The loop's invariant: the flags of the ends below `e` are filled in. Assumes nothing.
 use borrow.Author.Needs.{needs}
-use Prim.Native.Nat.{_≤_, _<_, _-_, _+_}
+use Prim.Native.Nat.{_≤_, _-_, _+_}
 use native.Mathlib.Omega.{arith}
-use mathlib.Core.Path.{_≡_, _∙_, refl}
+use mathlib.Core.Path.{_≡_, refl}
 use lib.ListN.{length, getD}
 use Rattle.encoding.specs.Numbers.{isSet}
 use Rattle.encoding.proofs.Filled.{filled, filled-none, filled-more, filled-all}

@@ -30,7 +30,7 @@ pub record Claims : Type 0 where
   pub choice : ChoiceIsPort
   pub lentOffers : LentOffersAreOffers
   pub plainEnds : PlainEndsAreEnds
-  -- networks: demands 2 and 3, the limits among them; a path's hops are the links that it crosses; document 01's examples E1 to E8 and one of a link with one end down
+  -- networks: demands 2 and 3, the limits among them; a path's hops are the links that it crosses; document 01's examples E1 to E8 and two of links with one end down
   pub demand2 : Demand2
   pub demand3 : Demand3
   pub hops : HopsAreLinks

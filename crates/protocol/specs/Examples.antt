@@ -1,8 +1,9 @@
--- Document 01's known examples E1 to E8, and last a case of ours for the sentences of document 02's Change 1, one table: what is computed and
--- what the document states. Assumes nothing.
+-- Document 01's known examples E1 to E8, and last two cases of ours for the sentences of document 02's Change 1, one table: what is computed
+-- and what the document states. Assumes nothing.
 use Prim.Native.Nat.{ℕ, zero, suc}
 use mathlib.Core.List.{List, [], _∷_, _++_}
-use Rattle.distances.specs.View.{Costs, NONE}
+use lib.ListN.{getD}
+use Rattle.distances.specs.View.{Costs, NONE, graphOf, costsOf}
 use Rattle.distances.specs.Examples.{Example, AllHold, examples, triangle, view0, view1}
 use Rattle.agreement.specs.Record.{heldLimit}
 use Rattle.agreement.specs.declared.Answer.{Answer}
@@ -56,6 +57,22 @@ callsE6 = callsE5 ++ (send 2 1 ∷ deliver 1 ∷ [])
 abbrev pub callsE7 : List Call
 callsE7 = callsE6 ++ (send 1 1 ∷ deliver 1 ∷ send 2 1 ∷ deliver 1 ∷ [])
 
+-- ports that point at each other (ours): links 0 (0–1), 1 (0–2), 2 and 3 (1–2); view 0 costs 1, 9, 1, 0; view 1 costs 0, 5, 0, 1. Bridge 1 holds an
+-- offer of bridge 2 over link 3; then bridge 2 goes by link 2, bridge 1's end of it is cut, and bridge 1 goes by link 3
+abbrev pub doubled : Plan
+doubled =
+    record {
+      graph = graphOf 3 4 (0 ∷ 1 ∷ 0 ∷ 2 ∷ 1 ∷ 2 ∷ 1 ∷ 2 ∷ []);
+      views = 2;
+      costs = λ t. costsOf (getD ((1 ∷ 9 ∷ 1 ∷ 0 ∷ []) ∷ (0 ∷ 5 ∷ 0 ∷ 1 ∷ []) ∷ []) t []);
+    }
+
+abbrev pub pointing : Network
+pointing =
+    run (fresh doubled)
+    (change (update 2 1) ∷ send 2 3 ∷ deliver 0 ∷ change (update 2 0) ∷ send 0 0 ∷ deliver 0 ∷ send 1 2 ∷ deliver 0
+    ∷ change (cut 1 2) ∷ change (update 1 1) ∷ [])
+
 -- numbers for the table: a port's link (NONE: no port), a path (0 delivered, 1 stops), a delivery's answer (0 stale, 1 agreed, 2 noted)
 abbrev pub linkUsed : Port → ℕ
 linkUsed Closed = NONE
@@ -81,9 +98,10 @@ abbrev pub answered : List Call → ℕ → ℕ
 answered cs p = answerNumber (answerAt (after cs) p)
 
 -- E1 is layer 1's; end 2 is bridge 1's end of link 1. E8: a message over link 1 from end 2 (direction 0), of number 1; its delivery is
--- accepted (0) and stale. The last, ours: bridge 0's end of link 0 alone is down. Bridge 1's port stays on link 0 and the path stops there; bridge 0's send
+-- accepted (0) and stale. Then ours: bridge 0's end of link 0 alone is down. Bridge 1's port stays on link 0 and the path stops there; bridge 0's send
 -- is refused with 13, bridge 1's is not; a delivery over link 0 is accepted where the sender's end is down, and refused with 13 where the
--- receiver's is
+-- receiver's is. The last: for destination 0 bridge 1's port is on link 3, to bridge 2, and bridge 2's on link 2, to bridge 1; the path from 1
+-- stops at 2 after 1 hop, for the frame dies on link 2
 abbrev pub allExamples : List Example
 allExamples =
     examples
@@ -119,6 +137,10 @@ allExamples =
           ∷ refuse (after (sentBefore ++ (change (cut 1 0) ∷ []))) (deliver 0)
           ∷ []);
       stated = 0 ∷ 1 ∷ 1 ∷ 1 ∷ 13 ∷ 0 ∷ 0 ∷ 13 ∷ [];
+    }
+    ∷ record {
+      found = linkUsed (forwardingPort pointing 1 0) ∷ linkUsed (forwardingPort pointing 2 0) ∷ exampleNumbers (path pointing 1 0);
+      stated = 3 ∷ 2 ∷ 1 ∷ 2 ∷ 1 ∷ [];
     }
     ∷ [])
 

@@ -86,9 +86,9 @@ flag-told k e down b known low = go (eqb k 0) refl
     go false q = tt
 
 -- what becomes of the bench by a cut or a restore at the bridge's own end, by its number
-switched : (w : Switching) (own j : ℕ) (down : Bool) → switchingNumber w ≡ j → SwitchingFits w own → cond (eqb j 0) (EndFlag own down) Same ≡ cond (eqb (switchingNumber w) 0) (switchingEffect w down) Same
-switched (Switching.Refused k) own j down number fits = rw (← number, ne-eqb k 0 (λ z. omega arith))
-switched (Switching.End e) own j down number fits = rw (← number, fits)
+switch-effect : (w : Switching) (own j : ℕ) (down : Bool) → switchingNumber w ≡ j → SwitchingFits w own → cond (eqb j 0) (EndFlag own down) Same ≡ cond (eqb (switchingNumber w) 0) (switchingEffect w down) Same
+switch-effect (Switching.Refused k) own j down number fits = rw (← number, ne-eqb k 0 (λ z. omega arith))
+switch-effect (Switching.End e) own j down number fits = rw (← number, fits)
 
 -- nothing becomes of the bench, whether the event is refused or not
 same-either : (t : Bool) (z : State) → appliedTo (cond t Same Same) z ≡ z
@@ -304,14 +304,14 @@ module _ (b : Bench) (costs sent held m answers : List ℕ) where
           BatchLeft (eventOnLists Whole (switchEvent down y l)) answers (cond (eqb k 0) 1 0) (cond (eqb k 0) Complete (Refused k))
           (appliedTo (cond (eqb k 0) (switchingEffect w down) Same) Whole) (cond (eqb k 0) 0 0) answers
       switch-leaves ok =
-          rw (← switched w (ownEnd b y l) switchNumber down number fits, number)
+          rw (← switch-effect w (ownEnd b y l) switchNumber down number fits, number)
           (renumbered 0 (switch-flagged .0) (switch-flagged .1)
           (quiet Whole (switchEvent down y l) (switchOf b y l down .reply) _ answers (switch-silent down) (switch-reply Whole ready y l down)
           (ap (stepBy Whole) (switch-call down) ∙ switch-step Whole y l down) (λ some. ap (stepBy Whole) (switch-call down) ∙ switch-kept Whole y l down some) ok))
 
       pub switch-told : (known : List Bool) → CanApply (cond (eqb (switchingNumber w) 0) (switchingEffect w down) Same) b known
       switch-told known =
-          rw (← switched w (ownEnd b y l) switchNumber down number fits)
+          rw (← switch-effect w (ownEnd b y l) switchNumber down number fits)
           (flag-told switchNumber (ownEnd b y l) down b known
           (λ none. omega (arith, switch-end y l b [] down none, few b costs (told Whole ready .lasting))))
 

@@ -32,10 +32,10 @@ module _ (y l : ℕ) where
   switch-after n true = refl
   switch-after n false = refl
 
-  pub switch-ready : (s : State) (down : Bool) → readyFor s (change (switch down y l)) ≡ benchInRange (s .bench)
+  pub switch-range : (s : State) (down : Bool) → readyFor s (change (switch down y l)) ≡ benchInRange (s .bench)
   unfolding readyFor
-  switch-ready s true = refl
-  switch-ready s false = refl
+  switch-range s true = refl
+  switch-range s false = refl
 
   -- the bench alone tells the refusal
   pub switch-same : (s : State) (down : Bool) → refuse (networkOf (s .bench) []) (change (switch down y l)) ≡ refuse (network s) (change (switch down y l))

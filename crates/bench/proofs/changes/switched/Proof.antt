@@ -12,7 +12,7 @@ use Rattle.bench.specs.State.{state, network}
 use Rattle.bench.specs.Private.Changes.{switch}
 use Rattle.bench.proofs.EntryChecks.{bench-counted}
 use Rattle.bench.proofs.OutcomeLaws.{range-refused, table-refused, call-done}
-use Rattle.bench.proofs.Switches.{switch-ready, switch-same, switch-end}
+use Rattle.bench.proofs.Switches.{switch-range, switch-same, switch-end}
 use Rattle.bench.proofs.Stepped.{switch-is}
 use Rattle.bench.proofs.changes.switched.Statement.{statement}
 use Rattle.bench.proofs.changes.switched.Tie as tie
@@ -35,7 +35,7 @@ returns c = λ costs sent held messages.
     let s = state (c .before .before .before .args .bench) costs sent held messages in
     rw (c .refused .ensures .0, c .refused .ensures .1)
     (range-refused s (change (switch (c .before .before .before .args .down) (c .before .before .before .args .bridge) (c .before .before .before .args .link))) (λ n. tt)
-    (switch-ready (c .before .before .before .args .bridge) (c .before .before .before .args .link) s (c .before .before .before .args .down) ∙ sym (c .before .before .bench-in-range .ensures) ∙ not-true _ (c .before .if1 .taken)))
+    (switch-range (c .before .before .before .args .bridge) (c .before .before .before .args .link) s (c .before .before .before .args .down) ∙ sym (c .before .before .bench-in-range .ensures) ∙ not-true _ (c .before .if1 .taken)))
 
 switch-ready-requires : tie.Need-switch-ready-requires
 switch-ready-requires c κs = bench-counted _ (inside c) .links
@@ -63,7 +63,7 @@ returns-2 c = λ costs sent held messages.
     let some = rw (c .before .before .number .given .1) at (c .before .before .before .before .switch-ready .ensures .1) in
     rw (c .refused2 .ensures .0, c .refused2 .ensures .1)
     (table-refused s (change (switch (c .before .before .before .before .before .before .before .args .down) (c .before .before .before .before .before .before .before .args .bridge) (c .before .before .before .before .before .before .before .args .link))) (λ n. tt)
-    (switch-ready (c .before .before .before .before .before .before .before .args .bridge) (c .before .before .before .before .before .before .before .args .link) s (c .before .before .before .before .before .before .before .args .down) ∙ inside (c .before .before .before .before .before)) _
+    (switch-range (c .before .before .before .before .before .before .before .args .bridge) (c .before .before .before .before .before .before .before .args .link) s (c .before .before .before .before .before .before .before .args .down) ∙ inside (c .before .before .before .before .before)) _
     (number ∙ switch-same (c .before .before .before .before .before .before .before .args .bridge) (c .before .before .before .before .before .before .before .args .link) s (c .before .before .before .before .before .before .before .args .down)) (λ z. omega (arith, some)))
 
 returns-3 : tie.Need-returns-3
@@ -76,7 +76,7 @@ returns-3 c = λ costs sent held messages.
     let none : refuse (network s) (change (switch (c .before .before .before .before .before .before .before .args .down) (c .before .before .before .before .before .before .before .args .bridge) (c .before .before .before .before .before .before .before .args .link))) ≡ 0 = sym (switch-same (c .before .before .before .before .before .before .before .args .bridge) (c .before .before .before .before .before .before .before .args .link) s (c .before .before .before .before .before .before .before .args .down)) ∙ sym zero in
     rw (c .with-end .ensures, own)
     (call-done s (change (switch (c .before .before .before .before .before .before .before .args .down) (c .before .before .before .before .before .before .before .args .bridge) (c .before .before .before .before .before .before .before .args .link))) (λ n. tt)
-    (switch-ready (c .before .before .before .before .before .before .before .args .bridge) (c .before .before .before .before .before .before .before .args .link) s (c .before .before .before .before .before .before .before .args .down) ∙ inside (c .before .before .before .before .before)) none
+    (switch-range (c .before .before .before .before .before .before .before .args .bridge) (c .before .before .before .before .before .before .before .args .link) s (c .before .before .before .before .before .before .before .args .down) ∙ inside (c .before .before .before .before .before)) none
     (switch-is s (c .before .before .before .before .before .before .before .args .bridge) (c .before .before .before .before .before .before .before .args .link) (c .before .before .before .before .before .before .before .args .down) (omega (arith, low, few, flags (c .before .before .before .before .before .before .before))) none) refl)
 
 pub switched-spec : {M : Type 1} → statement M

@@ -49,8 +49,7 @@ returns-3 c = λ b bridges links count places down.
 
 returns-4 : tie.Need-returns-4
 unfolding refuse checks endDown noRoom
-returns-4 c = λ b bridges links count places down.
-    first-passed _ _ _ (c .before .before .before .before .before .end-refusal .ensures .0 b bridges links places _) (c .before .before .before .before .if1 .left)
+returns-4 c = λ b bridges links count places down. first-passed _ _ _ (c .before .before .before .before .before .end-refusal .ensures .0 b bridges links places _) (c .before .before .before .before .if1 .left)
     (rw (bridges, links, places, down, count)
     (first (next (rw (c .before .before .end-of .ensures (c .before .before .before .before .before .before .args .bridges) (c .before .before .before .before .before .before .args .links)) at (c .before .if2 .left)) (next (rw (messages-length, lt-leb 64 _ (c .if3 .left))) none))))
 

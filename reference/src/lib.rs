@@ -1,8 +1,8 @@
 //! Agreements between link state bridges: runs a plan and gives all that the program prints for it.
 //!
 //! Layers, from the lowest: `map` and `distances` (views), `records` (one bridge's agreement records),
-//! `network` and `forwarding` (the bench), `plan` and `program` (reading a plan, printing). The layers below
-//! the plan are public, so that each can be compared by itself.
+//! `network`, `forwarding` and `reason` (the bench), `plan` and `program` (reading a plan, printing). The layers
+//! below the plan are public, so that each can be compared by itself.
 
 pub mod distances;
 pub mod forwarding;
@@ -10,6 +10,7 @@ pub mod map;
 pub mod network;
 mod plan;
 mod program;
+pub mod reason;
 pub mod records;
 pub mod refusal;
 

@@ -5,12 +5,12 @@ use native.Mathlib.Numerals.{add-one}
 use native.Mathlib.Omega.{arith}
 use mathlib.Core.Bool.{Bool, true, false, not, _&&_, _||_}
 use mathlib.Core.List.{List, [], _∷_}
-use mathlib.Core.Path.{_≡_, refl, sym, _∙_}
+use mathlib.Core.Path.{_≡_, refl, _∙_}
 use borrow.Author.Tests.{eqb-false, ltb-true, ltb-false, lt-ltb, le-ltb, le-leb, lt-leb}
 use lib.Dec.{eqb, leb, ltb}
 use lib.ListN.{length, getD}
 use Rattle.distances.specs.Call.{allBelow}
-use Rattle.distances.proofs.Ranges.{allBelow-none, allBelow-more}
+use Rattle.distances.proofs.Ranges.{allBelow-more}
 
 -- inside a list the default does not matter
 pub getD-default : {A : Type 0} (l : List A) (i : ℕ) (d e : A) → i < length l → getD l i d ≡ getD l i e
@@ -39,7 +39,3 @@ byte-below views bound v byte cut = go (eqb v 255) (ltb v views) refl refl
 
 pub all-more : (n : ℕ) (test : ℕ → Bool) {ok t r : Bool} → r ≡ (ok && t) → ok ≡ allBelow n test → t ≡ test n → r ≡ allBelow (n + 1) test
 all-more n test e d h = e ∙ rw (add-one, allBelow-more, d, h)
-
-pub all-cong : (n : ℕ) (test other : ℕ → Bool) → ((k : ℕ) → k < n → test k ≡ other k) → allBelow n test ≡ allBelow n other
-all-cong zero test other h = sym (allBelow-none test) ∙ allBelow-none other
-all-cong (suc n) test other h = rw (allBelow-more n test, allBelow-more n other, all-cong n test other (λ k b. h k (omega arith)), h n (omega arith))

@@ -1,194 +1,215 @@
--- The forwarding choice: what one end more comes to, and that the choice by all ends is the forwarding port. Assumes nothing.
+-- The forwarding choice: what one end more comes to, and that the choice by all ends comes to the verdict. Assumes nothing.
 use Prim.Native.Nat.{ℕ, zero, suc, _+_, _*_, _≤_, _<_}
 use mathlib.Core.Path.{_≡_, refl, sym, _∙_}
-use mathlib.Core.Bool.{Bool, true, false, cond, _&&_, _||_, not, and-true, and-false}
+use mathlib.Core.Bool.{Bool, true, false, cond, _&&_, _||_, not}
 use borrow.Author.Tests.{eq-eqb, ne-eqb, ltb-true, not-true}
 use native.Mathlib.Numerals.{add-one}
 use native.Mathlib.Omega.{arith}
-use lib.Dec.{eqb, leb, ltb}
+use lib.Dec.{eqb, ltb}
 use Rattle.distances.specs.View.{Graph, Costs, NONE}
-use Rattle.distances.specs.Call.{allBelow}
 use Rattle.distances.proofs.Booleans.{both-true}
-use Rattle.distances.proofs.Ranges.{every-none, every-more, allBelow-none, allBelow-more}
 use Rattle.distances.proofs.Joined.{present-is}
 use Rattle.agreement.specs.Offer.{linkOf, farBridge}
+use Rattle.agreement.specs.Record.{heldLimit}
 use Rattle.agreement.specs.Tests.{firstBelow}
 use Rattle.agreement.specs.Forwarding.{
   Records,
   reaches,
   chosenEnd,
-  isNotDestination,
-  hasPath,
+  isDown,
   isUp,
-  heldSuffices,
-  sentAllows,
-  everySentAllows,
-  conditions,
-  portFrom,
-  port,
+  isDestination,
+  hasNoPath,
+  hasNoLink,
+  holdsNothing,
+  heldTooGreat,
+  sentNotAbove,
+  barringEnd,
+  isBarred,
+  firstOf,
+  verdictFrom,
+  verdict,
 }
-use Rattle.agreement.specs.Choice.{reachesDistance, becomesChosen, firstChoice, nextChoice, portBy, choiceWith, choiceBelow, ChoiceIsPort}
+use Rattle.agreement.specs.Choice.{
+  reachesDistance,
+  becomesChosen,
+  bars,
+  becomesBarring,
+  firstChoice,
+  nextChoice,
+  verdictBy,
+  choiceWith,
+  choiceBelow,
+  ChoiceIsVerdict,
+}
 use Rattle.agreement.specs.declared.Choice.{Choice}
-use Rattle.agreement.specs.declared.Port.the-variants.{Closed, Open}
 use Rattle.agreement.proofs.Firsts.{atFirst, found-more, at-first-more}
 
-abbrev choice : ℕ → Bool → ℕ → Bool → Bool → Choice
-choice distance found link usable allowed =
-    record { distance = distance; found = found; link = link; usable = usable; allowed = allowed }
+abbrev choice : ℕ → ℕ → ℕ → ℕ → Bool → Bool → Bool → Bool → Bool → Choice
+choice distance held link barring destination found down holding barred =
+    record {
+      distance = distance;
+      held = held;
+      link = link;
+      barring = barring;
+      destination = destination;
+      found = found;
+      down = down;
+      holding = holding;
+      barred = barred;
+    }
 
 -- ---- one end more
 
 module _ (old : Choice) (link cost far : ℕ) (down holding : Bool) (sent held : ℕ) where
-  abbrev usableBy : Bool
-  usableBy = not down && leb (cond holding held NONE) (old .distance)
-
-  abbrev allowedBy : Bool
-  allowedBy = old .allowed && (down || ltb (old .distance) sent)
-
-  -- the tests as they are made: is its link the chosen one, and does it allow the bridge to forward
+  -- the tests as they are made: is its link the chosen one, and does its sent limit bar the bridge
   module _
-      {first reach allowed allows : Bool}
+      {first reach bar firstBar barred : Bool}
+      {barring : ℕ}
       (isFirst : first ≡ (not (old .found) && reach))
       (doesReach : reach ≡ reachesDistance old cost far)
-      (isAllowed : allowed ≡ (old .allowed && allows))
-      (doesAllow : allows ≡ (down || ltb (old .distance) sent)) where
+      (isBarred : barred ≡ (old .barred || bar))
+      (isBarring : barring ≡ cond firstBar link (old .barring))
+      (isFirstBar : firstBar ≡ (not (old .barred) && bar))
+      (doesBar : bar ≡ bars old down sent) where
     first-is-chosen : first ≡ becomesChosen old cost far
     first-is-chosen = isFirst ∙ rw doesReach
 
-    allowed-is : allowed ≡ allowedBy
-    allowed-is = isAllowed ∙ rw doesAllow
+    barred-is : barred ≡ (old .barred || bars old down sent)
+    barred-is = isBarred ∙ rw doesBar
+
+    barring-is : barring ≡ cond (becomesBarring old down sent) link (old .barring)
+    barring-is = isBarring ∙ rw (isFirstBar, doesBar)
 
     pub next-chosen :
-        {usable suffices : Bool} →
+        {limit : ℕ} →
         first ≡ true →
-        usable ≡ (not down && suffices) →
-        suffices ≡ leb (cond holding held NONE) (old .distance) →
-        choice (old .distance) true link usable allowed ≡ nextChoice old link cost far down holding sent held
+        limit ≡ cond holding held NONE →
+        choice (old .distance) limit link barring (old .destination) true down holding barred
+        ≡ nextChoice old link cost far down holding sent held
     unfolding nextChoice
-    next-chosen t u s =
+    next-chosen t u =
         let e : becomesChosen old cost far ≡ true = sym first-is-chosen ∙ t in
         let h = both-true (not (old .found)) (reachesDistance old cost far) e in
-        rw (e, u, s, allowed-is, not-true (old .found) (h .0), h .1)
+        rw (e, u, barred-is, barring-is, not-true (old .found) (h .0), h .1)
 
     pub next-kept :
         first ≡ false →
-        choice (old .distance) (old .found) (old .link) (old .usable) allowed ≡ nextChoice old link cost far down holding sent held
+        choice (old .distance) (old .held) (old .link) barring (old .destination) (old .found) (old .down) (old .holding) barred
+        ≡ nextChoice old link cost far down holding sent held
     unfolding nextChoice
     next-kept t =
         let e : becomesChosen old cost far ≡ false = sym first-is-chosen ∙ t in
-        rw (e, allowed-is) (go (old .found) (reachesDistance old cost far) e)
+        rw (e, barred-is, barring-is) (go (old .found) (reachesDistance old cost far) e)
       where
-        go :
-            (f t : Bool) →
-            (not f && t) ≡ false →
-            choice (old .distance) f (old .link) (old .usable) allowedBy ≡ choice (old .distance) (f || t) (old .link) (old .usable) allowedBy
+        with-found : Bool → Choice
+        with-found f =
+            choice (old .distance) (old .held) (old .link) (cond (becomesBarring old down sent) link (old .barring)) (old .destination) f (old .down)
+            (old .holding) (old .barred || bars old down sent)
+
+        go : (f t : Bool) → (not f && t) ≡ false → with-found f ≡ with-found (f || t)
         go true t e = refl
         go false t e = rw e
 
   -- an end that may be at another bridge
-  next-if :
-      (at : Bool) →
-      cond at (nextChoice old link cost far down holding sent held) old
-      ≡ choice (old .distance) (old .found || (at && reachesDistance old cost far))
-      (cond (not (old .found) && (at && reachesDistance old cost far)) link (old .link))
-      (cond (not (old .found) && (at && reachesDistance old cost far)) usableBy (old .usable))
-      (old .allowed && (not (at && not down) || ltb (old .distance) sent))
+  module _ (at : Bool) where
+    -- it is the first that reaches the distance; the first that bars the bridge
+    abbrev chosenHere : Bool
+    chosenHere = not (old .found) && (at && reachesDistance old cost far)
+
+    abbrev barringHere : Bool
+    barringHere = not (old .barred) && (at && bars old down sent)
+
+    abbrev nextIf : Choice
+    nextIf =
+        choice (old .distance) (cond chosenHere (cond holding held NONE) (old .held)) (cond chosenHere link (old .link))
+        (cond barringHere link (old .barring)) (old .destination) (old .found || (at && reachesDistance old cost far))
+        (cond chosenHere down (old .down)) (cond chosenHere holding (old .holding)) (old .barred || (at && bars old down sent))
+
+  next-if : (at : Bool) → cond at (nextChoice old link cost far down holding sent held) old ≡ nextIf at
   unfolding nextChoice
-  next-if true = go down
+  next-if true = refl
+  next-if false = go (old .found) (old .barred)
     where
       go :
-          (b : Bool) →
-          choice (old .distance) (old .found || reachesDistance old cost far) (cond (becomesChosen old cost far) link (old .link))
-          (cond (becomesChosen old cost far) usableBy (old .usable)) (old .allowed && (b || ltb (old .distance) sent))
-          ≡ choice (old .distance) (old .found || reachesDistance old cost far) (cond (becomesChosen old cost far) link (old .link))
-          (cond (becomesChosen old cost far) usableBy (old .usable)) (old .allowed && (not (not b) || ltb (old .distance) sent))
-      go true = refl
-      go false = refl
-  next-if false = rw and-true (go (old .found))
-    where
-      go :
-          (f : Bool) →
-          choice (old .distance) f (old .link) (old .usable) (old .allowed)
-          ≡ choice (old .distance) (f || false) (cond (not f && false) link (old .link)) (cond (not f && false) usableBy (old .usable)) (old .allowed)
-      go true = refl
-      go false = refl
-
--- the port by the tests as they are made
-module _ (c : Choice) {forwards may : Bool} (doesForward : forwards ≡ (c .found && may)) (isFree : may ≡ (c .usable && c .allowed)) where
-  forwards-is : forwards ≡ (c .found && (c .usable && c .allowed))
-  forwards-is = doesForward ∙ rw isFree
-
-  pub port-open : forwards ≡ true → Open (c .link) ≡ portBy c
-  unfolding portBy
-  port-open t = rw (sym forwards-is ∙ t)
-
-  pub port-closed : forwards ≡ false → Closed ≡ portBy c
-  unfolding portBy
-  port-closed t = rw (sym forwards-is ∙ t)
+          (f b : Bool) →
+          choice (old .distance) (old .held) (old .link) (old .barring) (old .destination) f (old .down) (old .holding) b
+          ≡ choice (old .distance) (cond (not f && false) (cond holding held NONE) (old .held)) (cond (not f && false) link (old .link))
+          (cond (not b && false) link (old .barring)) (old .destination) (f || false) (cond (not f && false) down (old .down))
+          (cond (not f && false) holding (old .holding)) (b || false)
+      go true true = refl
+      go true false = refl
+      go false true = refl
+      go false false = refl
 
 -- ---- all ends
 
--- the conditions in document 01's order
-in-order : (a b u h s : Bool) → ((u && h) && ((a && b) && s)) ≡ (a && (b && (u && (h && (s && true)))))
-in-order true true true h s = rw and-true
-in-order true true false h s = refl
-in-order true false u h s = rw and-false
-in-order false b u h s = rw and-false
-
-and-assoc : (a b c : Bool) → ((a && b) && c) ≡ (a && (b && c))
-and-assoc true b c = refl
-and-assoc false b c = refl
-
 module _ (g : Graph) (c : Costs) (f : ℕ → ℕ → ℕ) (r : Records) (y d : ℕ) where
+  abbrev holdingAt : ℕ → Bool
+  holdingAt e = r .ends e .holding
+
+  abbrev heldAt : ℕ → ℕ
+  heldAt e = heldLimit (r .ends e) (r .held e) d
+
   -- what the choice by the ends below n is
   abbrev byEnds : ℕ → Choice
   byEnds n =
-      choice (f y d) (ltb (firstBelow n (reaches g c f y d)) n) (atFirst (reaches g c f y d) n linkOf 0)
-      (atFirst (reaches g c f y d) n (λ e. isUp r e && heldSuffices f r y d e) false)
-      ((isNotDestination y d && hasPath f y d) && allBelow n (sentAllows g f r y d))
+      choice (f y d) (atFirst (reaches g c f y d) n heldAt 0) (atFirst (reaches g c f y d) n linkOf 0)
+      (atFirst (sentNotAbove g f r y d) n linkOf 0) (eqb y d) (ltb (firstBelow n (reaches g c f y d)) n)
+      (atFirst (reaches g c f y d) n (r .down) false) (atFirst (reaches g c f y d) n holdingAt false)
+      (ltb (firstBelow n (sentNotAbove g f r y d)) n)
 
   end-more : (n : ℕ) → cond (eqb (g .bridgeAt n) y) (choiceWith g c f r d n (byEnds n)) (byEnds n) ≡ byEnds (suc n)
-  unfolding choiceWith reaches sentAllows isUp heldSuffices
+  unfolding choiceWith reaches sentNotAbove isUp
   end-more n =
       next-if (byEnds n) _ _ _ _ _ _ _ (eqb (g .bridgeAt n) y)
       ∙ rw (
+        at-first-more (reaches g c f y d) heldAt 0 n,
         at-first-more (reaches g c f y d) linkOf 0 n,
-        at-first-more (reaches g c f y d) (λ e. isUp r e && heldSuffices f r y d e) false n,
+        at-first-more (reaches g c f y d) (r .down) false n,
+        at-first-more (reaches g c f y d) holdingAt false n,
+        at-first-more (sentNotAbove g f r y d) linkOf 0 n,
         found-more (reaches g c f y d) n,
-        allBelow-more n (sentAllows g f r y d),
+        found-more (sentNotAbove g f r y d) n,
         present-is,
-        and-assoc,
       )
 
   by-ends : (n : ℕ) → choiceBelow g c f r y d n ≡ byEnds n
-  unfolding choiceBelow firstChoice firstBelow isNotDestination hasPath
-  by-ends zero = rw (sym (allBelow-none (sentAllows g f r y d)), and-true)
+  unfolding choiceBelow firstChoice firstBelow
+  by-ends zero = refl
   by-ends (suc n) = rw (by-ends n) (end-more n)
 
-  by-port : portBy (byEnds (2 * g .links)) ≡ port g c f r y d
-  unfolding portBy port portFrom chosenEnd conditions everySentAllows
-  by-port = go (ltb (firstBelow (2 * g .links) (reaches g c f y d)) (2 * g .links)) refl
+  by-verdict : verdictBy (byEnds (2 * g .links)) ≡ verdict g c f r y d
+  unfolding verdictBy verdict verdictFrom firstOf chosenEnd isDestination hasNoPath hasNoLink holdsNothing heldTooGreat barringEnd isBarred
+  by-verdict = go (ltb e (2 * g .links)) (ltb k (2 * g .links)) refl refl
     where
+      e : ℕ
+      e = firstBelow (2 * g .links) (reaches g c f y d)
+
       k : ℕ
-      k = firstBelow (2 * g .links) (reaches g c f y d)
+      k = firstBelow (2 * g .links) (sentNotAbove g f r y d)
 
-      go : (b : Bool) → ltb k (2 * g .links) ≡ b → portBy (byEnds (2 * g .links)) ≡ portFrom g f r y d k
-      go true e = rw (e, every-more, every-more, every-more, every-more, every-more, every-none, in-order)
-      go false e = rw e
+      go : (b t : Bool) → ltb e (2 * g .links) ≡ b → ltb k (2 * g .links) ≡ t → verdictBy (byEnds (2 * g .links)) ≡ verdictFrom g f r y d e
+      go true true p q = rw (p, q)
+      go true false p q = rw (p, q)
+      go false t p q = rw p
 
-  -- its distance is the bridge's, and its link one of those so far
+  -- its distance is the bridge's, and its links are some of those so far
   pub choice-distance : (n : ℕ) → choiceBelow g c f r y d n .distance ≡ f y d
   choice-distance n = rw (by-ends n)
 
-  pub choice-link : (n : ℕ) → n ≤ 64 → choiceBelow g c f r y d n .link < 32
-  choice-link n few = rw (by-ends n) (go (ltb k n) refl)
+  first-link : (test : ℕ → Bool) (n : ℕ) → n ≤ 64 → atFirst test n linkOf 0 < 32
+  first-link test n few = go (ltb k n) refl
     where
       k : ℕ
-      k = firstBelow n (reaches g c f y d)
+      k = firstBelow n test
 
       go : (b : Bool) → ltb k n ≡ b → cond b (linkOf k) 0 < 32
       go true e = omega (arith, ltb-true k n e)
       go false e = omega arith
+
+  pub choice-links : (n : ℕ) → n ≤ 64 → (choiceBelow g c f r y d n .link < 32) × (choiceBelow g c f r y d n .barring < 32)
+  choice-links n few = rw (by-ends n) (first-link (reaches g c f y d) n few, first-link (sentNotAbove g f r y d) n few)
 
 -- ---- a loop over the ends
 
@@ -242,5 +263,5 @@ module _ (g : Graph) (c : Costs) (f : ℕ → ℕ → ℕ) (r : Records) (y d : 
   unfolding choiceBelow
   choice-away e apart = rw (add-one, ne-eqb (g .bridgeAt e) y apart)
 
-pub choice-is-port : ChoiceIsPort
-choice-is-port g c f r y d = rw (by-ends g c f r y d (2 * g .links)) (by-port g c f r y d)
+pub choice-is-verdict : ChoiceIsVerdict
+choice-is-verdict g c f r y d = rw (by-ends g c f r y d (2 * g .links)) (by-verdict g c f r y d)

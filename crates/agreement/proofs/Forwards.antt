@@ -1,26 +1,48 @@
--- The forwarding port says what document 01 does: it is open on the link of end e if and only if that link is the chosen one and every
--- condition holds. The bridge is y, the destination d, f the distances and c the costs of y's view. Assumes nothing.
+-- The chosen link and the verdict say what documents 01 and 02 do: the end that is found is the chosen link's, the verdict is so and no other is, and
+-- the port is open on a link if and only if the bridge forwards on it. The bridge is y, the destination d, f the distances and c the costs of y's view.
+-- Assumes nothing.
 use Prim.Native.Nat.{ℕ, _+_, _*_, _≤_, _<_}
-use mathlib.Core.Path.{_≡_, refl, sym, ap, _∙_}
+use mathlib.Core.Path.{_≡_, refl, sym, ap, subst, _∙_}
 use mathlib.Core.Logic.{inl, inr}
-use mathlib.Core.Bool.{Bool, true, false, cond, _&&_, not}
+use mathlib.Core.Bool.{Bool, true, false, cond, not}
 use native.Mathlib.Omega.{arith}
-use lib.Dec.{eqb, ltb}
-use borrow.Author.Tests.{eqb-true, eq-eqb, ne-eqb, ltb-true, lt-ltb, leb-true, le-leb, not-true}
+use lib.Dec.{eqb, leb, ltb}
+use borrow.Author.Tests.{eqb-true, eqb-false, eq-eqb, ne-eqb, ltb-true, ltb-false, lt-ltb, le-ltb, leb-true, le-leb, not-true, not-false}
 use Rattle.distances.specs.View.{Graph, Costs, NONE, InRange}
 use Rattle.distances.specs.Distance.{present, dist}
 use Rattle.distances.specs.Meaning.{Joins}
-use Rattle.distances.specs.Call.{every}
-use Rattle.distances.proofs.Booleans.{both-true, true-both, otherwise, due, unequal}
-use Rattle.distances.proofs.Ranges.{every-none, every-more, every-true, allBelow-true, true-allBelow}
+use Rattle.distances.proofs.Booleans.{both-true}
 use Rattle.distances.proofs.Laws.{next-hop}
 use Rattle.distances.proofs.Joined.{AreEnds, present-cost, cost-present}
 use Rattle.agreement.specs.Offer.{linkOf, farBridge}
 use Rattle.agreement.specs.Record.{heldLimit}
-use Rattle.agreement.specs.Forwarding.{Records, reaches, chosenEnd, isNotDestination, hasPath, isUp, heldSuffices, sentAllows, everySentAllows, conditions, portFrom, port}
-use Rattle.agreement.specs.Rule.{Reaches, IsChosen, Conditions, Forwards, EndsDiffer, PortFollowsRule}
+use Rattle.agreement.specs.Forwarding.{
+  Records,
+  UpAt,
+  reaches,
+  chosenEnd,
+  isUp,
+  isDestination,
+  hasNoPath,
+  hasNoLink,
+  holdsNothing,
+  heldTooGreat,
+  sentNotAbove,
+  barringEnd,
+  isBarred,
+  firstOf,
+  verdictFrom,
+  verdict,
+  portOf,
+  port,
+}
+use Rattle.agreement.specs.Rule.{Reaches, IsChosen, EndsDiffer, PortFollowsRule}
+use Rattle.agreement.specs.Rule as rule
+use Rattle.agreement.specs.Reasons.{Chooses, Bars, IsLowestBar, Says, VerdictIsSo, NoOtherVerdict}
 use Rattle.agreement.specs.declared.Port.{Port}
 use Rattle.agreement.specs.declared.Port.the-variants.{Closed, Open}
+use Rattle.agreement.specs.declared.Verdict.{Verdict}
+use Rattle.agreement.specs.declared.Verdict.the-variants.{IsDestination, NoPath, NoLink, LinkDown, NothingHeld, HeldTooGreat, SentNotAbove, Forwards}
 use Rattle.agreement.proofs.Firsts.{first-passes, first-at-most}
 
 module _ (g : Graph) (c : Costs) (f : ℕ → ℕ → ℕ) (y d : ℕ) where
@@ -91,84 +113,226 @@ module _ (g : Graph) (c : Costs) (f : ℕ → ℕ → ℕ) (y d : ℕ) where
       go (inl p) = (2 * l, omega (arith, listed), at (2 * l) (omega arith) (p .0) (ap (g .bridgeAt) (omega arith) ∙ p .1))
       go (inr p) = (2 * l + 1, omega (arith, listed), at (2 * l + 1) (omega arith) (p .1) (ap (g .bridgeAt) (omega arith) ∙ p .0))
 
+-- ---- the sent limits that are not above the distance
+
 module _ (g : Graph) (f : ℕ → ℕ → ℕ) (r : Records) (y d : ℕ) where
-  sent-told : everySentAllows g f r y d ≡ true → (k : ℕ) → k < 2 * g .links → g .bridgeAt k ≡ y → r .down k ≡ false → f y d < r .sent k d
-  unfolding everySentAllows sentAllows isUp
-  sent-told t k low own up =
-      ltb-true (f y d) (r .sent k d)
-      (otherwise (not (eqb (g .bridgeAt k) y && not (r .down k))) (ltb (f y d) (r .sent k d))
-      (allBelow-true (2 * g .links) (sentAllows g f r y d) t k low)
-      (rw (eq-eqb (g .bridgeAt k) y own, up)))
-
-  told-sent : ((k : ℕ) → k < 2 * g .links → g .bridgeAt k ≡ y → r .down k ≡ false → f y d < r .sent k d) → everySentAllows g f r y d ≡ true
-  unfolding everySentAllows sentAllows isUp
-  told-sent sent =
-      true-allBelow (2 * g .links) (sentAllows g f r y d)
-      (λ k low. due (eqb (g .bridgeAt k) y) (isUp r k) (ltb (f y d) (r .sent k d))
-      (λ own up. lt-ltb (f y d) (r .sent k d) (sent k low (eqb-true (g .bridgeAt k) y own) (not-true (r .down k) up))))
-
-  conditions-told : (e : ℕ) → every (conditions g f r y d e) ≡ true → Conditions g f r y d e
-  unfolding conditions isNotDestination hasPath isUp heldSuffices
-  conditions-told e t =
+  bars-told : (k : ℕ) → sentNotAbove g f r y d k ≡ true → Bars g f r y d k
+  unfolding sentNotAbove isUp
+  bars-told k t =
+      let one = both-true (eqb (g .bridgeAt k) y) _ t in
+      let two = both-true (isUp r k) (leb (r .sent k d) (f y d)) (one .1) in
       record {
-        notDestination = unequal y d (every-true 0 _ t);
-        hasPath = unequal (f y d) NONE (every-true 1 _ t);
-        up = not-true (r .down e) (every-true 2 _ t);
-        held = leb-true (heldLimit (r .ends e) (r .held e) d) (f y d) (every-true 3 _ t);
-        sent = sent-told (every-true 4 _ t);
+        own = eqb-true (g .bridgeAt k) y (one .0);
+        up = not-true (r .down k) (two .0);
+        limit = leb-true (r .sent k d) (f y d) (two .1);
       }
 
-  told-conditions : (e : ℕ) → Conditions g f r y d e → every (conditions g f r y d e) ≡ true
-  unfolding conditions isNotDestination hasPath isUp heldSuffices
-  told-conditions e a =
-      simp (
-        every-more,
-        every-none,
-        ne-eqb y d (a .notDestination),
-        ne-eqb (f y d) NONE (a .hasPath),
-        a .up,
-        le-leb (heldLimit (r .ends e) (r .held e) d) (f y d) (a .held),
-        told-sent (a .sent),
-      )
+  told-bars : (k : ℕ) → Bars g f r y d k → sentNotAbove g f r y d k ≡ true
+  unfolding sentNotAbove isUp
+  told-bars k b = rw (eq-eqb (g .bridgeAt k) y (b .own), b .up) (le-leb (r .sent k d) (f y d) (b .limit))
+
+  barring-at-most : (k : ℕ) → k < 2 * g .links → Bars g f r y d k → barringEnd g f r y d ≤ k
+  unfolding barringEnd
+  barring-at-most k h b = first-at-most (sentNotAbove g f r y d) (2 * g .links) k h (told-bars k b)
+
+  -- the end that is found is the lowest link's
+  barring-is : barringEnd g f r y d < 2 * g .links → IsLowestBar g f r y d (linkOf (barringEnd g f r y d)) (barringEnd g f r y d)
+  unfolding barringEnd
+  barring-is h =
+      record {
+        listed = h;
+        bars = bars-told (barringEnd g f r y d) (first-passes (sentNotAbove g f r y d) (2 * g .links) h);
+        link = refl;
+        lowest = λ j low b. omega (arith, barring-at-most j low b);
+      }
+
+  -- and on the link of any lowest one
+  barring-link : {l k : ℕ} → IsLowestBar g f r y d l k → (barringEnd g f r y d < 2 * g .links) × (linkOf (barringEnd g f r y d) ≡ l)
+  barring-link {l} {k} w =
+      let most : barringEnd g f r y d ≤ k = barring-at-most k (w .listed) (w .bars) in
+      let h : barringEnd g f r y d < 2 * g .links = omega (arith, w .listed) in
+      let least : linkOf k ≤ linkOf (barringEnd g f r y d) = w .lowest (barringEnd g f r y d) h (barring-is h .bars) in
+      (h, omega (arith, w .link))
+
+  -- where none bars, the distance is below the sent limit of every link that is up
+  none-bars : 2 * g .links ≤ barringEnd g f r y d → (k : ℕ) → k < 2 * g .links → g .bridgeAt k ≡ y → UpAt r k → f y d < r .sent k d
+  none-bars past k low own up = go (ltb (f y d) (r .sent k d)) refl
+    where
+      go : (b : Bool) → ltb (f y d) (r .sent k d) ≡ b → f y d < r .sent k d
+      go true e = ltb-true (f y d) (r .sent k d) e
+      go false e =
+          absurd
+          (omega (
+            arith,
+            past,
+            barring-at-most k low (record { own = own; up = up; limit = ltb-false (f y d) (r .sent k d) e }),
+          ))
+
+  bars-none : ((k : ℕ) → k < 2 * g .links → g .bridgeAt k ≡ y → UpAt r k → f y d < r .sent k d) → isBarred g f r y d ≡ false
+  unfolding isBarred
+  bars-none above = le-ltb (barringEnd g f r y d) (2 * g .links) (go (ltb (barringEnd g f r y d) (2 * g .links)) refl)
+    where
+      go : (b : Bool) → ltb (barringEnd g f r y d) (2 * g .links) ≡ b → 2 * g .links ≤ barringEnd g f r y d
+      go false e = ltb-false (barringEnd g f r y d) (2 * g .links) e
+      go true e =
+          let h : barringEnd g f r y d < 2 * g .links = ltb-true (barringEnd g f r y d) (2 * g .links) e in
+          let b = barring-is h .bars in
+          absurd (omega (arith, b .limit, above (barringEnd g f r y d) h (b .own) (b .up)))
+
+-- ---- the verdict is so
 
 module _ (g : Graph) (c : Costs) (f : ℕ → ℕ → ℕ) (r : Records) (y d : ℕ) where
-  pub open-forwards : (l : ℕ) → port g c f r y d ≡ Open l → Forwards g c f r y d l (chosenEnd g c f y d)
-  unfolding port portFrom
-  open-forwards l = go (ltb e (2 * g .links) && every (conditions g f r y d e)) refl
+  abbrev chosen : ℕ
+  chosen = chosenEnd g c f y d
+
+  -- no link reaches the distance
+  unreached : 2 * g .links ≤ chosen → (e : ℕ) → e < 2 * g .links → Reaches g c f y d e → ⊥
+  unreached past e low by = omega (arith, chosen-exists g c f y d e low by)
+
+  chooses : (y ≡ d → ⊥) → (f y d ≡ NONE → ⊥) → chosen < 2 * g .links → Chooses g c f y d (linkOf chosen) chosen
+  chooses apart some h = record { notDestination = apart; hasPath = some; chosen = chosen-is g c f y d h; link = refl }
+
+  -- by what the tests say
+  is-so :
+      (a b m w n t s : Bool) →
+      isDestination y d ≡ a →
+      hasNoPath f y d ≡ b →
+      hasNoLink g chosen ≡ m →
+      r .down chosen ≡ w →
+      holdsNothing r chosen ≡ n →
+      heldTooGreat f r y d chosen ≡ t →
+      isBarred g f r y d ≡ s →
+      Says g c f r y d (firstOf a b m w n t s (linkOf chosen) (linkOf (barringEnd g f r y d)))
+  unfolding firstOf isDestination hasNoPath hasNoLink holdsNothing heldTooGreat isBarred
+  is-so true b m w n t s p₁ p₂ p₃ p₄ p₅ p₆ p₇ = eqb-true y d p₁
+  is-so false true m w n t s p₁ p₂ p₃ p₄ p₅ p₆ p₇ = (eqb-false y d p₁, eqb-true (f y d) NONE p₂)
+  is-so false false true w n t s p₁ p₂ p₃ p₄ p₅ p₆ p₇ =
+      (eqb-false y d p₁, eqb-false (f y d) NONE p₂, unreached (ltb-false chosen (2 * g .links) (not-true _ p₃)))
+  is-so false false false w n t s p₁ p₂ p₃ p₄ p₅ p₆ p₇ =
+      go w n t s p₄ p₅ p₆ p₇ (chooses (eqb-false y d p₁) (eqb-false (f y d) NONE p₂) (ltb-true chosen (2 * g .links) (not-false _ p₃)))
     where
-      e : ℕ
-      e = chosenEnd g c f y d
+      limit : ℕ
+      limit = heldLimit (r .ends chosen) (r .held chosen) d
 
-      go : (b : Bool) → (ltb e (2 * g .links) && every (conditions g f r y d e)) ≡ b → cond b (Open (linkOf e)) Closed ≡ Open l → Forwards g c f r y d l e
-      go true t o =
-          let both = both-true (ltb e (2 * g .links)) _ t in
-          record {
-            chosen = chosen-is g c f y d (ltb-true e (2 * g .links) (both .0));
-            link = cc;
-            allowed = conditions-told g f r y d e (both .1);
-          }
-      go false t o = absurd (let z : _≡_ {A = ℕ} 0 1 = cc in omega arith)
-
-  pub forwards-open : EndsDiffer g → {l e : ℕ} → Forwards g c f r y d l e → port g c f r y d ≡ Open l
-  unfolding port portFrom
-  forwards-open differ {l} {e} w =
-      rw (
-        chosen-unique g c f y d differ e (w .chosen),
-        true-both (lt-ltb e (2 * g .links) (w .chosen .listed)) (told-conditions g f r y d e (w .allowed)),
+      go :
+          (w n t s : Bool) →
+          r .down chosen ≡ w →
+          not (r .ends chosen .holding) ≡ n →
+          ltb (f y d) limit ≡ t →
+          ltb (barringEnd g f r y d) (2 * g .links) ≡ s →
+          Chooses g c f y d (linkOf chosen) chosen →
+          Says g c f r y d (firstOf false false false w n t s (linkOf chosen) (linkOf (barringEnd g f r y d)))
+      go true n t s p₄ p₅ p₆ p₇ by = (chosen, by, p₄)
+      go false true t s p₄ p₅ p₆ p₇ by = (chosen, by, p₄, not-true _ p₅)
+      go false false true s p₄ p₅ p₆ p₇ by = (chosen, by, p₄, not-false _ p₅, ltb-true (f y d) limit p₆)
+      go false false false true p₄ p₅ p₆ p₇ by =
+          (chosen, by, p₄, record { something = not-false _ p₅; limit = ltb-false (f y d) limit p₆ }, (barringEnd g f r y d, barring-is g f r y d (ltb-true (barringEnd g f r y d) (2 * g .links) p₇)))
+      go false false false false p₄ p₅ p₆ p₇ by = (
+        chosen,
+        record {
+          chosen = by .chosen;
+          link = refl;
+          allowed =
+              record {
+                notDestination = by .notDestination;
+                hasPath = by .hasPath;
+                up = p₄;
+                held = ltb-false (f y d) limit p₆;
+                sent = none-bars g f r y d (ltb-false (barringEnd g f r y d) (2 * g .links) p₇);
+              };
+        },
       )
-      (ap Open (w .link))
+
+  verdict-says : Says g c f r y d (verdict g c f r y d)
+  unfolding verdict verdictFrom
+  verdict-says = is-so _ _ _ _ _ _ _ refl refl refl refl refl refl refl
+
+  -- ---- and no other is
+
+  module _ (differ : EndsDiffer g) where
+    -- before the chosen link
+    goes-on : {l e : ℕ} → Chooses g c f y d l e →
+        verdict g c f r y d ≡ firstOf false false false (r .down e) (holdsNothing r e) (heldTooGreat f r y d e) (isBarred g f r y d) l (linkOf (barringEnd g f r y d))
+    unfolding verdict verdictFrom isDestination hasNoPath hasNoLink
+    goes-on {l} {e} by =
+        rw (
+          chosen-unique g c f y d differ e (by .chosen),
+          ne-eqb y d (by .notDestination),
+          ne-eqb (f y d) NONE (by .hasPath),
+          lt-ltb e (2 * g .links) (by .chosen .listed),
+          by .link,
+        )
+
+    -- a limit that is at most a distance is that of a view held
+    held-told : f y d ≤ NONE → (f y d ≡ NONE → ⊥) → (e : ℕ) → heldLimit (r .ends e) (r .held e) d ≤ f y d → r .ends e .holding ≡ true
+    held-told most some e = go (r .ends e .holding) refl
+      where
+        go : (b : Bool) → r .ends e .holding ≡ b → cond b (r .held e d) NONE ≤ f y d → r .ends e .holding ≡ true
+        go true p h = p
+        go false p h = absurd (some (omega arith))
+
+    only : f y d ≤ NONE → (v : Verdict) → Says g c f r y d v → verdict g c f r y d ≡ v
+    unfolding verdict verdictFrom firstOf isDestination hasNoPath hasNoLink holdsNothing heldTooGreat isBarred
+    only most IsDestination w = rw (eq-eqb y d w)
+    only most NoPath w = rw (ne-eqb y d (w .0), eq-eqb (f y d) NONE (w .1))
+    only most NoLink w =
+        rw (ne-eqb y d (w .0), ne-eqb (f y d) NONE (w .1), le-ltb chosen (2 * g .links) (past (ltb chosen (2 * g .links)) refl))
+      where
+        past : (b : Bool) → ltb chosen (2 * g .links) ≡ b → 2 * g .links ≤ chosen
+        past false e = ltb-false chosen (2 * g .links) e
+        past true e =
+            let h : chosen < 2 * g .links = ltb-true chosen (2 * g .links) e in
+            absurd (w .2 chosen h (chosen-is g c f y d h .reaches))
+    only most (LinkDown l) w = goes-on (w .1) ∙ rw (w .2)
+    only most (NothingHeld l) w = goes-on (w .1) ∙ rw (w .2, w .3)
+    only most (HeldTooGreat l) w = goes-on (w .1) ∙ rw (w .2, lt-ltb (f y d) _ (w .4), w .3)
+    only most (SentNotAbove l) w =
+        let bar = barring-link g f r y d (w .4 .1) in
+        goes-on (w .1)
+        ∙ rw (w .2, le-ltb (f y d) _ (w .3 .limit), w .3 .something, lt-ltb (barringEnd g f r y d) (2 * g .links) (bar .0), bar .1)
+    only most (Forwards l) w =
+        let e : ℕ = w .0 in
+        let met = w .1 .allowed in
+        goes-on (record { notDestination = met .notDestination; hasPath = met .hasPath; chosen = w .1 .chosen; link = w .1 .link })
+        ∙ rw (met .up, le-ltb (f y d) _ (met .held), held-told most (met .hasPath) e (met .held), bars-none g f r y d (met .sent))
+
+pub verdict-is-so : VerdictIsSo
+verdict-is-so = verdict-says
+
+pub no-other-verdict : NoOtherVerdict
+no-other-verdict g differ c f r y d = only g c f r y d differ
+
+-- ---- the port
+
+-- it is open only where the verdict is that it forwards
+pub open-verdict : (v : Verdict) (l : ℕ) → portOf v ≡ Open l → v ≡ Forwards l
+open-verdict (Forwards k) l e = cc
+open-verdict IsDestination l e = absurd (let z : _≡_ {A = ℕ} 0 1 = cc in omega arith)
+open-verdict NoPath l e = absurd (let z : _≡_ {A = ℕ} 0 1 = cc in omega arith)
+open-verdict NoLink l e = absurd (let z : _≡_ {A = ℕ} 0 1 = cc in omega arith)
+open-verdict (LinkDown k) l e = absurd (let z : _≡_ {A = ℕ} 0 1 = cc in omega arith)
+open-verdict (NothingHeld k) l e = absurd (let z : _≡_ {A = ℕ} 0 1 = cc in omega arith)
+open-verdict (HeldTooGreat k) l e = absurd (let z : _≡_ {A = ℕ} 0 1 = cc in omega arith)
+open-verdict (SentNotAbove k) l e = absurd (let z : _≡_ {A = ℕ} 0 1 = cc in omega arith)
+
+module _ (g : Graph) (c : Costs) (f : ℕ → ℕ → ℕ) (r : Records) (y d : ℕ) where
+  pub open-forwards : (l : ℕ) → port g c f r y d ≡ Open l → (e : ℕ) × rule.Forwards g c f r y d l e
+  open-forwards l is = subst (Says g c f r y d) (open-verdict (verdict g c f r y d) l is) (verdict-is-so g c f r y d)
+
+  pub forwards-open : EndsDiffer g → f y d ≤ NONE → {l e : ℕ} → rule.Forwards g c f r y d l e → port g c f r y d ≡ Open l
+  forwards-open differ most {l} {e} w = ap portOf (no-other-verdict g differ c f r y d most (Forwards l) (e, w))
 
   -- a port is closed or open
-  none-closed : ((l e : ℕ) → Forwards g c f r y d l e → ⊥) → port g c f r y d ≡ Closed
+  none-closed : ((l e : ℕ) → rule.Forwards g c f r y d l e → ⊥) → port g c f r y d ≡ Closed
   none-closed none = go (port g c f r y d) refl
     where
       go : (p : Port) → port g c f r y d ≡ p → port g c f r y d ≡ Closed
       go Closed t = t
-      go (Open l) t = absurd (none l _ (open-forwards l t))
+      go (Open l) t = let by = open-forwards l t in absurd (none l (by .0) (by .1))
 
 pub port-follows-rule : PortFollowsRule
-port-follows-rule g differ c f r y d =
-    (λ l h. (chosenEnd g c f y d, open-forwards g c f r y d l h), λ l w. forwards-open g c f r y d differ (w .1), none-closed g c f r y d)
+port-follows-rule g differ c f r y d most =
+    (open-forwards g c f r y d, λ l w. forwards-open g c f r y d differ most (w .1), none-closed g c f r y d)
 
 -- a bridge with a path to another has a chosen link
 pub chosen-for-path :

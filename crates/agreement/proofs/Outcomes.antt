@@ -1,9 +1,8 @@
 -- What each call comes to where its input is in range, and where it is not. Assumes nothing.
-use Prim.Native.Nat.{ℕ, _≤_, _<_}
+use Prim.Native.Nat.{ℕ}
 use mathlib.Core.Path.{_≡_}
 use mathlib.Core.Bool.{Bool, true, false, _&&_}
 use mathlib.Core.List.{List}
-use borrow.Author.Tests.{lt-ltb, le-ltb}
 use lib.ListN.{length}
 use lib.Dec.{leb, ltb}
 use Rattle.distances.specs.View.{NONE, maxCost, costsOf}
@@ -12,9 +11,9 @@ use Rattle.agreement.specs.Offer.{opposite}
 use Rattle.agreement.specs.Record.{freshRecord, updated, sentUpdated, heldUpdated, carried, answer, recorded, sentDelivered, heldDelivered}
 use Rattle.agreement.specs.Limits.{withLimits}
 use Rattle.agreement.specs.Ranges.{isView, recordInRange, deliveryInRange, portInRange}
-use Rattle.agreement.specs.Forwarding.{port}
-use Rattle.agreement.specs.Call.{ViewData, lentGraph, lentOffer, lentEndInRange, lentRecords, outcome, says, refused, freshOutcome, updateOutcome, carryOutcome, deliverOutcome, portOutcome}
-use Rattle.agreement.specs.Choice.{nextChoice, portBy, nextOutcome, choiceOutcome}
+use Rattle.agreement.specs.Forwarding.{verdict}
+use Rattle.agreement.specs.Call.{ViewData, lentGraph, lentOffer, lentEndInRange, lentRecords, outcome, says, refused, freshOutcome, updateOutcome, carryOutcome, deliverOutcome, verdictOutcome}
+use Rattle.agreement.specs.Choice.{nextChoice, verdictBy, nextOutcome, choiceOutcome}
 use Rattle.agreement.specs.declared.EndRecord.{EndRecord}
 use Rattle.agreement.specs.declared.Agreement.{Agreement}
 use Rattle.agreement.specs.declared.Choice.{Choice}
@@ -87,26 +86,27 @@ module _ (old : Choice) (link cost far : ℕ) (down holding : Bool) (sent held :
   unfolding nextOutcome
   next-refused ok = rw ok
 
-pub choice-accepted : (c : Choice) → c .link < 32 → choiceOutcome c ≡ says (portBy c)
-unfolding choiceOutcome
-choice-accepted c low = rw (lt-ltb (c .link) 32 low)
+module _ (c : Choice) where
+  pub choice-accepted : (ltb (c .link) 32 && ltb (c .barring) 32) ≡ true → choiceOutcome c ≡ says (verdictBy c)
+  unfolding choiceOutcome
+  choice-accepted ok = rw ok
 
-pub choice-refused : (c : Choice) → 32 ≤ c .link → choiceOutcome c ≡ refused
-unfolding choiceOutcome
-choice-refused c high = rw (le-ltb (c .link) 32 high)
+  pub choice-refused : (ltb (c .link) 32 && ltb (c .barring) 32) ≡ false → choiceOutcome c ≡ refused
+  unfolding choiceOutcome
+  choice-refused ok = rw ok
 
--- the forwarding port
+-- the verdict on a port
 module _ (v : ViewData) (views : ℕ) (down : List Bool) (records : List EndRecord) (sent held : List ℕ) (y d : ℕ) where
   abbrev pub portReady : Bool
   portReady = portInRange (v .bridges) (v .links) (v .ends) (v .costs) (v .table) views records (length sent) (length held) y d
 
-  pub port-accepted :
+  pub verdict-accepted :
       portReady ≡ true →
-      portOutcome v views down records sent held y d
-      ≡ says (port (lentGraph v) (costsOf (v .costs)) (cell (v .table)) (lentRecords down records sent held) y d)
-  unfolding portOutcome
-  port-accepted ok = rw ok
+      verdictOutcome v views down records sent held y d
+      ≡ says (verdict (lentGraph v) (costsOf (v .costs)) (cell (v .table)) (lentRecords down records sent held) y d)
+  unfolding verdictOutcome
+  verdict-accepted ok = rw ok
 
-  pub port-refused : portReady ≡ false → portOutcome v views down records sent held y d ≡ refused
-  unfolding portOutcome
-  port-refused ok = rw ok
+  pub verdict-refused : portReady ≡ false → verdictOutcome v views down records sent held y d ≡ refused
+  unfolding verdictOutcome
+  verdict-refused ok = rw ok

@@ -1,19 +1,16 @@
--- A forwarding port depends only on the distances of the bridges that there are, the costs of the links, and what stands at
+-- The verdict on a port, and so the port, depends only on the distances of the bridges that there are, the costs of the links, and what stands at
 -- their ends for the destination. Assumes nothing.
 use Prim.Native.Nat.{ℕ, _*_, _<_}
 use native.Mathlib.Omega.{arith}
 use mathlib.Core.Path.{_≡_, refl}
-use mathlib.Core.Bool.{Bool, true, false, cond, _&&_}
+use mathlib.Core.Bool.{Bool, true, false}
 use borrow.Author.Tests.{ltb-true}
 use lib.Dec.{ltb}
 use Rattle.distances.specs.View.{Graph, Costs, InRange}
-use Rattle.distances.specs.Call.{every}
 use Rattle.distances.proofs.Joined.{present-same}
 use Rattle.agreement.specs.Offer.{linkOf, opposite, farBridge}
-use Rattle.agreement.specs.Forwarding.{Records, reaches, chosenEnd, hasPath, isUp, heldSuffices, sentAllows, everySentAllows, conditions, portFrom, port}
-use Rattle.agreement.specs.declared.Port.the-variants.{Closed, Open}
+use Rattle.agreement.specs.Forwarding.{Records, reaches, chosenEnd, isUp, hasNoPath, hasNoLink, holdsNothing, heldTooGreat, sentNotAbove, barringEnd, isBarred, firstOf, verdictFrom, verdict}
 use Rattle.agreement.proofs.Firsts.{first-cong}
-use Rattle.agreement.proofs.Basics.{all-cong}
 use Rattle.agreement.proofs.Ends.{opposite-below, bridge-in-range}
 
 -- what a port for d looks at is the same
@@ -48,28 +45,22 @@ module _
   unfolding chosenEnd
   chosen-same = first-cong (2 * g .links) (reaches g c f y d) (reaches g k h y d) reaches-same
 
-  sent-same : everySentAllows g f r y d ≡ everySentAllows g h q y d
-  unfolding everySentAllows sentAllows isUp
-  sent-same =
-      all-cong (2 * g .links) (sentAllows g f r y d) (sentAllows g h q y d)
+  barring-same : barringEnd g f r y d ≡ barringEnd g h q y d
+  unfolding barringEnd sentNotAbove isUp
+  barring-same =
+      first-cong (2 * g .links) (sentNotAbove g f r y d) (sentNotAbove g h q y d)
       (λ e he. rw (same .down e he, same .distances y low, same .sent e he))
 
-  conditions-same : (e : ℕ) → e < 2 * g .links → conditions g f r y d e ≡ conditions g h q y d e
-  unfolding conditions hasPath isUp heldSuffices
-  conditions-same e he =
-      rw (same .distances y low, same .down e he, same .ends e he, same .held e he, sent-same)
-
-  port-from-same : (e : ℕ) → portFrom g f r y d e ≡ portFrom g h q y d e
-  unfolding portFrom
-  port-from-same e = go (ltb e (2 * g .links)) refl
+  verdict-from-same : (e : ℕ) → verdictFrom g f r y d e ≡ verdictFrom g h q y d e
+  unfolding verdictFrom firstOf hasNoPath hasNoLink holdsNothing heldTooGreat isBarred
+  verdict-from-same e = go (ltb e (2 * g .links)) refl
     where
-      go :
-          (b : Bool) →
-          ltb e (2 * g .links) ≡ b →
-          cond (b && every (conditions g f r y d e)) (Open (linkOf e)) Closed ≡ cond (b && every (conditions g h q y d e)) (Open (linkOf e)) Closed
-      go true w = rw (conditions-same e (ltb-true e (2 * g .links) w))
-      go false w = refl
+      go : (b : Bool) → ltb e (2 * g .links) ≡ b → verdictFrom g f r y d e ≡ verdictFrom g h q y d e
+      go true w =
+          let he : e < 2 * g .links = ltb-true e (2 * g .links) w in
+          rw (same .distances y low, same .down e he, same .ends e he, same .held e he, barring-same)
+      go false w = rw (w, same .distances y low)
 
-  pub port-cong : port g c f r y d ≡ port g k h q y d
-  unfolding port
-  port-cong = rw chosen-same (port-from-same (chosenEnd g k h y d))
+  pub verdict-cong : verdict g c f r y d ≡ verdict g k h q y d
+  unfolding verdict
+  verdict-cong = rw chosen-same (verdict-from-same (chosenEnd g k h y d))

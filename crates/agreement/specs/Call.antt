@@ -2,7 +2,7 @@
 use Prim.Native.Nat.{ℕ, _*_, _<_, min}
 use mathlib.Core.Path.{_≡_}
 use mathlib.Core.Bool.{Bool, true, false, cond, _&&_}
-use mathlib.Core.List.{List, [], _∷_}
+use mathlib.Core.List.{List, [], _∷_, map}
 use lib.ListN.{length, getD}
 use lib.Dec.{ltb}
 use Rattle.distances.specs.View.{Graph, NONE, graphOf, costsOf}
@@ -11,7 +11,7 @@ use Rattle.distances.specs.Distance.{dist}
 use Rattle.agreement.specs.Offer.{opposite, offer}
 use Rattle.agreement.specs.Record.{freshRecord, updated, sentUpdated, heldUpdated, carried, answer, recorded, sentDelivered, heldDelivered}
 use Rattle.agreement.specs.Limits.{withLimits}
-use Rattle.agreement.specs.Forwarding.{Records, port}
+use Rattle.agreement.specs.Forwarding.{Records, verdict, portOf}
 use Rattle.agreement.specs.Ranges.{viewInRange, isView, recordInRange, endInRange, deliveryInRange, portInRange}
 use Rattle.agreement.specs.declared.EndRecord.{EndRecord}
 use Rattle.agreement.specs.declared.Agreement.{Agreement}
@@ -22,6 +22,8 @@ use Rattle.agreement.specs.declared.Offered.{Offered}
 use Rattle.agreement.specs.declared.Carrying.{Carrying}
 use Rattle.agreement.specs.declared.Reaction.{Reaction}
 use Rattle.agreement.specs.declared.Forwarding.{Forwarding}
+use Rattle.agreement.specs.declared.Verdict.{Verdict}
+use Rattle.agreement.specs.declared.VerdictReply.{VerdictReply}
 
 -- what a reply says: document 01's number, 0 where the call is not refused, and the value that it brings
 pub record Response (A : Type 0) : Type 0 where
@@ -34,6 +36,10 @@ refused = record { number = 17; value = [] }
 
 abbrev pub says : {A : Type 0} → A → Response A
 says x = record { number = 0; value = x ∷ [] }
+
+-- the same reply with f of the value
+abbrev pub mapped : {A B : Type 0} → (A → B) → Response A → Response B
+mapped f s = record { number = s .number; value = map f (s .value) }
 
 -- each enum's cases
 abbrev pub number : Reply → ℕ
@@ -55,6 +61,10 @@ reactionResponse (Reaction.Answered a) = says a
 abbrev pub forwardingResponse : Forwarding → Response Port
 forwardingResponse Forwarding.Refused = refused
 forwardingResponse (Forwarding.Found p) = says p
+
+abbrev pub verdictResponse : VerdictReply → Response Verdict
+verdictResponse VerdictReply.Refused = refused
+verdictResponse (VerdictReply.Found v) = says v
 
 -- A view as it is lent: the graph, its costs, and a table that holds its distances
 pub record ViewData : Type 0 where
@@ -148,13 +158,17 @@ deliverOutcome v views t n e r m sent held =
     (withLimits (v .bridges) e (heldDelivered t r m (lentOffer v (opposite e)) (cell held e)) held))
     (outcome refused r sent held)
 
--- The forwarding port of bridge y for destination d, y being on the lent view: flags, records and limits by end
+-- The verdict on the port of bridge y for destination d, y being on the lent view: flags, records and limits by end
 abbrev pub lentRecords : List Bool → List EndRecord → List ℕ → List ℕ → Records
 lentRecords down records sent held =
     record { down = λ e. getD down e false; ends = λ e. getD records e freshRecord; sent = cell sent; held = cell held }
 
-unfoldable pub portOutcome : ViewData → ℕ → List Bool → List EndRecord → List ℕ → List ℕ → ℕ → ℕ → Response Port
-portOutcome v views down records sent held y d =
+unfoldable pub verdictOutcome : ViewData → ℕ → List Bool → List EndRecord → List ℕ → List ℕ → ℕ → ℕ → Response Verdict
+verdictOutcome v views down records sent held y d =
     cond (portInRange (v .bridges) (v .links) (v .ends) (v .costs) (v .table) views records (length sent) (length held) y d)
-    (says (port (lentGraph v) (costsOf (v .costs)) (cell (v .table)) (lentRecords down records sent held) y d))
+    (says (verdict (lentGraph v) (costsOf (v .costs)) (cell (v .table)) (lentRecords down records sent held) y d))
     refused
+
+-- The forwarding port
+abbrev pub portOutcome : ViewData → ℕ → List Bool → List EndRecord → List ℕ → List ℕ → ℕ → ℕ → Response Port
+portOutcome v views down records sent held y d = mapped portOf (verdictOutcome v views down records sent held y d)

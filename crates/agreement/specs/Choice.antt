@@ -1,24 +1,34 @@
 -- The forwarding choice of a bridge for a destination, made of its ends one after another, the lowest first (document 01,
--- "Forwarding"; document 02, Change 1), and the claim that it is the forwarding port. A choice has the bridge's distance in its view; whether some end
--- reaches it ("whose cost plus far bridge's distance equals Y's distance"), and the link of the first; whether that link may be used;
--- and whether all else allows the bridge to forward. Assumes nothing.
+-- "Forwarding"; document 02, Changes 1 and 2), and the claim that it comes to the verdict of the forwarding rule. A choice has the bridge's distance in its view and
+-- whether it is the destination; whether some end reaches the distance ("whose cost plus far bridge's distance equals Y's distance"), with what the rule
+-- asks of the first such end; and whether the sent limit of some end is not above the distance, with the link of the first. Assumes nothing.
 use Prim.Native.Nat.{ℕ, zero, suc, _+_, _*_}
 use mathlib.Core.Path.{_≡_}
 use mathlib.Core.Bool.{Bool, false, cond, _&&_, _||_, not}
 use lib.Dec.{eqb, leb, ltb}
 use Rattle.distances.specs.View.{Graph, Costs, NONE, maxCost}
 use Rattle.agreement.specs.Offer.{linkOf, farBridge}
-use Rattle.agreement.specs.Forwarding.{Records, isDown, port}
+use Rattle.agreement.specs.Forwarding.{Records, isDown, firstOf, verdict, portOf}
 use Rattle.agreement.specs.Call.{Response, says, refused}
 use Rattle.agreement.specs.declared.Port.{Port}
-use Rattle.agreement.specs.declared.Port.the-variants.{Closed, Open}
+use Rattle.agreement.specs.declared.Verdict.{Verdict}
 use Rattle.agreement.specs.declared.Choice.{Choice}
 use Rattle.agreement.specs.declared.Chosen.{Chosen}
 
--- before any end: "Y is not the destination and its distance is not NONE"
+-- before any end
 unfoldable pub firstChoice : ℕ → Bool → Choice
 firstChoice distance isDestination =
-    record { distance = distance; found = false; link = 0; usable = false; allowed = not isDestination && not (eqb distance NONE) }
+    record {
+      distance = distance;
+      held = 0;
+      link = 0;
+      barring = 0;
+      destination = isDestination;
+      found = false;
+      down = false;
+      holding = false;
+      barred = false;
+    }
 
 -- does a link of this cost, 0 being absent, to a far bridge at this distance reach the bridge's distance
 abbrev pub reachesDistance : Choice → ℕ → ℕ → Bool
@@ -28,23 +38,39 @@ reachesDistance old cost far = not (eqb cost 0) && eqb (cost + far) (old .distan
 abbrev pub becomesChosen : Choice → ℕ → ℕ → Bool
 becomesChosen old cost far = not (old .found) && reachesDistance old cost far
 
+-- is its sent limit not above the bridge's distance, and the link up at the bridge's end
+abbrev pub bars : Choice → Bool → ℕ → Bool
+bars old down sent = not down && leb sent (old .distance)
+
+-- is it the first such link
+abbrev pub becomesBarring : Choice → Bool → ℕ → Bool
+becomesBarring old down sent = not (old .barred) && bars old down sent
+
 -- with one end more of the bridge: its link, the link's cost and the far bridge's distance in the bridge's view, whether the link is down
--- at the bridge's end, whether a view is held from the neighbour, and the sent and held limits for the destination.
--- "the link is not cut; its held limit is at most Y's distance", of the chosen one;
--- "and Y's distance is below the sent limit of every uncut link of Y"; uncut is up at the bridge's own end
+-- at the bridge's end, whether a view is held from the neighbour, and the sent and held limits for the destination; "held limit": NONE if none is held
 unfoldable pub nextChoice : Choice → ℕ → ℕ → ℕ → Bool → Bool → ℕ → ℕ → Choice
 nextChoice old link cost far down holding sent held =
     record {
       distance = old .distance;
-      found = old .found || reachesDistance old cost far;
+      held = cond (becomesChosen old cost far) (cond holding held NONE) (old .held);
       link = cond (becomesChosen old cost far) link (old .link);
-      usable = cond (becomesChosen old cost far) (not down && leb (cond holding held NONE) (old .distance)) (old .usable);
-      allowed = old .allowed && (down || ltb (old .distance) sent);
+      barring = cond (becomesBarring old down sent) link (old .barring);
+      destination = old .destination;
+      found = old .found || reachesDistance old cost far;
+      down = cond (becomesChosen old cost far) down (old .down);
+      holding = cond (becomesChosen old cost far) holding (old .holding);
+      barred = old .barred || bars old down sent;
     }
 
--- the port by the ends so far
-unfoldable pub portBy : Choice → Port
-portBy c = cond (c .found && (c .usable && c .allowed)) (Open (c .link)) Closed
+-- the verdict by the ends so far
+unfoldable pub verdictBy : Choice → Verdict
+verdictBy c =
+    firstOf (c .destination) (eqb (c .distance) NONE) (not (c .found)) (c .down) (not (c .holding)) (ltb (c .distance) (c .held)) (c .barred)
+    (c .link) (c .barring)
+
+-- and the port
+abbrev pub portBy : Choice → Port
+portBy c = portOf (verdictBy c)
 
 -- what the calls answer: 17 for a link or a cost out of document 01's ranges
 abbrev pub chosenResponse : Chosen → Response Choice
@@ -55,8 +81,9 @@ unfoldable pub nextOutcome : Choice → ℕ → ℕ → ℕ → Bool → Bool �
 nextOutcome old link cost far down holding sent held =
     cond (ltb link 32 && leb cost maxCost) (says (nextChoice old link cost far down holding sent held)) refused
 
-unfoldable pub choiceOutcome : Choice → Response Port
-choiceOutcome c = cond (ltb (c .link) 32) (says (portBy c)) refused
+-- and for a choice handed in with such a link
+unfoldable pub choiceOutcome : Choice → Response Verdict
+choiceOutcome c = cond (ltb (c .link) 32 && ltb (c .barring) 32) (says (verdictBy c)) refused
 
 -- the choice with end e of a bridge
 unfoldable pub choiceWith : Graph → Costs → (ℕ → ℕ → ℕ) → Records → ℕ → ℕ → Choice → Choice
@@ -69,8 +96,8 @@ choiceBelow g c f r y d zero = firstChoice (f y d) (eqb y d)
 choiceBelow g c f r y d (suc e) =
     cond (eqb (g .bridgeAt e) y) (choiceWith g c f r d e (choiceBelow g c f r y d e)) (choiceBelow g c f r y d e)
 
--- by all ends it is the port that the other contracts speak of
-abbrev pub ChoiceIsPort : Type 0
-ChoiceIsPort =
+-- by all ends it comes to the verdict that the other contracts speak of
+abbrev pub ChoiceIsVerdict : Type 0
+ChoiceIsVerdict =
     (g : Graph) (c : Costs) (f : ℕ → ℕ → ℕ) (r : Records) (y d : ℕ) →
-    portBy (choiceBelow g c f r y d (2 * g .links)) ≡ port g c f r y d
+    verdictBy (choiceBelow g c f r y d (2 * g .links)) ≡ verdict g c f r y d

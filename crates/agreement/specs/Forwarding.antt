@@ -1,20 +1,20 @@
--- The chosen link of a bridge and whether the bridge forwards on it (document 01, "Forwarding"; document 02, Change 1). The bridge is y, the destination d,
--- f the distances and c the costs of y's view. An end at y stands for its link: the lowest end is on the lowest-numbered link.
+-- The chosen link of a bridge, whether the bridge forwards on it, and if not, why (document 01, "Forwarding"; document 02, Changes 1 and 2). The bridge is
+-- y, the destination d, f the distances and c the costs of y's view. An end at y stands for its link: the lowest end is on the lowest-numbered link.
 -- Assumes nothing.
 use Prim.Native.Nat.{ℕ, _+_, _*_}
 use mathlib.Core.Path.{_≡_}
-use mathlib.Core.Bool.{Bool, true, false, cond, _&&_, _||_, not}
-use mathlib.Core.List.{List, [], _∷_}
+use mathlib.Core.Bool.{Bool, true, false, cond, _&&_, not}
 use lib.Dec.{eqb, leb, ltb}
 use Rattle.distances.specs.View.{Graph, Costs, NONE}
 use Rattle.distances.specs.Distance.{present}
-use Rattle.distances.specs.Call.{every, allBelow}
 use Rattle.agreement.specs.Tests.{firstBelow}
 use Rattle.agreement.specs.Offer.{linkOf, farBridge}
 use Rattle.agreement.specs.Record.{heldLimit}
 use Rattle.agreement.specs.declared.EndRecord.{EndRecord}
 use Rattle.agreement.specs.declared.Port.{Port}
 use Rattle.agreement.specs.declared.Port.the-variants.{Closed, Open}
+use Rattle.agreement.specs.declared.Verdict.{Verdict}
+use Rattle.agreement.specs.declared.Verdict.the-variants.{IsDestination, NoPath, NoLink, LinkDown, NothingHeld, HeldTooGreat, SentNotAbove, Forwards}
 
 -- what a bridge knows of its links, by its end of each: whether it is down, its record, and by destination its "sent limits" and "held
 -- limits"
@@ -45,31 +45,72 @@ reaches g c f y d e = eqb (g .bridgeAt e) y && (present c (linkOf e) && eqb (c (
 unfoldable pub chosenEnd : Graph → Costs → (ℕ → ℕ → ℕ) → ℕ → ℕ → ℕ
 chosenEnd g c f y d = firstBelow (2 * g .links) (reaches g c f y d)
 
--- one test for each condition
-unfoldable pub isNotDestination : ℕ → ℕ → Bool
-isNotDestination y d = not (eqb y d)
+-- ---- what holds the port shut, a test for each condition in document 02's order (Change 2); e is the chosen link's end
 
-unfoldable pub hasPath : (ℕ → ℕ → ℕ) → ℕ → ℕ → Bool
-hasPath f y d = not (eqb (f y d) NONE)
+-- "is the destination"
+unfoldable pub isDestination : ℕ → ℕ → Bool
+isDestination y d = eqb y d
 
-unfoldable pub heldSuffices : (ℕ → ℕ → ℕ) → Records → ℕ → ℕ → ℕ → Bool
-heldSuffices f r y d e = leb (heldLimit (r .ends e) (r .held e) d) (f y d)
+-- "no path": the distance is NONE
+unfoldable pub hasNoPath : (ℕ → ℕ → ℕ) → ℕ → ℕ → Bool
+hasNoPath f y d = eqb (f y d) NONE
 
--- at an end of the bridge that is up the distance is below the sent limit
-unfoldable pub sentAllows : Graph → (ℕ → ℕ → ℕ) → Records → ℕ → ℕ → ℕ → Bool
-sentAllows g f r y d e = not (eqb (g .bridgeAt e) y && isUp r e) || ltb (f y d) (r .sent e d)
+-- no link reaches the distance, which is never so of a view's own distances
+unfoldable pub hasNoLink : Graph → ℕ → Bool
+hasNoLink g e = not (ltb e (2 * g .links))
 
-unfoldable pub everySentAllows : Graph → (ℕ → ℕ → ℕ) → Records → ℕ → ℕ → Bool
-everySentAllows g f r y d = allBelow (2 * g .links) (sentAllows g f r y d)
+-- "chosen link down at this end" is `isDown`
 
--- the conditions under which y forwards on the link of end e
-unfoldable pub conditions : Graph → (ℕ → ℕ → ℕ) → Records → ℕ → ℕ → ℕ → List Bool
-conditions g f r y d e =
-    isNotDestination y d ∷ hasPath f y d ∷ isUp r e ∷ heldSuffices f r y d e ∷ everySentAllows g f r y d ∷ []
+-- "nothing held"
+unfoldable pub holdsNothing : Records → ℕ → Bool
+holdsNothing r e = not (r .ends e .holding)
 
--- the forwarding port of y for d: the chosen link, if there is one and all conditions hold
-unfoldable pub portFrom : Graph → (ℕ → ℕ → ℕ) → Records → ℕ → ℕ → ℕ → Port
-portFrom g f r y d e = cond (ltb e (2 * g .links) && every (conditions g f r y d e)) (Open (linkOf e)) Closed
+-- "held limit too great"
+unfoldable pub heldTooGreat : (ℕ → ℕ → ℕ) → Records → ℕ → ℕ → ℕ → Bool
+heldTooGreat f r y d e = ltb (f y d) (heldLimit (r .ends e) (r .held e) d)
 
-unfoldable pub port : Graph → Costs → (ℕ → ℕ → ℕ) → Records → ℕ → ℕ → Port
-port g c f r y d = portFrom g f r y d (chosenEnd g c f y d)
+-- "sent limit not above the distance", at an end of the bridge that is up
+unfoldable pub sentNotAbove : Graph → (ℕ → ℕ → ℕ) → Records → ℕ → ℕ → ℕ → Bool
+sentNotAbove g f r y d k = eqb (g .bridgeAt k) y && (isUp r k && leb (r .sent k d) (f y d))
+
+-- the lowest such end, or 2 × links where there is none
+unfoldable pub barringEnd : Graph → (ℕ → ℕ → ℕ) → Records → ℕ → ℕ → ℕ
+barringEnd g f r y d = firstBelow (2 * g .links) (sentNotAbove g f r y d)
+
+unfoldable pub isBarred : Graph → (ℕ → ℕ → ℕ) → Records → ℕ → ℕ → Bool
+isBarred g f r y d = ltb (barringEnd g f r y d) (2 * g .links)
+
+-- ---- the verdict: "the first of these that applies", and otherwise "that the port forwards, and which"
+
+-- by what the tests say, the chosen link and the lowest link whose sent limit is not above the distance
+unfoldable pub firstOf : Bool → Bool → Bool → Bool → Bool → Bool → Bool → ℕ → ℕ → Verdict
+firstOf destination noPath noLink down nothing tooGreat barred chosen barring =
+    cond destination IsDestination
+    (cond noPath NoPath
+    (cond noLink NoLink
+    (cond down (LinkDown chosen)
+    (cond nothing (NothingHeld chosen)
+    (cond tooGreat (HeldTooGreat chosen)
+    (cond barred (SentNotAbove barring) (Forwards chosen)))))))
+
+unfoldable pub verdictFrom : Graph → (ℕ → ℕ → ℕ) → Records → ℕ → ℕ → ℕ → Verdict
+verdictFrom g f r y d e =
+    firstOf (isDestination y d) (hasNoPath f y d) (hasNoLink g e) (isDown r e) (holdsNothing r e) (heldTooGreat f r y d e) (isBarred g f r y d)
+    (linkOf e) (linkOf (barringEnd g f r y d))
+
+unfoldable pub verdict : Graph → Costs → (ℕ → ℕ → ℕ) → Records → ℕ → ℕ → Verdict
+verdict g c f r y d = verdictFrom g f r y d (chosenEnd g c f y d)
+
+-- the forwarding port: open exactly where the verdict is that it forwards
+abbrev pub portOf : Verdict → Port
+portOf IsDestination = Closed
+portOf NoPath = Closed
+portOf NoLink = Closed
+portOf (LinkDown l) = Closed
+portOf (NothingHeld l) = Closed
+portOf (HeldTooGreat l) = Closed
+portOf (SentNotAbove l) = Closed
+portOf (Forwards l) = Open l
+
+abbrev pub port : Graph → Costs → (ℕ → ℕ → ℕ) → Records → ℕ → ℕ → Port
+port g c f r y d = portOf (verdict g c f r y d)

@@ -5,6 +5,7 @@ pub mod Record
 pub mod Limits
 pub mod Forwarding
 pub mod Rule
+pub mod Reasons
 pub mod Ranges
 pub mod Steps
 pub mod Call

@@ -11,8 +11,10 @@ use crate::Reaction;
 use crate::Received;
 use crate::Reply;
 use crate::Rewrite;
+use crate::VerdictReply;
 use crate::between::deliver_between;
 use crate::between::update_between;
+use crate::choices::port_of;
 use crate::ports;
 use crate::ready;
 use crate::rows;
@@ -23,7 +25,7 @@ ghost use mathlib.Core.Path.{_≡_};
 ghost use Rattle.agreement.specs.Ranges.{endInRange};
 ghost use Rattle.agreement.specs.Record.{freshRecord};
 ghost use Rattle.agreement.specs.Update.{bridgeUpdateResponse, bridgeUpdateOutcome};
-ghost use Rattle.agreement.specs.Call.{viewData, outcome, number, offeredResponse, carryingResponse, reactionResponse, forwardingResponse, offerOutcome, freshOutcome, updateOutcome, carryOutcome, deliverOutcome, portOutcome};
+ghost use Rattle.agreement.specs.Call.{viewData, outcome, number, offeredResponse, carryingResponse, reactionResponse, forwardingResponse, verdictResponse, offerOutcome, freshOutcome, updateOutcome, carryOutcome, deliverOutcome, verdictOutcome, portOutcome};
 
 // The record of a fresh end.
 pub fn fresh_record() -> EndRecord
@@ -278,8 +280,56 @@ pub fn deliver_end(
     }
 }
 
-// The forwarding port of a bridge on the lent view for a destination. `down` and `records` are by end; the
-// bridge looks at its own.
+// The verdict on the port of a bridge on the lent view for a destination: which condition holds it shut, or that it forwards. `down` and
+// `records` are by end; the bridge looks at its own.
+pub fn verdict(
+    bridges: usize,
+    links: usize,
+    ends: &[u8],
+    costs: &[u32],
+    table: &[u32],
+    views: usize,
+    down: [bool; 64],
+    records: [EndRecord; 64],
+    sent: &[u32],
+    held: &[u32],
+    bridge: usize,
+    dest: usize,
+) -> VerdictReply
+    ensures { λ r. ⌜ verdictResponse r ≡ verdictOutcome (viewData bridges links (now (ends .entry)) (now (costs .entry)) (now (table .entry))) views down records (now (sent .entry)) (now (held .entry)) bridge dest ⌝ }
+{
+    if ready::port_in_range(
+        bridges,
+        links,
+        ends,
+        costs,
+        table,
+        views,
+        records,
+        sent.len(),
+        held.len(),
+        bridge,
+        dest,
+    ) {
+        VerdictReply::Found(ports::verdict_of(
+            bridges,
+            links,
+            ends,
+            costs,
+            table,
+            down,
+            records,
+            sent,
+            held,
+            bridge,
+            dest,
+        ))
+    } else {
+        VerdictReply::Refused
+    }
+}
+
+// The forwarding port.
 pub fn port(
     bridges: usize,
     links: usize,
@@ -296,33 +346,22 @@ pub fn port(
 ) -> Forwarding
     ensures { λ r. ⌜ forwardingResponse r ≡ portOutcome (viewData bridges links (now (ends .entry)) (now (costs .entry)) (now (table .entry))) views down records (now (sent .entry)) (now (held .entry)) bridge dest ⌝ }
 {
-    if ready::port_in_range(
+    let reply = verdict(
         bridges,
         links,
         ends,
         costs,
         table,
         views,
+        down,
         records,
-        sent.len(),
-        held.len(),
+        sent,
+        held,
         bridge,
         dest,
-    ) {
-        Forwarding::Found(ports::port_of(
-            bridges,
-            links,
-            ends,
-            costs,
-            table,
-            down,
-            records,
-            sent,
-            held,
-            bridge,
-            dest,
-        ))
-    } else {
-        Forwarding::Refused
+    );
+    match reply {
+        VerdictReply::Found(verdict) => Forwarding::Found(port_of(verdict)),
+        VerdictReply::Refused => Forwarding::Refused,
     }
 }

@@ -2,8 +2,9 @@
 // numbers, so that a caller may loop over the ends of any network that it keeps.
 use crate::Choice;
 use crate::Chosen;
-use crate::Forwarding;
 use crate::Port;
+use crate::Verdict;
+use crate::VerdictReply;
 use crate::ready::either;
 use distances::ready::both;
 use distances::sizes::MAX_COST;
@@ -12,10 +13,11 @@ use distances::sizes::NONE;
 ghost use mathlib.Core.Path.{_≡_};
 ghost use mathlib.Core.Bool.{_&&_, not, cond};
 ghost use Prim.Native.Nat.{_+_};
-ghost use lib.Dec.{eqb, leb};
+ghost use lib.Dec.{eqb};
 ghost use Rattle.distances.specs.View.{NONE};
-ghost use Rattle.agreement.specs.Call.{forwardingResponse};
-ghost use Rattle.agreement.specs.Choice.{firstChoice, nextChoice, portBy, chosenResponse, nextOutcome, choiceOutcome};
+ghost use Rattle.agreement.specs.Call.{verdictResponse};
+ghost use Rattle.agreement.specs.Forwarding.{portOf};
+ghost use Rattle.agreement.specs.Choice.{firstChoice, nextChoice, verdictBy, chosenResponse, nextOutcome, choiceOutcome};
 
 // The links are numbered below this.
 const LINKS: u8 = MOST_LINKS as u8;
@@ -26,10 +28,14 @@ pub fn first_choice(distance: u32, is_destination: bool) -> Choice
 {
     Choice {
         distance,
-        found: false,
+        held: 0,
         link: 0,
-        usable: false,
-        allowed: both(!is_destination, distance != NONE),
+        barring: 0,
+        destination: is_destination,
+        found: false,
+        down: false,
+        holding: false,
+        barred: false,
     }
 }
 
@@ -40,14 +46,17 @@ fn reaches(distance: u32, cost: u32, far: u32) -> bool
     both(cost != 0, sum == distance as u64)
 }
 
-fn held_suffices(distance: u32, holding: bool, held: u32) -> bool
-    ensures { λ r. ⌜ r ≡ leb (cond holding held NONE) distance ⌝ }
+// NONE if no view is held.
+fn held_limit(holding: bool, held: u32) -> u32
+    ensures { λ r. ⌜ r ≡ cond holding held NONE ⌝ }
 {
-    if holding {
-        held <= distance
-    } else {
-        NONE <= distance
-    }
+    if holding { held } else { NONE }
+}
+
+fn link_if(test: bool, link: u8, otherwise: u8) -> u8
+    ensures { λ r. ⌜ r ≡ cond test link otherwise ⌝ }
+{
+    if test { link } else { otherwise }
 }
 
 // The choice with one end more of the bridge.
@@ -64,22 +73,32 @@ pub(crate) fn choice_with(
     ensures { λ r. ⌜ r ≡ nextChoice old link cost far down holding sent held ⌝ }
 {
     let distance = old.distance;
-    let allowed = both(old.allowed, either(down, distance < sent));
+    let bars = both(!down, sent <= distance);
+    let barring = link_if(both(!old.barred, bars), link, old.barring);
+    let barred = either(old.barred, bars);
     if both(!old.found, reaches(distance, cost, far)) {
         return Choice {
             distance,
-            found: true,
+            held: held_limit(holding, held),
             link,
-            usable: both(!down, held_suffices(distance, holding, held)),
-            allowed,
+            barring,
+            destination: old.destination,
+            found: true,
+            down,
+            holding,
+            barred,
         };
     }
     Choice {
         distance,
-        found: old.found,
+        held: old.held,
         link: old.link,
-        usable: old.usable,
-        allowed,
+        barring,
+        destination: old.destination,
+        found: old.found,
+        down: old.down,
+        holding: old.holding,
+        barred,
     }
 }
 
@@ -103,23 +122,57 @@ pub fn next_choice(
     }
 }
 
-pub(crate) fn chosen_port(choice: Choice) -> Port
-    ensures { λ r. ⌜ r ≡ portBy choice ⌝ }
+// The verdict by the ends so far: document 02's conditions in its order.
+pub(crate) fn chosen_verdict(choice: Choice) -> Verdict
+    ensures { λ r. ⌜ r ≡ verdictBy choice ⌝ }
 {
-    if both(choice.found, both(choice.usable, choice.allowed)) {
-        Port::Open(choice.link)
+    if choice.destination {
+        return Verdict::IsDestination;
+    }
+    if choice.distance == NONE {
+        return Verdict::NoPath;
+    }
+    if !choice.found {
+        return Verdict::NoLink;
+    }
+    if choice.down {
+        return Verdict::LinkDown(choice.link);
+    }
+    if !choice.holding {
+        return Verdict::NothingHeld(choice.link);
+    }
+    if choice.distance < choice.held {
+        return Verdict::HeldTooGreat(choice.link);
+    }
+    if choice.barred {
+        return Verdict::SentNotAbove(choice.barring);
+    }
+    Verdict::Forwards(choice.link)
+}
+
+// The same for any choice: 17 where a link of it is out of range.
+pub fn verdict_by(choice: Choice) -> VerdictReply
+    ensures { λ r. ⌜ verdictResponse r ≡ choiceOutcome choice ⌝ }
+{
+    if both(choice.link < LINKS, choice.barring < LINKS) {
+        VerdictReply::Found(chosen_verdict(choice))
     } else {
-        Port::Closed
+        VerdictReply::Refused
     }
 }
 
-// The forwarding port by the ends so far: 17 where the choice's link is out of range.
-pub fn port_by(choice: Choice) -> Forwarding
-    ensures { λ r. ⌜ forwardingResponse r ≡ choiceOutcome choice ⌝ }
+// The forwarding port by a verdict.
+pub fn port_of(verdict: Verdict) -> Port
+    ensures { λ r. ⌜ r ≡ portOf verdict ⌝ }
 {
-    if choice.link < LINKS {
-        Forwarding::Found(chosen_port(choice))
-    } else {
-        Forwarding::Refused
+    match verdict {
+        Verdict::IsDestination => Port::Closed,
+        Verdict::NoPath => Port::Closed,
+        Verdict::NoLink => Port::Closed,
+        Verdict::LinkDown(_) => Port::Closed,
+        Verdict::NothingHeld(_) => Port::Closed,
+        Verdict::HeldTooGreat(_) => Port::Closed,
+        Verdict::SentNotAbove(_) => Port::Closed,
+        Verdict::Forwards(link) => Port::Open(link),
     }
 }

@@ -39,15 +39,33 @@ pub enum Port {
     Open(u8),
 }
 
-// The forwarding choice of a bridge by some of its ends: the bridge's distance; whether some end reaches it; the link of the first such
-// end; whether that link is up at the bridge's end and its held limit at most the distance; and whether the bridge is no destination, has a path, and its
-// distance is below the sent limit of every link so far that is up at its end.
+// What the forwarding rule says of a bridge's port for a destination: the first condition that holds the port shut, with the link concerned, or
+// that it forwards, and on which link. `NoLink`, no link of the bridge reaches its distance, is said only where the lent distances are not
+// those of the view.
+pub enum Verdict {
+    IsDestination,
+    NoPath,
+    NoLink,
+    LinkDown(u8),
+    NothingHeld(u8),
+    HeldTooGreat(u8),
+    SentNotAbove(u8),
+    Forwards(u8),
+}
+
+// The forwarding choice of a bridge by some of its ends: the bridge's distance; whether the bridge is the destination; whether some end reaches the
+// distance, and of the first such end its link, whether it is down, whether a view is held there, and the held limit; whether at some end that is up the
+// sent limit is not above the distance, and the link of the first such end.
 pub struct Choice {
     pub distance: u32,
-    pub found: bool,
+    pub held: u32,
     pub link: u8,
-    pub usable: bool,
-    pub allowed: bool,
+    pub barring: u8,
+    pub destination: bool,
+    pub found: bool,
+    pub down: bool,
+    pub holding: bool,
+    pub barred: bool,
 }
 
 // What becomes of a row of limits: it stays, each limit is lowered to the offer, becomes the offer, or becomes NONE.
@@ -87,6 +105,11 @@ pub enum Forwarding {
 pub enum Chosen {
     Refused,
     So(Choice),
+}
+
+pub enum VerdictReply {
+    Refused,
+    Found(Verdict),
 }
 
 // An update of a bridge: refused with document 01's number; it is on the view already; or it goes to it, and this is its agreement number there.

@@ -1,6 +1,6 @@
-// The forwarding port of a bridge: the choice by all its ends.
+// The verdict on the port of a bridge: the choice by all its ends.
 use crate::EndRecord;
-use crate::Port;
+use crate::Verdict;
 use crate::choices;
 use crate::ready;
 use distances::sizes::ROW;
@@ -9,11 +9,11 @@ ghost use Prim.Native.Nat.{_≤_, _<_};
 ghost use lib.ListN.{length};
 ghost use Rattle.distances.specs.View.{graphOf, costsOf};
 ghost use Rattle.distances.specs.Table.{cell};
-ghost use Rattle.agreement.specs.Forwarding.{port};
+ghost use Rattle.agreement.specs.Forwarding.{verdict};
 ghost use Rattle.agreement.specs.Call.{lentRecords};
 ghost use Rattle.agreement.specs.Steps.{ViewReady};
 
-pub(crate) fn port_of(
+pub(crate) fn verdict_of(
     bridges: usize,
     links: usize,
     ends: &[u8],
@@ -25,10 +25,10 @@ pub(crate) fn port_of(
     held: &[u32],
     bridge: usize,
     dest: usize,
-) -> Port
+) -> Verdict
     requires { ⌜ ViewReady bridges links (now ends) (now costs) (now table) ⌝ }
     requires { ⌜ (1024 ≤ length (now sent)) × (1024 ≤ length (now held)) × (bridge < bridges) × (dest < bridges) ⌝ }
-    ensures { λ r. ⌜ r ≡ port (graphOf bridges links (now (ends .entry))) (costsOf (now (costs .entry))) (cell (now (table .entry))) (lentRecords down records (now (sent .entry)) (now (held .entry))) bridge dest ⌝ }
+    ensures { λ r. ⌜ r ≡ verdict (graphOf bridges links (now (ends .entry))) (costsOf (now (costs .entry))) (cell (now (table .entry))) (lentRecords down records (now (sent .entry)) (now (held .entry))) bridge dest ⌝ }
 {
     let own = table[ROW * bridge + dest];
     let mut choice = choices::first_choice(own, bridge == dest);
@@ -51,5 +51,5 @@ pub(crate) fn port_of(
         }
         e += 1;
     }
-    choices::chosen_port(choice)
+    choices::chosen_verdict(choice)
 }

@@ -11,7 +11,7 @@ use Rattle.agreement.specs.Offer.{opposite}
 use Rattle.agreement.specs.Record.{freshRecord}
 use Rattle.agreement.specs.declared.EndRecord.{EndRecord}
 use Rattle.protocol.specs.Net.{Message, sender}
-use Rattle.protocol.specs.Calls.{Call, Change, change, update, cut, restore, send, deliver, repeat, lose, port, report, path, refuse, checks, accepted, step, messageOf}
+use Rattle.protocol.specs.Calls.{Call, Change, change, update, cut, restore, send, deliver, repeat, lose, port, verdict, report, path, refuse, checks, accepted, step, messageOf}
 use Rattle.bench.specs.State.{State, state, network, messageFrom}
 use Rattle.bench.specs.Private.Views.{networkOf, lentView}
 use Rattle.bench.specs.Ranges.{benchInRange, messagesInRange}
@@ -157,6 +157,7 @@ module _ (s : State) where
   step-beside (repeat p) = repeat-beside p
   step-beside (lose p) = lose-beside p
   step-beside (port y d) = beside-same s
+  step-beside (verdict y d) = beside-same s
   step-beside (report d) = beside-same s
   step-beside (path y d) = beside-same s
 

@@ -19,7 +19,7 @@ link-low h = omega arith
 pub bridge-fits : {z : ℕ} → z < 16 → Fits w64 z
 bridge-fits h = omega arith
 
-pub choice-fits : {z : ℕ} → z < 16 → Fits w64 (z * 8)
+pub choice-fits : {z : ℕ} → z < 16 → Fits w64 (z * 16)
 choice-fits h = omega arith
 
 pub view-fits : {v : ℕ} → v < 32 → Fits w64 v

@@ -1,4 +1,4 @@
--- The steps of the code that makes ports of a bench's ends: what layer 2 answers, one end more in a loop, and the port that a choice by
+-- The steps of the code that makes verdicts of a bench's ends: what layer 2 answers, one end more in a loop, and the verdict that a choice by
 -- all ends comes to. Assumes nothing.
 use Prim.Native.Nat.{ℕ, _+_, _*_, _/_, _≤_, _<_}
 use native.Mathlib.Omega.{arith}
@@ -13,26 +13,26 @@ use Rattle.distances.specs.Table.{cell}
 use Rattle.distances.proofs.Booleans.{both-true, true-both}
 use Rattle.distances.proofs.Tables.{cell-is}
 use Rattle.agreement.specs.Offer.{opposite}
-use Rattle.agreement.specs.Forwarding.{port}
-use Rattle.agreement.specs.Call.{Response, ViewData, lentGraph, says, forwardingResponse}
-use Rattle.agreement.specs.Choice.{firstChoice, nextChoice, portBy, chosenResponse, nextOutcome, choiceOutcome}
+use Rattle.agreement.specs.Forwarding.{verdict}
+use Rattle.agreement.specs.Call.{Response, ViewData, lentGraph, says, verdictResponse}
+use Rattle.agreement.specs.Choice.{firstChoice, nextChoice, verdictBy, portBy, chosenResponse, nextOutcome, choiceOutcome}
 use Rattle.agreement.specs.declared.Choice.{Choice}
 use Rattle.agreement.specs.declared.Chosen.{Chosen}
 use Rattle.agreement.specs.declared.EndRecord.{EndRecord}
-use Rattle.agreement.specs.declared.Forwarding.{Forwarding}
-use Rattle.agreement.specs.declared.Port.{Port}
-use Rattle.agreement.specs.declared.Port.the-variants.{Closed}
+use Rattle.agreement.specs.declared.Verdict.{Verdict}
+use Rattle.agreement.specs.declared.Verdict.the-variants.{NoLink}
+use Rattle.agreement.specs.declared.VerdictReply.{VerdictReply}
 use Rattle.agreement.specs.Record.{freshRecord}
 use Rattle.agreement.proofs.Basics.{getD-default}
 use Rattle.agreement.proofs.Ends.{opposite-below}
 use Rattle.agreement.proofs.InRange.{records-pass, port-passes}
-use Rattle.agreement.proofs.Outcomes.{next-accepted, choice-accepted, port-accepted}
-use Rattle.agreement.proofs.ChoiceLaws.{choice-none, choice-here, choice-away, choice-distance, choice-link, choice-is-port}
+use Rattle.agreement.proofs.Outcomes.{next-accepted, choice-accepted, verdict-accepted}
+use Rattle.agreement.proofs.ChoiceLaws.{choice-none, choice-here, choice-away, choice-distance, choice-links, choice-is-verdict}
 use Rattle.bench.specs.State.{State, network}
 use Rattle.bench.specs.Private.Views.{lentView}
 use Rattle.bench.specs.Ranges.{graphInRange, benchInRange, costsInRange, limitsLong, partsInRange}
 use Rattle.bench.specs.Ranges.{networkInRange}
-use Rattle.bench.specs.Private.Answers.{found, portIn, reportedRow}
+use Rattle.bench.specs.Private.Answers.{found, verdictIn, reportedRow}
 use Rattle.bench.specs.Private.Steps.{PortsReady, IsFilled, choiceIn, AreChoices}
 use Rattle.bench.specs.declared.Bench.{Bench}
 use Rattle.bench.proofs.TieRanges.{LastingOf, lasting-told, few, lent-in-range, plan-in-range, part-at, getD-stored}
@@ -97,24 +97,27 @@ pub next-said :
 next-said old link cost far down holding sent held r low e =
     said-choice old r _ (e ∙ next-accepted _ _ _ _ _ _ _ _ (true-both (lt-ltb link 32 (low .0)) (le-leb cost maxCost (low .1))))
 
-abbrev pub portReplied : Forwarding → Port
-portReplied Forwarding.Refused = Closed
-portReplied (Forwarding.Found p) = p
+abbrev pub verdictReplied : VerdictReply → Verdict
+verdictReplied VerdictReply.Refused = NoLink
+verdictReplied (VerdictReply.Found v) = v
 
-pub port-said : (c : Choice) (r : Forwarding) → c .link < 32 → forwardingResponse r ≡ choiceOutcome c → portReplied r ≡ portBy c
-port-said c Forwarding.Refused low e =
-    absurd (let z : _≡_ {A = ℕ} 17 0 = ap (λ (o : Response _). o .number) (e ∙ choice-accepted c low) in omega arith)
-port-said c (Forwarding.Found p) low e = said-same p (portBy c) (e ∙ choice-accepted c low)
+pub verdict-said :
+    (c : Choice) (r : VerdictReply) → (c .link < 32) × (c .barring < 32) → verdictResponse r ≡ choiceOutcome c → verdictReplied r ≡ verdictBy c
+verdict-said c r low e = go r (e ∙ choice-accepted c (true-both (lt-ltb _ 32 (low .0)) (lt-ltb _ 32 (low .1))))
+  where
+    go : (x : VerdictReply) → verdictResponse x ≡ says (verdictBy c) → verdictReplied x ≡ verdictBy c
+    go VerdictReply.Refused is = absurd (let z : _≡_ {A = ℕ} 17 0 = ap (λ (o : Response _). o .number) is in omega arith)
+    go (VerdictReply.Found v) is = said-same v (verdictBy c) is
 
--- ---- the port by layer 2's definition
+-- ---- the verdict by layer 2's definition
 
 module _ (s : State) (ok : networkInRange s ≡ true) (y d : ℕ) (hy : y < s .bench .bridges) (hd : d < s .bench .bridges) where
   abbrev pub lentTo : ViewData
   lentTo = lentView (s .bench) (s .costs) (getD (s .bench .view) y 0)
 
-  pub port-in : portIn s y d ≡ port (lentGraph lentTo) (costsOf (lentTo .costs)) (cell (lentTo .table)) (network s .records) y d
-  unfolding portIn found
-  port-in =
+  pub verdict-in : verdictIn s y d ≡ verdict (lentGraph lentTo) (costsOf (lentTo .costs)) (cell (lentTo .table)) (network s .records) y d
+  unfolding verdictIn found
+  verdict-in =
       let b : Bench = s .bench in
       let told = bench-told b (network-bench b (s .costs) (length (s .sent)) (length (s .held)) ok) in
       let long = limits b (s .costs) (length (s .sent)) (length (s .held)) ok in
@@ -122,7 +125,7 @@ module _ (s : State) (ok : networkInRange s ≡ true) (y d : ℕ) (hy : y < s .b
       let passes =
       port-passes _ _ _ _ _ _ _ (lent-in-range b (s .costs) lasts _ (told .view y hy)) (long .0) (long .1) (b .views) (b .records) y d
       (told .least) (told .counted .views) (records-pass _ (b .links) (b .records) (told .counted .links) (told .records)) hy hd in
-      rw (port-accepted lentTo (b .views) (b .down) (b .records) (s .sent) (s .held) y d passes)
+      rw (verdict-accepted lentTo (b .views) (b .down) (b .records) (s .sent) (s .held) y d passes)
 
 -- ---- one end more
 
@@ -176,21 +179,21 @@ module _ (s : State) (d y : ℕ) where
   unfolding choiceIn
   choice-other e apart = choice-away _ _ _ _ _ _ e apart
 
-  -- the choice so far has the bridge's distance and one of the links
+  -- the choice so far has the bridge's distance and some of the links
   pub choice-own : (e : ℕ) → choiceIn s d y e .distance ≡ cell (lentView (s .bench) (s .costs) ownView .table) y d
   unfolding choiceIn
   choice-own e = choice-distance _ _ _ _ _ _ e
 
-  pub choice-low : (e : ℕ) → e ≤ 64 → choiceIn s d y e .link < 32
+  pub choice-low : (e : ℕ) → e ≤ 64 → (choiceIn s d y e .link < 32) × (choiceIn s d y e .barring < 32)
   unfolding choiceIn
-  choice-low e few = choice-link _ _ _ _ _ _ e few
+  choice-low e few = choice-links _ _ _ _ _ _ e few
 
 -- ---- all ends
 
 module _ (s : State) (ok : networkInRange s ≡ true) (d y : ℕ) (hy : y < s .bench .bridges) (hd : d < s .bench .bridges) where
-  pub choice-port : portBy (choiceIn s d y (2 * s .bench .links)) ≡ portIn s y d
+  pub choice-verdict : verdictBy (choiceIn s d y (2 * s .bench .links)) ≡ verdictIn s y d
   unfolding choiceIn
-  choice-port = choice-is-port _ _ _ _ y d ∙ sym (port-in s ok y d hy hd)
+  choice-verdict = choice-is-verdict _ _ _ _ y d ∙ sym (verdict-in s ok y d hy hd)
 
   -- the bridge's row of a report
   pub choice-row :
@@ -198,7 +201,7 @@ module _ (s : State) (ok : networkInRange s ≡ true) (d y : ℕ) (hy : y < s .b
       c ≡ choiceIn s d y (2 * s .bench .links) →
       set (set rows (2 * y) (c .distance)) (2 * y + 1) (linkNumber (portBy c)) ≡ reportedRow s d y rows
   unfolding reportedRow
-  choice-row rows c so = rw (so, choice-port, choice-own)
+  choice-row rows c so = rw (so, choice-verdict, choice-own)
 
 -- ---- the choices of all bridges, in an array
 

@@ -4,12 +4,16 @@ use mathlib.Core.Path.{_≡_, refl, sym, _∙_, ap}
 use mathlib.Core.Bool.{Bool, true, false, cond}
 use borrow.Author.Tests.{ne-eqb}
 use lib.Dec.{eqb}
-use Rattle.agreement.specs.Call.{says}
+use Rattle.agreement.specs.Forwarding.{portOf}
+use Rattle.agreement.specs.Call.{mapped, says}
+use Rattle.agreement.specs.declared.Verdict.{Verdict}
 use Rattle.protocol.specs.Net.{Network}
-use Rattle.protocol.specs.Calls.{Call, port, report, path, refuse, accepted, act, step}
+use Rattle.protocol.specs.Calls.{Call, port, verdict, report, path, checks, refuse, accepted, act, step}
+use Rattle.protocol.specs.Ports.{forwardingVerdict, forwardingPort}
 use Rattle.bench.specs.State.{State, network}
 use Rattle.bench.specs.Standing.{standing, stepIn}
-use Rattle.bench.specs.Contracts.{refusedBy, RefusedChangesNothing, AskingChangesNothing, readyFor, replyTo, leftBy, Outcome, outcome, outcomeOf}
+use Rattle.bench.specs.Ranges.{networkInRange}
+use Rattle.bench.specs.Contracts.{refusedBy, RefusedChangesNothing, AskingChangesNothing, readyFor, refusalOf, replyTo, leftBy, Outcome, outcome, outcomeOf}
 use Rattle.bench.proofs.TieRefusals.{refusal-out, refusal-ready}
 use Rattle.bench.proofs.Beside.{stands-itself}
 
@@ -48,7 +52,7 @@ refused-changes-nothing s c some = go (readyFor s c) refl
 
 pub asking-changes-nothing : AskingChangesNothing
 unfolding leftBy stepIn step act
-asking-changes-nothing s b d = (stays (port b d) _ refl, stays (report d) _ refl, stays (path b d) _ refl)
+asking-changes-nothing s b d = (stays (port b d) _ refl, stays (verdict b d) _ refl, stays (report d) _ refl, stays (path b d) _ refl)
   where
     stays : (c : Call) (x : State) → x ≡ cond (readyFor s c) (standing (cond (accepted (network s) c) (network s) (network s)) s) s → x ≡ s
     stays c x is = is ∙ go (readyFor s c) (accepted (network s) c)
@@ -57,3 +61,14 @@ asking-changes-nothing s b d = (stays (port b d) _ refl, stays (report d) _ refl
         go true true = stands-itself s
         go true false = stands-itself s
         go false q = refl
+
+-- a port's reply is that of the verdict, which is checked alike
+pub port-reply :
+    (s : State) (y d : ℕ) →
+    outcomeOf s (port y d) (λ n. forwardingPort n y d) .reply ≡ mapped portOf (outcomeOf s (verdict y d) (λ n. forwardingVerdict n y d) .reply)
+unfolding outcomeOf replyTo readyFor refusalOf checks forwardingPort
+port-reply s y d = go (forwardingVerdict (network s) y d) (refusalOf (networkInRange s) (network s) (verdict y d)) (eqb (refusalOf (networkInRange s) (network s) (verdict y d)) 0)
+  where
+    go : (v : Verdict) (k : ℕ) (b : Bool) → cond b (says (portOf v)) (refusedBy k) ≡ mapped portOf (cond b (says v) (refusedBy k))
+    go v k true = refl
+    go v k false = refl

@@ -14,19 +14,20 @@ use Rattle.distances.specs.Table.{cell}
 use Rattle.distances.proofs.Booleans.{below}
 use Rattle.distances.proofs.Refusals.{passed}
 use Rattle.distances.proofs.Tables.{cell-block}
-use Rattle.agreement.specs.Call.{ViewData, lentGraph, lentRecords, portOutcome}
+use Rattle.agreement.specs.Forwarding.{portOf}
+use Rattle.agreement.specs.Call.{ViewData, lentGraph, lentRecords, verdictOutcome}
 use Rattle.agreement.specs.declared.EndRecord.{EndRecord}
 use Rattle.agreement.specs.declared.Port.{Port}
 use Rattle.agreement.specs.declared.Port.the-variants.{Closed, Open}
 use Rattle.agreement.proofs.Forwards.{open-forwards}
-use Rattle.agreement.proofs.Outcomes.{portReady, port-accepted, port-refused}
+use Rattle.agreement.proofs.Outcomes.{portReady, verdict-accepted, verdict-refused}
 use Rattle.protocol.specs.Net.{Network}
 use Rattle.protocol.specs.Calls.{Check, refusal, noSuchBridge}
 use Rattle.protocol.specs.Ports.{Hop, stays, crosses, across, isLive, hopBy}
 use Rattle.protocol.specs.Paths.{delivered, stops, follow, onward}
 use Rattle.bench.specs.State.{State, network, part}
 use Rattle.bench.specs.Private.Views.{lentView}
-use Rattle.bench.specs.Private.Answers.{found, portIn, hopIn, reportedRow, reported}
+use Rattle.bench.specs.Private.Answers.{found, verdictIn, portIn, hopIn, reportedRow, reported}
 use Rattle.bench.specs.Private.Steps.{Ready}
 use Rattle.bench.specs.declared.Bench.{Bench}
 
@@ -34,22 +35,22 @@ use Rattle.bench.specs.declared.Bench.{Bench}
 
 outcome-link :
     (v : ViewData) (views : ℕ) (down : List Bool) (records : List EndRecord) (sent held : List ℕ) (y d l : ℕ) →
-    found (portOutcome v views down records sent held y d .value) ≡ Open l →
+    portOf (found (verdictOutcome v views down records sent held y d .value)) ≡ Open l →
     l < v .links
 unfolding found
 outcome-link v views down records sent held y d l o = go (portReady v views down records sent held y d) refl
   where
     go : (ok : Bool) → portReady v views down records sent held y d ≡ ok → l < v .links
     go true e =
-        let opens = rw (port-accepted v views down records sent held y d e) at o in
+        let opens = rw (verdict-accepted v views down records sent held y d e) at o in
         let by = open-forwards (lentGraph v) (costsOf (v .costs)) (cell (v .table)) (lentRecords down records sent held) y d l opens in
-        omega (arith, by .chosen .listed, by .link)
+        omega (arith, by .1 .chosen .listed, by .1 .link)
     go false e =
-        let closed : Closed ≡ Open l = rw (port-refused v views down records sent held y d e) at o in
+        let closed : Closed ≡ Open l = rw (verdict-refused v views down records sent held y d e) at o in
         absurd (let z : _≡_ {A = ℕ} 0 1 = cc in omega arith)
 
 pub open-link : (s : State) (y d l : ℕ) → portIn s y d ≡ Open l → l < s .bench .links
-unfolding portIn
+unfolding verdictIn
 open-link s y d l =
     let b : Bench = s .bench in
     outcome-link (lentView b (s .costs) (getD (b .view) y 0)) (b .views) (b .down) (b .records) (s .sent) (s .held) y d l

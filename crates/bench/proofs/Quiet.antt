@@ -9,16 +9,16 @@ use lib.Dec.{leb}
 use Rattle.distances.specs.Call.{allBelow}
 use Rattle.distances.specs.Table.{cell}
 use Rattle.distances.proofs.Booleans.{both-true, true-both}
-use Rattle.protocol.specs.Ports.{ownDistance, forwardingPort, hop}
+use Rattle.protocol.specs.Ports.{ownDistance, forwardingVerdict, forwardingPort, hop}
 use Rattle.protocol.specs.Paths.{onward, path}
 use Rattle.bench.specs.State.{State, state, network}
 use Rattle.bench.specs.Private.Views.{lentView}
 use Rattle.bench.specs.Ranges.{graphInRange, benchInRange, costsInRange, messagesInRange, partsInRange, networkInRange}
 use Rattle.bench.specs.Private.Queue.{withCount}
-use Rattle.bench.specs.Private.Answers.{portIn, hopIn}
+use Rattle.bench.specs.Private.Answers.{verdictIn, portIn, hopIn}
 use Rattle.bench.specs.Sizes.{mostMessages}
 use Rattle.bench.proofs.Represents.{Represents, Typed, own-represents}
-use Rattle.bench.proofs.TieAnswers.{port-same, own-distance, path-same}
+use Rattle.bench.proofs.TieAnswers.{verdict-same, port-same, own-distance, path-same}
 
 module _ (s : State) (ok : networkInRange s ≡ true) (typed : Typed (s .bench)) where
   -- with no message in flight
@@ -51,8 +51,12 @@ module _ (s : State) (ok : networkInRange s ≡ true) (typed : Typed (s .bench))
       })
 
   module _ (y d : ℕ) (hy : y < s .bench .bridges) (hd : d < s .bench .bridges) where
+    pub verdict-is : verdictIn s y d ≡ forwardingVerdict (network s) y d
+    unfolding verdictIn forwardingVerdict
+    verdict-is = verdict-same quiet (network quiet) quiet-represents y d hy hd
+
     pub port-is : portIn s y d ≡ forwardingPort (network s) y d
-    unfolding portIn forwardingPort
+    unfolding verdictIn forwardingPort forwardingVerdict
     port-is = port-same quiet (network quiet) quiet-represents y d hy hd
 
     pub distance-is : cell (lentView (s .bench) (s .costs) (getD (s .bench .view) y 0) .table) y d ≡ ownDistance (network s) y d
@@ -60,5 +64,5 @@ module _ (s : State) (ok : networkInRange s ≡ true) (typed : Typed (s .bench))
     distance-is = own-distance quiet (network quiet) quiet-represents y d hy hd
 
     pub path-is : onward (hopIn s d) d (s .bench .bridges - 1) 0 y ≡ path (network s) y d
-    unfolding hopIn portIn path hop forwardingPort
+    unfolding hopIn verdictIn path hop forwardingPort forwardingVerdict
     path-is = path-same quiet (network quiet) quiet-represents y d hy hd

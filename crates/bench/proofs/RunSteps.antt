@@ -7,7 +7,7 @@ use mathlib.Core.List.{List, [], _∷_}
 use lib.ListN.{length}
 use Rattle.distances.proofs.Booleans.{both-true, true-both}
 use Rattle.protocol.specs.Net.{Network}
-use Rattle.protocol.specs.Calls.{Call, change, update, cut, restore, send, deliver, repeat, lose, port, report, path, step}
+use Rattle.protocol.specs.Calls.{Call, change, update, cut, restore, send, deliver, repeat, lose, port, verdict, report, path, step}
 use Rattle.bench.specs.State.{State, network}
 use Rattle.bench.specs.Ranges.{benchInRange, networkInRange, stateInRange}
 use Rattle.bench.specs.Standing.{standingBench, standing, stepIn}
@@ -76,6 +76,7 @@ ready-for s c ok = go c
     go (repeat p) = ok
     go (lose p) = true-both bench-ready (both-true (networkInRange s) _ ok .1)
     go (port b d) = state-ready
+    go (verdict b d) = state-ready
     go (report d) = state-ready
     go (path b d) = state-ready
 

@@ -12,8 +12,8 @@ use Rattle.distances.proofs.Booleans.{true-both}
 use Rattle.agreement.specs.Call.{says}
 use Rattle.encoding.specs.Numbers.{linkNumber}
 use Rattle.protocol.specs.Net.{Network}
-use Rattle.protocol.specs.Calls.{Call, port, report, path, refusal, noSuchBridge, checks, refuse}
-use Rattle.protocol.specs.Ports.{ownDistance, forwardingPort}
+use Rattle.protocol.specs.Calls.{Call, port, verdict, report, path, refusal, noSuchBridge, checks, refuse}
+use Rattle.protocol.specs.Ports.{ownDistance, forwardingVerdict, forwardingPort}
 use Rattle.protocol.specs.Paths as paths
 use Rattle.protocol.specs.Demand2.{NetworkInRange}
 use Rattle.protocol.proofs.Rules.{demand2}
@@ -69,9 +69,9 @@ module _ (s : State) (ok : networkInRange s ≡ true) where
       }
 
   -- two bridges that there are
-  asked : (y d : ℕ) → y < s .bench .bridges → d < s .bench .bridges → (refuse (network s) (port y d) ≡ 0) × (refuse (network s) (path y d) ≡ 0) × (refuse (network s) (report d) ≡ 0)
+  asked : (y d : ℕ) → y < s .bench .bridges → d < s .bench .bridges → (refuse (network s) (port y d) ≡ 0) × (refuse (network s) (verdict y d) ≡ 0) × (refuse (network s) (path y d) ≡ 0) × (refuse (network s) (report d) ≡ 0)
   unfolding refuse checks refusal noSuchBridge
-  asked y d hy hd = rw (lt-ltb y (s .bench .bridges) hy, lt-ltb d (s .bench .bridges) hd) (refl, refl, refl)
+  asked y d hy hd = rw (lt-ltb y (s .bench .bridges) hy, lt-ltb d (s .bench .bridges) hd) (refl, refl, refl, refl)
 
   -- the value
   told : {A : Type 0} (ready : Bool) (c : Call) (value : A) → ready ≡ true → refuse (network s) c ≡ 0 → replyTo ready (network s) c value ≡ says value
@@ -94,11 +94,13 @@ module _ (s : State) (ok : networkInRange s ≡ true) where
         rule = demand2 .rule (network s) in-range;
         ports = λ y d hy hd.
             rw (told (networkInRange s) (port y d) (forwardingPort (network s) y d) ok (asked y d hy hd .0), asking-changes-nothing s y d .0);
+        verdicts = λ y d hy hd.
+            rw (told (networkInRange s) (verdict y d) (forwardingVerdict (network s) y d) ok (asked y d hy hd .1), asking-changes-nothing s y d .1);
         paths = λ y d hy hd.
-            rw (told (networkInRange s) (path y d) (paths.path (network s) y d) ok (asked y d hy hd .1), asking-changes-nothing s y d .2);
+            rw (told (networkInRange s) (path y d) (paths.path (network s) y d) ok (asked y d hy hd .2), asking-changes-nothing s y d .3);
         reports = λ d rows hd long.
             let ready = true-both ok (le-leb 32 (length rows) long) in
-            let none = asked d d hd hd .2 in
+            let none = asked d d hd hd .3 in
             rw (refusal-ready _ (network s) (report d) ready, none) (told _ (report d) tt ready none, rows-tell d _);
       }
 

@@ -1,4 +1,4 @@
--- Ports, distances and paths in a state are those of the network that stands in it. Assumes nothing.
+-- Verdicts, ports, distances and paths in a state are those of the network that stands in it. Assumes nothing.
 use Prim.Native.Nat.{ℕ, zero, suc, _+_, _*_, _-_, _≤_, _<_}
 use native.Mathlib.Omega.{arith}
 use mathlib.Core.Path.{_≡_, refl, sym, _∙_, ap}
@@ -8,22 +8,22 @@ use lib.Dec.{eqb}
 use Rattle.distances.specs.View.{InRange}
 use Rattle.distances.specs.Table.{cell}
 use Rattle.agreement.specs.Offer.{linkOf}
-use Rattle.agreement.specs.Forwarding.{isUp}
+use Rattle.agreement.specs.Forwarding.{isUp, portOf}
 use Rattle.agreement.specs.declared.Port.{Port}
 use Rattle.agreement.specs.declared.Port.the-variants.{Closed, Open}
-use Rattle.agreement.proofs.PortCong.{port-cong}
+use Rattle.agreement.proofs.PortCong.{verdict-cong}
 use Rattle.protocol.specs.Net.{Network, Plan}
 use Rattle.protocol.specs.Ports.{Hop, stays, crosses, isLive, hop, ownDistance}
 use Rattle.protocol.specs.Ports as ports
 use Rattle.protocol.specs.Paths.{delivered, follow, onward, path}
 use Rattle.bench.specs.State.{State, network}
 use Rattle.bench.specs.Private.Views.{lentView}
-use Rattle.bench.specs.Private.Answers.{portIn, hopIn}
+use Rattle.bench.specs.Private.Answers.{verdictIn, portIn, hopIn}
 use Rattle.bench.proofs.Represents.{Represents}
 use Rattle.protocol.proofs.Links.{across-below}
 use Rattle.protocol.proofs.Hops.{port-forwards, hop-crosses}
 use Rattle.bench.proofs.TieRanges.{StateReady, told, network-ready, few, plan-in-range, lent-distances}
-use Rattle.bench.proofs.ChoiceSteps.{port-in}
+use Rattle.bench.proofs.ChoiceSteps.{verdict-in}
 
 -- ---- hops that agree at the bridges that there are, and lead from one of them to another, make the same way
 
@@ -64,12 +64,12 @@ module _ (s : State) (n : Network) (r : Represents s n) where
     is-view : viewOf < s .bench .views
     is-view = inside .view y hy
 
-    pub port-same : portIn s y d ≡ ports.forwardingPort n y d
-    unfolding ports.forwardingPort
-    port-same =
-        port-in s (network-ready s inside) y d hy hd
+    pub verdict-same : verdictIn s y d ≡ ports.forwardingVerdict n y d
+    unfolding ports.forwardingVerdict
+    verdict-same =
+        verdict-in s (network-ready s inside) y d hy hd
         ∙ rw (r .plan, r .view y hy)
-        (port-cong (network s .plan .graph) _ _ _ _ _ _ graph-inside y d hy
+        (verdict-cong (network s .plan .graph) _ _ _ _ _ _ graph-inside y d hy
         (record {
           distances = λ i hi. lent-distances (s .bench) (s .costs) (inside .lasting) viewOf is-view i d hi hd;
           costs = λ l hl. refl;
@@ -78,6 +78,10 @@ module _ (s : State) (n : Network) (r : Represents s n) where
           sent = λ e he. sym (r .sent e d he hd);
           held = λ e he. sym (r .held e d he hd);
         }))
+
+    pub port-same : portIn s y d ≡ ports.forwardingPort n y d
+    unfolding ports.forwardingPort
+    port-same = ap portOf verdict-same
 
   -- ---- distance
 

@@ -11,7 +11,7 @@ use borrow.Author.Tests.{ltb-true, lt-ltb}
 use Rattle.distances.proofs.Booleans.{both-true, true-both, below}
 use Rattle.distances.proofs.Refusals.{refusal-next}
 use Rattle.protocol.specs.Net.{Network, Message, receiver}
-use Rattle.protocol.specs.Calls.{Call, Change, change, update, cut, restore, send, deliver, repeat, lose, port, report, path, Check, refusal, noSuchBridge, noSuchView, noSuchLink, noNumberLeft, notOnLink, endDown, noRoom, noMessage, already, messageAt, endOf, changeChecks, checks, refuse}
+use Rattle.protocol.specs.Calls.{Call, Change, change, update, cut, restore, send, deliver, repeat, lose, port, verdict, report, path, Check, refusal, noSuchBridge, noSuchView, noSuchLink, noNumberLeft, notOnLink, endDown, noRoom, noMessage, already, messageAt, endOf, changeChecks, checks, refuse}
 use Rattle.protocol.proofs.Links.{endOf-below}
 use Rattle.bench.specs.State.{State, network, messageFrom}
 use Rattle.bench.specs.Ranges.{messagePasses}
@@ -157,6 +157,7 @@ module _ (s : State) (n : Network) (r : Represents s n) where
   refuse-same (repeat p) = placed-same p
   refuse-same (lose p) = next-same _ _ _ _ (same-place p) (λ e. refl)
   refuse-same (port b d) = next-same _ _ _ _ (same-bridge b) (λ e. next-same _ _ _ _ (same-bridge d) (λ f. refl))
+  refuse-same (verdict b d) = next-same _ _ _ _ (same-bridge b) (λ e. next-same _ _ _ _ (same-bridge d) (λ f. refl))
   refuse-same (report d) = next-same _ _ _ _ (same-bridge d) (λ e. refl)
   refuse-same (path b d) = next-same _ _ _ _ (same-bridge b) (λ e. next-same _ _ _ _ (same-bridge d) (λ f. refl))
 

@@ -2,7 +2,7 @@
 use Prim.Native.Nat.{ℕ}
 use mathlib.Core.Bool.{Bool, true, false, cond}
 use Rattle.protocol.specs.Net.{Network}
-use Rattle.protocol.specs.Calls.{Call, Change, change, update, cut, restore, send, deliver, repeat, lose, port, report, path, accepted, act, step}
+use Rattle.protocol.specs.Calls.{Call, Change, change, update, cut, restore, send, deliver, repeat, lose, port, verdict, report, path, accepted, act, step}
 use Rattle.bench.specs.State.{State}
 use Rattle.bench.proofs.Represents.{Represents}
 use Rattle.bench.specs.Private.ListSteps.{stepBy}
@@ -26,6 +26,10 @@ module _ (s : State) (n : Network) (r : Represents s n) where
   unfolding stepBy step act
   port-represents y d = either (accepted n (port y d))
 
+  pub verdict-represents : (y d : ℕ) → Represents (stepBy s (verdict y d)) (step n (verdict y d))
+  unfolding stepBy step act
+  verdict-represents y d = either (accepted n (verdict y d))
+
   pub report-represents : (d : ℕ) → Represents (stepBy s (report d)) (step n (report d))
   unfolding stepBy step act
   report-represents d = either (accepted n (report d))
@@ -41,5 +45,6 @@ step-represents s n (deliver p) r = deliver-represents s n r p
 step-represents s n (repeat p) r = repeat-represents s n r p
 step-represents s n (lose p) r = lose-represents s n r p
 step-represents s n (port y d) r = port-represents s n r y d
+step-represents s n (verdict y d) r = verdict-represents s n r y d
 step-represents s n (report d) r = report-represents s n r d
 step-represents s n (path y d) r = path-represents s n r y d

@@ -24,7 +24,7 @@ use Rattle.bench.proofs.Represents.{Represents, own-represents}
 use Rattle.bench.proofs.TieRanges.{plan-in-range}
 use Rattle.bench.proofs.TieChecks.{refusal-same}
 use Rattle.bench.proofs.TieQueue.{messages-length}
-use Rattle.bench.proofs.TieAnswers.{port-same, own-distance, path-same}
+use Rattle.bench.proofs.TieAnswers.{verdict-same, port-same, own-distance, path-same}
 use Rattle.bench.proofs.TieDeliveries.{placed-answer}
 use Rattle.bench.proofs.TieSteps.{step-represents}
 use Rattle.bench.proofs.TieFresh.{fresh-told}
@@ -53,6 +53,8 @@ module _ (s : State) (n : Network) (r : Represents s n) where
             sym (own-distance s (network s) own y d low end) ∙ own-distance s n r y d low end;
         ports = λ y d hy hd. let low = rw (r .plan) at hy in let end = rw (r .plan) at hd in
             sym (port-same s (network s) own y d low end) ∙ port-same s n r y d low end;
+        verdicts = λ y d hy hd. let low = rw (r .plan) at hy in let end = rw (r .plan) at hd in
+            sym (verdict-same s (network s) own y d low end) ∙ verdict-same s n r y d low end;
         paths = λ y d hy hd. let low = rw (r .plan) at hy in let end = rw (r .plan) at hd in
             sym (path-same s (network s) own y d low end) ∙ path-same s n r y d low end;
       }

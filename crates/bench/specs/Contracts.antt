@@ -9,9 +9,10 @@ use Rattle.agreement.specs.Call.{Response, says}
 use Rattle.agreement.specs.Record.{freshRecord}
 use Rattle.agreement.specs.declared.Answer.{Answer}
 use Rattle.agreement.specs.declared.Port.{Port}
+use Rattle.agreement.specs.declared.Verdict.{Verdict}
 use Rattle.encoding.specs.Numbers.{linkNumber}
 use Rattle.protocol.specs.Net.{Network, fresh}
-use Rattle.protocol.specs.Calls.{Call, change, update, cut, restore, send, deliver, repeat, lose, port, report, path, refusal, checks}
+use Rattle.protocol.specs.Calls.{Call, change, update, cut, restore, send, deliver, repeat, lose, port, verdict, report, path, refusal, checks}
 use Rattle.protocol.specs.Ports.{ownDistance, forwardingPort}
 use Rattle.protocol.specs.Paths as paths
 use Rattle.bench.specs.State.{State, state, network}
@@ -21,6 +22,7 @@ use Rattle.bench.specs.declared.Bench.{Bench}
 use Rattle.bench.specs.declared.Reply.{Reply}
 use Rattle.bench.specs.declared.Reaction.{Reaction}
 use Rattle.bench.specs.declared.Forwarding.{Forwarding}
+use Rattle.bench.specs.declared.VerdictReply.{VerdictReply}
 use Rattle.bench.specs.declared.PathReply.{PathReply}
 
 -- ---- replies as document 01 has them: the number, and the value where the call is accepted
@@ -41,6 +43,10 @@ abbrev pub forwardingResponse : Forwarding → Response Port
 forwardingResponse (Forwarding.Refused k) = refusedBy k
 forwardingResponse (Forwarding.Found p) = says p
 
+abbrev pub verdictResponse : VerdictReply → Response Verdict
+verdictResponse (VerdictReply.Refused k) = refusedBy k
+verdictResponse (VerdictReply.Found v) = says v
+
 abbrev pub pathResponse : PathReply → Response paths.PathResult
 pathResponse (PathReply.Refused k) = refusedBy k
 pathResponse (PathReply.Delivered h) = says (paths.delivered h)
@@ -58,6 +64,7 @@ readyFor s (deliver p) = stateInRange s
 readyFor s (repeat p) = stateInRange s
 readyFor s (lose p) = benchInRange (s .bench) && messagesInRange (s .bench) (s .messages)
 readyFor s (port b d) = networkInRange s
+readyFor s (verdict b d) = networkInRange s
 readyFor s (report d) = networkInRange s
 readyFor s (path b d) = networkInRange s
 
@@ -95,7 +102,9 @@ RefusedChangesNothing = (s : State) (c : Call) → (refusalOf (readyFor s c) (ne
 
 -- and asking changes nothing
 abbrev pub AskingChangesNothing : Type 0
-AskingChangesNothing = (s : State) (b d : ℕ) → (leftBy s (port b d) ≡ s) × (leftBy s (report d) ≡ s) × (leftBy s (path b d) ≡ s)
+AskingChangesNothing =
+    (s : State) (b d : ℕ) →
+    (leftBy s (port b d) ≡ s) × (leftBy s (verdict b d) ≡ s) × (leftBy s (report d) ≡ s) × (leftBy s (path b d) ≡ s)
 
 -- ---- a report's rows, a path's numbers
 

@@ -9,7 +9,7 @@ use lib.Dec.{leb}
 use Rattle.agreement.specs.Call.{says}
 use Rattle.protocol.specs.Net.{Network, Plan, fresh}
 use Rattle.protocol.specs.Calls.{Call, report, refuse, answerAt, run}
-use Rattle.protocol.specs.Ports.{ownDistance, forwardingPort}
+use Rattle.protocol.specs.Ports.{ownDistance, forwardingVerdict, forwardingPort}
 use Rattle.protocol.specs.Paths.{path}
 use Rattle.protocol.specs.LimitViews.{Limits, viewsRun, freshViews}
 use Rattle.protocol.specs.Demand3.{Holds}
@@ -36,6 +36,7 @@ pub record Replies (s : State) (n : Network) : Type 0 where
   pub deliveries : (p : ℕ) → p < length (n .messages) → answerAt (network s) p ≡ answerAt n p
   pub distances : (y d : ℕ) → y < n .plan .graph .bridges → d < n .plan .graph .bridges → ownDistance (network s) y d ≡ ownDistance n y d
   pub ports : (y d : ℕ) → y < n .plan .graph .bridges → d < n .plan .graph .bridges → forwardingPort (network s) y d ≡ forwardingPort n y d
+  pub verdicts : (y d : ℕ) → y < n .plan .graph .bridges → d < n .plan .graph .bridges → forwardingVerdict (network s) y d ≡ forwardingVerdict n y d
   pub paths : (y d : ℕ) → y < n .plan .graph .bridges → d < n .plan .graph .bridges → path (network s) y d ≡ path n y d
 
 -- of state s, in which the calls cs from a fresh network of plan p end: demand 3 holds of them, and it speaks of the network that stands in s

@@ -1,14 +1,16 @@
-// The calls that ask: the forwarding port of a bridge, the report of a destination, the path of a frame.
+// The calls that ask: the forwarding port of a bridge and what holds it shut, the report of a destination, the path of a frame.
 use crate::Bench;
 use crate::Forwarding;
 use crate::PathReply;
 use crate::Reply;
+use crate::VerdictReply;
 use crate::ports;
 use crate::ready;
 use crate::refusals;
 use crate::sizes::REPORT;
 use crate::sizes::TABLES;
 use crate::tables::end_chains;
+use agreement::choices::port_of;
 use distances::sizes::MOST_VIEWS;
 ghost use mathlib.Core.Path.{_≡_};
 ghost use mathlib.Core.Bool.{true};
@@ -18,12 +20,47 @@ ghost use lib.ListN.{length};
 ghost use Rattle.bench.specs.Ranges.{partsInRange};
 ghost use Rattle.bench.specs.State.{state};
 ghost use Rattle.protocol.specs.Calls as calls;
-ghost use Rattle.protocol.specs.Ports.{forwardingPort};
+ghost use Rattle.protocol.specs.Ports.{forwardingVerdict, forwardingPort};
 ghost use Rattle.protocol.specs.Paths as paths;
-ghost use Rattle.bench.specs.Contracts.{doneResponse, forwardingResponse, pathResponse, outcomeOf, reportOutcome, reportOf};
+ghost use Rattle.bench.specs.Contracts.{doneResponse, forwardingResponse, verdictResponse, pathResponse, outcomeOf, reportOutcome, reportOf};
 ghost use Rattle.bench.specs.Private.Answers.{pathOf};
 ghost use Rattle.bench.specs.Private.Steps.{Tables};
 ghost use Rattle.bench.specs.Private.Chains.{Chained};
+
+// The verdict on the port of a bridge for a destination: which condition holds it shut, or that it forwards.
+pub fn verdict(
+    bench: Bench,
+    costs: &[u32],
+    sent: &[u32],
+    held: &[u32],
+    bridge: usize,
+    dest: usize,
+) -> VerdictReply
+    ensures { λ r. ⌜ ((messages : List ℕ) → verdictResponse r ≡ outcomeOf (state bench (now (costs .entry)) (now (sent .entry)) (now (held .entry)) messages) (calls.verdict bridge dest) (λ n. forwardingVerdict n bridge dest) .reply) ⌝ }
+{
+    if !ready::network_in_range(bench, costs, sent.len(), held.len()) {
+        return VerdictReply::Refused(17);
+    }
+    let refusal = refusals::port_refusal(bench.bridges, bridge, dest);
+    if refusal != 0 {
+        return VerdictReply::Refused(refusal);
+    }
+    let mut tables = [0u32; TABLES];
+    let mut known = [false; MOST_VIEWS];
+    let ends = bench.ends;
+    let chain = end_chains(bench.links, &ends);
+    VerdictReply::Found(ports::verdict_in(
+        bench,
+        costs,
+        &mut tables,
+        &mut known,
+        &chain,
+        sent,
+        held,
+        bridge,
+        dest,
+    ))
+}
 
 // The forwarding port of a bridge for a destination.
 pub fn port(
@@ -36,28 +73,11 @@ pub fn port(
 ) -> Forwarding
     ensures { λ r. ⌜ ((messages : List ℕ) → forwardingResponse r ≡ outcomeOf (state bench (now (costs .entry)) (now (sent .entry)) (now (held .entry)) messages) (calls.port bridge dest) (λ n. forwardingPort n bridge dest) .reply) ⌝ }
 {
-    if !ready::network_in_range(bench, costs, sent.len(), held.len()) {
-        return Forwarding::Refused(17);
+    let reply = verdict(bench, costs, sent, held, bridge, dest);
+    match reply {
+        VerdictReply::Refused(by) => Forwarding::Refused(by),
+        VerdictReply::Found(verdict) => Forwarding::Found(port_of(verdict)),
     }
-    let refusal = refusals::port_refusal(bench.bridges, bridge, dest);
-    if refusal != 0 {
-        return Forwarding::Refused(refusal);
-    }
-    let mut tables = [0u32; TABLES];
-    let mut known = [false; MOST_VIEWS];
-    let ends = bench.ends;
-    let chain = end_chains(bench.links, &ends);
-    Forwarding::Found(ports::port_in(
-        bench,
-        costs,
-        &mut tables,
-        &mut known,
-        &chain,
-        sent,
-        held,
-        bridge,
-        dest,
-    ))
 }
 
 // The report of a destination: row b has bridge b's distance in its own view and its link, NONE for no port.

@@ -4,6 +4,7 @@
 use agreement::Answer;
 use agreement::EndRecord;
 use agreement::Port;
+use agreement::Verdict;
 
 pub mod answers;
 pub mod batches;
@@ -62,6 +63,11 @@ pub enum Reaction {
 pub enum Forwarding {
     Refused(u8),
     Found(Port),
+}
+
+pub enum VerdictReply {
+    Refused(u8),
+    Found(Verdict),
 }
 
 pub enum PathReply {

@@ -1,4 +1,4 @@
-// Ports, hops and walks over a network that is in range.
+// Verdicts, hops and walks over a network that is in range.
 use crate::Bench;
 use crate::Hop;
 use crate::PathReply;
@@ -8,9 +8,12 @@ use crate::tables::need_views;
 use agreement::Choice;
 use agreement::Chosen;
 use agreement::Port;
+use agreement::Verdict;
+use agreement::VerdictReply;
 use agreement::choices::first_choice;
 use agreement::choices::next_choice;
-use agreement::choices::port_by;
+use agreement::choices::port_of;
+use agreement::choices::verdict_by;
 use agreement::ready::opposite_end;
 use agreement::sizes::ENDS;
 use distances::ready::both;
@@ -25,12 +28,12 @@ ghost use lib.Dec.{eqb};
 ghost use mathlib.Core.Bool.{cond};
 ghost use Rattle.agreement.specs.Call.{says, lentRecords};
 ghost use Rattle.agreement.specs.declared.EndRecord.{EndRecord};
-ghost use Rattle.agreement.specs.Choice.{nextChoice, portBy};
+ghost use Rattle.agreement.specs.Choice.{nextChoice, verdictBy, portBy};
 ghost use Rattle.distances.specs.View.{graphOf, maxCost};
 ghost use Rattle.bench.specs.State.{state};
 ghost use Rattle.protocol.specs.Ports.{across, isLive};
 ghost use Rattle.protocol.specs.Paths.{onward, delivered, stops};
-ghost use Rattle.bench.specs.Private.Answers.{portIn, reported, hopIn};
+ghost use Rattle.bench.specs.Private.Answers.{verdictIn, reported, hopIn};
 ghost use Rattle.bench.specs.Contracts.{pathResponse};
 ghost use Rattle.bench.specs.Private.Chains.{Chained};
 ghost use Rattle.bench.specs.Private.Steps.{PortsReady, IsFilled, AllFilled, Tables, AreChoices, protocolHop};
@@ -57,19 +60,19 @@ fn choice_with(
     }
 }
 
-fn found_port(choice: Choice) -> Port
-    requires { ⌜ choice .link < 32 ⌝ }
-    ensures { λ r. ⌜ r ≡ portBy choice ⌝ }
+fn found_verdict(choice: Choice) -> Verdict
+    requires { ⌜ (choice .link < 32) × (choice .barring < 32) ⌝ }
+    ensures { λ r. ⌜ r ≡ verdictBy choice ⌝ }
 {
-    let found = port_by(choice);
+    let found = verdict_by(choice);
     match found {
-        agreement::Forwarding::Found(port) => port,
-        agreement::Forwarding::Refused => Port::Closed,
+        VerdictReply::Found(verdict) => verdict,
+        VerdictReply::Refused => Verdict::NoLink,
     }
 }
 
-// The port of a bridge in its own view, whose distances are there. Only plain numbers go to the calls of the loop: the bench is long to copy.
-fn port_at(
+// The verdict on the port of a bridge in its own view, whose distances are there. Only plain numbers go to the calls of the loop: the bench is long to copy.
+fn verdict_at(
     bench: Bench,
     costs: &[u32],
     tables: &[u32],
@@ -78,11 +81,11 @@ fn port_at(
     held: &[u32],
     bridge: usize,
     dest: usize,
-) -> Port
+) -> Verdict
     requires { ⌜ PortsReady bench (now costs) (now sent) (now held) ⌝ }
     requires { ⌜ (bridge < bench .bridges) × (dest < bench .bridges) × (8192 ≤ length (now tables)) ⌝ }
     requires { ⌜ IsFilled bench (now costs) (now tables) (getD (bench .view) bridge 0) × Chained (bench .links) (bench .ends) (now chain) ⌝ }
-    ensures { λ r. ⌜ r ≡ portIn (state bench (now (costs .entry)) (now (sent .entry)) (now (held .entry)) []) bridge dest ⌝ }
+    ensures { λ r. ⌜ r ≡ verdictIn (state bench (now (costs .entry)) (now (sent .entry)) (now (held .entry)) []) bridge dest ⌝ }
 {
     let view = bench.view[bridge] as usize;
     let mut choice = first_choice(tables[TABLE * view + ROW * bridge + dest], bridge == dest);
@@ -102,11 +105,11 @@ fn port_at(
         );
         e = chain[e] as usize;
     }
-    found_port(choice)
+    found_verdict(choice)
 }
 
-// The port of a bridge in its own view.
-pub(crate) fn port_in(
+// The verdict on the port of a bridge in its own view.
+pub(crate) fn verdict_in(
     bench: Bench,
     costs: &[u32],
     tables: &mut [u32],
@@ -116,10 +119,10 @@ pub(crate) fn port_in(
     held: &[u32],
     bridge: usize,
     dest: usize,
-) -> Port
+) -> Verdict
     requires { ⌜ PortsReady bench (now costs) (now sent) (now held) ⌝ }
     requires { ⌜ (bridge < bench .bridges) × (dest < bench .bridges) × Tables bench (now costs) (now tables) (now known) × Chained (bench .links) (bench .ends) (now chain) ⌝ }
-    ensures { λ r. ⌜ r ≡ portIn (state bench (now (costs .entry)) (now (sent .entry)) (now (held .entry)) []) bridge dest ⌝ }
+    ensures { λ r. ⌜ r ≡ verdictIn (state bench (now (costs .entry)) (now (sent .entry)) (now (held .entry)) []) bridge dest ⌝ }
     ensures { λ r. ⌜ Tables bench (now (costs .entry)) (now (tables .exit)) (now (known .exit)) ⌝ }
 {
     let view = bench.view[bridge] as usize;
@@ -133,7 +136,7 @@ pub(crate) fn port_in(
         tables,
         known,
     );
-    port_at(bench, costs, tables, chain, sent, held, bridge, dest)
+    verdict_at(bench, costs, tables, chain, sent, held, bridge, dest)
 }
 
 // The choice of each bridge before any end.
@@ -188,11 +191,11 @@ fn all_choices(
 }
 
 fn report_row(rows: &mut [u32], bridge: usize, choice: Choice)
-    requires { ⌜ (bridge < 16) × (choice .link < 32) × (2 * bridge + 2 ≤ length (now rows)) ⌝ }
+    requires { ⌜ (bridge < 16) × ((choice .link < 32) × (choice .barring < 32)) × (2 * bridge + 2 ≤ length (now rows)) ⌝ }
     ensures { λ r. ⌜ now (rows .exit) ≡ set (set (now (rows .entry)) (2 * bridge) (choice .distance)) (2 * bridge + 1) (linkNumber (portBy choice)) ⌝ }
 {
     rows[2 * bridge] = choice.distance;
-    rows[2 * bridge + 1] = encoding::link_number(found_port(choice));
+    rows[2 * bridge + 1] = encoding::link_number(port_of(found_verdict(choice)));
 }
 
 pub(crate) fn report_rows(
@@ -255,7 +258,8 @@ fn hop_at(
     ensures { λ r. ⌜ protocolHop r ≡ hopIn (state bench (now (costs .entry)) (now (sent .entry)) (now (held .entry)) []) dest bridge ⌝ }
     ensures { λ r. ⌜ Tables bench (now (costs .entry)) (now (tables .exit)) (now (known .exit)) ⌝ }
 {
-    let port = port_in(bench, costs, tables, known, chain, sent, held, bridge, dest);
+    let verdict = verdict_in(bench, costs, tables, known, chain, sent, held, bridge, dest);
+    let port = port_of(verdict);
     let Port::Open(number) = port else {
         return Hop::Stays;
     };

@@ -2,8 +2,8 @@
 use Rattle.distances.proofs.Laws.{dist-is-distance, nothing-else-is, none-iff}
 use Rattle.distances.proofs.Greatest.{greatest-distance}
 use Rattle.distances.proofs.Known.{distances-apply}
-use Rattle.agreement.proofs.Forwards.{port-follows-rule}
-use Rattle.agreement.proofs.ChoiceLaws.{choice-is-port}
+use Rattle.agreement.proofs.Forwards.{verdict-is-so, no-other-verdict, port-follows-rule}
+use Rattle.agreement.proofs.ChoiceLaws.{choice-is-verdict}
 use Rattle.agreement.proofs.Offers.{offer-is}
 use Rattle.agreement.proofs.BetweenLaws.{plain-ends}
 use Rattle.protocol.proofs.Rules.{demand2}
@@ -36,7 +36,9 @@ claims =
       none = none-iff;
       greatest = greatest-distance;
       rule = port-follows-rule;
-      choice = choice-is-port;
+      verdict = verdict-is-so;
+      noOtherVerdict = no-other-verdict;
+      choice = choice-is-verdict;
       lentOffers = offer-is;
       plainEnds = plain-ends;
       demand2 = demand2;

@@ -14,11 +14,12 @@ use Rattle.agreement.specs.Offer.{opposite}
 use Rattle.agreement.specs.Ranges.{recordInRange, recordsInRange}
 use Rattle.agreement.specs.declared.Answer.the-variants.{Stale}
 use Rattle.agreement.specs.declared.Port.the-variants.{Open}
+use Rattle.agreement.specs.declared.Verdict.the-variants.{SentNotAbove}
 use Rattle.encoding.specs.Numbers.{linkNumber}
 use Rattle.protocol.specs.Net.{Network, Plan, offerIn, fresh}
 use Rattle.protocol.specs.Calls as calls
 use Rattle.protocol.specs.Calls.{Call, change, cut, refuse, run, answerAt}
-use Rattle.protocol.specs.Ports.{ownDistance, forwardingPort, crosses, hop}
+use Rattle.protocol.specs.Ports.{ownDistance, forwardingVerdict, forwardingPort, crosses, hop}
 use Rattle.protocol.specs.Rings.{Trail.stay, Trail.cross}
 use Rattle.protocol.specs.Paths.{delivered, stops, path}
 use Rattle.protocol.specs.Paths as paths
@@ -81,8 +82,9 @@ module _ (claims : Claims) where
 
 record Facts : Type 0 where
   bridges : (made callsE3 .plan .graph .bridges ≡ 3) × (made callsE4 .plan .graph .bridges ≡ 3) × (made callsOneEnd .plan .graph .bridges ≡ 3)
-  none : (refuse (made callsE3) (calls.port 2 0) ≡ 0) × (refuse (made callsE3) (calls.report 0) ≡ 0)
+  none : (refuse (made callsE3) (calls.port 2 0) ≡ 0) × (refuse (made callsE3) (calls.report 0) ≡ 0) × (refuse (made callsE6) (calls.port 2 0) ≡ 0)
   port : forwardingPort (made callsE3) 2 0 ≡ Open 1
+  verdict : (made callsE6 .plan .graph .bridges ≡ 3) × (forwardingVerdict (made callsE6) 1 0 ≡ SentNotAbove 1)
   path : path (made callsE3) 2 0 ≡ delivered 2
   dies : (forwardingPort (made callsOneEnd) 1 0 ≡ Open 0) × (paths.path (made callsOneEnd) 2 0 ≡ stops 1 1)
   distance : (ownDistance (made callsE3) 2 0 ≡ 2) × (ownDistance (made callsE4) 1 0 ≡ 4)
@@ -96,8 +98,9 @@ unfolding all
 facts =
     record {
       bridges = (refl, refl, refl);
-      none = (refl, refl);
+      none = (refl, refl, refl);
       port = refl;
+      verdict = (refl, refl);
       path = refl;
       dies = (refl, refl);
       distance = (refl, refl);
@@ -200,9 +203,15 @@ module _ (claims : Claims) where
       let rows = t .reports 0 (replicate 32 5) (there 0 (omega arith)) (omega (arith, length-replicate {A = ℕ} 32 5)) .1 in
       let pulled = meets claims callsOneEnd .replies in
       let third = low (facts .bridges .2) in
+      let at-e6 = low (facts .verdict .0) in
+      let sixth = low (three claims callsE6 (facts .verdict .0)) in
       let limits = meets claims callsE6 .limits 2 0 (omega arith) (omega arith) in
       record {
         port = t .ports 2 0 (there 2 (omega arith)) (there 0 (omega arith)) ∙ ap (λ p. outcome (says p) (left callsE3)) (m .ports 2 0 two zero ∙ facts .port);
+        verdict =
+            tells claims callsE6 (facts .none .2) .verdicts 1 0 (sixth 1 (omega arith)) (sixth 0 (omega arith))
+            ∙ ap (λ v. outcome (says v) (left callsE6))
+            (meets claims callsE6 .replies .verdicts 1 0 (at-e6 1 (omega arith)) (at-e6 0 (omega arith)) ∙ facts .verdict .1);
         path = t .paths 2 0 (there 2 (omega arith)) (there 0 (omega arith)) ∙ ap (λ w. outcome (says w) (left callsE3)) (m .paths 2 0 two zero ∙ facts .path);
         report = (
           rows .distances 2 (there 2 (omega arith)) ∙ m .distances 2 0 two zero ∙ facts .distance .0,
@@ -221,7 +230,7 @@ module _ (claims : Claims) where
         accepted = meets claims callsE7 .replies .refusals (calls.deliver 0) ∙ facts .accepted;
         stale = meets claims callsE7 .replies .deliveries 0 (facts .inFlight) ∙ facts .stale;
         refused = claims .refused started (change (cut 0 9)) none-cut;
-        asking = (claims .asking started 2 0 .0, claims .asking started 2 0 .1, claims .asking started 2 0 .2);
+        asking = (claims .asking started 2 0 .0, claims .asking started 2 0 .1, claims .asking started 2 0 .2, claims .asking started 2 0 .3);
         noRing = λ l e. meets claims callsE7 .holds .noRing 0 1 1 (cross crossing (cross e stay));
         reported = meets claims callsE3 .replies .reports 0 (replicate 40 5) (omega (arith, length-replicate {A = ℕ} 40 5)) ∙ facts .none .1;
         made = ap (λ (k : ℕ). eachAccepted started (take k events)) (sym two-made) ∙ claims .batches 6 started events .accepted;

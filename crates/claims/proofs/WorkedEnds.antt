@@ -15,7 +15,7 @@ use Rattle.agreement.specs.Limits.{withLimits}
 use Rattle.agreement.specs.Ranges.{isView, recordInRange, endInRange, deliveryInRange}
 use Rattle.agreement.specs.Record.{freshRecord}
 use Rattle.agreement.specs.declared.Answer.{Answer}
-use Rattle.protocol.specs.Examples.{after, callsE3}
+use Rattle.protocol.specs.Examples.{after, callsE3, callsE6}
 use Rattle.protocol.specs.Ports.{hop}
 use Rattle.protocol.proofs.Example.{computing}
 use Rattle.claims.specs.Claims.{Claims}
@@ -43,7 +43,7 @@ holds i j hi hj =
 pub worked-ends : Claims → WorkedEnds
 unfolding all
 worked-ends claims =
-    let by = claims .rule triangle (triangle-in-range .differ) view0 (dist triangle view0) (after callsE3 .records) 2 0 in
+    let by = claims .rule triangle (triangle-in-range .differ) view0 (dist triangle view0) (after callsE3 .records) 2 0 (omega arith) in
     record {
       noOther = λ x is. claims .noOther triangle view1 1 0 x 4 is (claims .distances triangle view1 triangle-in-range view1-in-range 1 0);
       greatest = claims .greatest .most triangle view1 triangle-in-range view1-in-range 1 0 (λ e. omega arith);
@@ -51,8 +51,12 @@ worked-ends claims =
       none = λ no. omega (arith, claims .none triangle view1 triangle-in-range view1-in-range 1 0 .1 no);
       rule = by .0 1 refl;
       opens = by .1 1 (by .0 1 refl);
-      closes = claims .rule triangle (triangle-in-range .differ) view0 (dist triangle view0) (after [] .records) 2 0 .2 (λ l e w. omega (arith, w .allowed .held));
+      closes = claims .rule triangle (triangle-in-range .differ) view0 (dist triangle view0) (after [] .records) 2 0 (omega arith) .2 (λ l e w. omega (arith, w .allowed .held));
       choice = claims .choice triangle view0 (dist triangle view0) (after callsE3 .records) 2 0;
+      verdict = claims .verdict triangle view1 (dist triangle view1) (after callsE6 .records) 1 0;
+      noOtherVerdict = λ v is.
+          sym (claims .noOtherVerdict triangle (triangle-in-range .differ) view1 (dist triangle view1) (after callsE6 .records) 1 0 (omega arith) v is);
+      noLink = claims .verdict triangle view1 (λ i j. 7) (after [] .records) 1 0 .2;
       lentOffers = claims .lentOffers lent lent-ready holds 3 0 (omega arith) (omega arith);
       plainUpdate = ap (λ (o : Outcome ℕ). cell (o .sent) 3 0) (sym (claims .plainEnds .update lent 2 1 3 freshRecord limits limits refl));
       plainDelivery =

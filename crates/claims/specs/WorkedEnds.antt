@@ -1,5 +1,5 @@
 -- Worked cases of layers 1 and 2, on the triangle of document 01's examples. Assumes nothing.
-use Prim.Native.Nat.{ℕ, _≤_}
+use Prim.Native.Nat.{ℕ, _≤_, _<_}
 use mathlib.Core.Path.{_≡_}
 use mathlib.Core.List.{List, [], _∷_}
 use lib.ListN.{length, replicate}
@@ -10,16 +10,20 @@ use Rattle.distances.specs.Table.{cell}
 use Rattle.distances.specs.Call.{distancesOf}
 use Rattle.distances.specs.Examples.{triangle, view0, view1}
 use Rattle.agreement.specs.Call.{ViewData, viewData, lentOffer}
-use Rattle.agreement.specs.Choice.{portBy, choiceBelow}
+use Rattle.agreement.specs.Choice.{verdictBy, choiceBelow}
 use Rattle.agreement.specs.Ends.{betweenAt, updateBetween, deliverBetween}
 use Rattle.agreement.specs.Record.{freshRecord}
 use Rattle.agreement.specs.Forwarding.{port}
-use Rattle.agreement.specs.Rule.{Forwards}
+use Rattle.agreement.specs.Rule as rules
+use Rattle.agreement.specs.Rule.{Reaches}
+use Rattle.agreement.specs.Reasons.{Says}
 use Rattle.agreement.specs.declared.Agreement.{Agreement}
 use Rattle.agreement.specs.declared.Port.the-variants.{Closed, Open}
+use Rattle.agreement.specs.declared.Verdict.{Verdict}
+use Rattle.agreement.specs.declared.Verdict.the-variants.{SentNotAbove, Forwards}
 use Rattle.protocol.specs.Calls as calls
 use Rattle.protocol.specs.Paths.{linksCrossed}
-use Rattle.protocol.specs.Examples.{after, callsE3, callsE7, answered}
+use Rattle.protocol.specs.Examples.{after, callsE3, callsE6, callsE7, answered}
 
 -- the triangle's view 1 as it is lent to layer 2, with its distances; limits that are all absent; a message of a bridge on view 1
 abbrev pub lent : ViewData
@@ -42,10 +46,15 @@ pub record WorkedEnds : Type 0 where
   pub apart : (ls : List ℕ) → IsPath triangle (λ l. 0) 1 ls 0 → ⊥
   pub none : ((ls : List ℕ) → IsPath triangle view1 1 ls 0 → ⊥) → ⊥
   -- E3: bridge 2 uses link 1: by the rule, both ways, and by the choice of one end after another; E2: fresh, it uses none
-  pub rule : (e : ℕ) × Forwards triangle view0 (dist triangle view0) (after callsE3 .records) 2 0 1 e
+  pub rule : (e : ℕ) × rules.Forwards triangle view0 (dist triangle view0) (after callsE3 .records) 2 0 1 e
   pub opens : port triangle view0 (dist triangle view0) (after callsE3 .records) 2 0 ≡ Open 1
   pub closes : port triangle view0 (dist triangle view0) (after [] .records) 2 0 ≡ Closed
-  pub choice : portBy (choiceBelow triangle view0 (dist triangle view0) (after callsE3 .records) 2 0 6) ≡ Open 1
+  pub choice : verdictBy (choiceBelow triangle view0 (dist triangle view0) (after callsE3 .records) 2 0 6) ≡ Forwards 1
+  -- E6: of bridge 1 it is said that its sent limit on link 1 is not above its distance, and nothing else is so. By numbers that are no distances no link
+  -- of it reaches its own
+  pub verdict : Says triangle view1 (dist triangle view1) (after callsE6 .records) 1 0 (SentNotAbove 1)
+  pub noOtherVerdict : (v : Verdict) → Says triangle view1 (dist triangle view1) (after callsE6 .records) 1 0 v → v ≡ SentNotAbove 1
+  pub noLink : (e : ℕ) → e < 6 → Reaches triangle view1 (λ i j. 7) 1 0 e → ⊥
   -- bridge 2's offer over link 1 for bridge 0 in view 1 is 4, of a lent view too
   pub lentOffers : lentOffer lent 3 0 ≡ 4
   -- by plain numbers: bridge 2's end of link 1, end 3, goes to view 1, and its sent limit falls to that offer; the message arrives at bridge 1's

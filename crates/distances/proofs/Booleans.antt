@@ -31,12 +31,6 @@ pub other-false : (p q : Bool) → not (p && q) ≡ true → q ≡ true → p �
 other-false true q e f = absurd (false≢true (rw f at e))
 other-false false q e f = refl
 
--- a test that is due only where two others hold
-pub due : (p q t : Bool) → (p ≡ true → q ≡ true → t ≡ true) → (not (p && q) || t) ≡ true
-due true true t f = f refl refl
-due true false t f = refl
-due false q t f = refl
-
 -- negated tests on numbers
 pub unequal : (a b : ℕ) → not (eqb a b) ≡ true → a ≡ b → ⊥
 unequal a b e = eqb-false a b (not-true (eqb a b) e)

@@ -15,15 +15,6 @@ use Rattle.distances.specs.Call.{every, allBelow, linkPasses, linkInRang
 use Rattle.distances.specs.View.{InRange, CostsInRange, graphOf, costsOf, maxCost}
 use Rattle.distances.proofs.Booleans.{both-true, true-both, not-both, same-test}
 
--- of no tests every one holds; of one test more, that one and the others
-pub every-none : every [] ≡ true
-unfolding every
-every-none = refl
-
-pub every-more : (b : Bool) (bs : List Bool) → every (b ∷ bs) ≡ (b && every bs)
-unfolding every
-every-more b bs = refl
-
 pub refused : (i : ℕ) (bs : List Bool) → getD bs i true ≡ false → false ≡ every bs
 unfolding every
 refused i [] e = sym e

@@ -1,10 +1,11 @@
-// Records, agreements, answers, flags and ports as numbers in lent slices. Views have 8 bits and other numbers 16; any number but 0 stands for
-// true. A list holds a record or an agreement where each number fits its field, and there the
-// remainders change nothing. Past the end of a list a number is read as 0, and nothing is written.
+// Records, agreements, answers, flags, ports and verdicts as numbers in lent slices. Views have 8 bits and other numbers 16; any number but 0
+// stands for true. A list holds a record or an agreement where each number fits its field, and there the remainders change nothing. Past the
+// end of a list a number is read as 0, and nothing is written.
 use agreement::Agreement;
 use agreement::Answer;
 use agreement::EndRecord;
 use agreement::Port;
+use agreement::Verdict;
 use agreement::calls;
 use agreement::sizes::ENDS;
 use agreement::sizes::NUMBERS;
@@ -16,6 +17,7 @@ ghost use mathlib.Core.List.{[], _∷_};
 ghost use lib.ListN.{getD, set};
 ghost use lib.Seq.{sets};
 ghost use Rattle.agreement.specs.Record.{answerNumbers};
+ghost use Rattle.agreement.specs.Reasons.{verdictNumbers};
 ghost use Rattle.encoding.specs.Numbers.{isSet, recordAt, agreementIn, recordsIn, flagsIn, recordFits, holdsRecord, holdsAgreement, holdsRecords, recordNumbers, agreementNumbers, linkNumber};
 
 // The numbers of an agreement: view, number, discarded number.
@@ -23,6 +25,9 @@ pub const AGREEMENT: usize = 3;
 
 // The numbers of a delivery's answer, and of a path.
 pub const ANSWER: usize = 3;
+
+// The numbers of a verdict.
+pub const VERDICT: usize = 2;
 
 // The ends that have records, and the numbers of these.
 const RECORDS: u16 = ENDS as u16;
@@ -158,11 +163,17 @@ pub fn flags_in(numbers: &[u8]) -> [bool; 64]
 }
 
 // To the front of `out`, as far as it reaches; so do the others that put.
-pub fn put_three(first: u32, second: u32, third: u32, out: &mut [u32])
-    ensures { λ r. ⌜ now (out .exit) ≡ sets (now (out .entry)) 0 (first ∷ second ∷ third ∷ []) ⌝ }
+fn put_two(first: u32, second: u32, out: &mut [u32])
+    ensures { λ r. ⌜ now (out .exit) ≡ sets (now (out .entry)) 0 (first ∷ second ∷ []) ⌝ }
 {
     write_at(out, 0, first);
     write_at(out, 1, second);
+}
+
+pub fn put_three(first: u32, second: u32, third: u32, out: &mut [u32])
+    ensures { λ r. ⌜ now (out .exit) ≡ sets (now (out .entry)) 0 (first ∷ second ∷ third ∷ []) ⌝ }
+{
+    put_two(first, second, out);
     write_at(out, 2, third);
 }
 
@@ -214,5 +225,22 @@ pub fn link_number(port: Port) -> u32
     match port {
         Port::Closed => NONE,
         Port::Open(link) => link as u32,
+    }
+}
+
+// The place of the condition in document 02's list, 0 where the port forwards, 7 where no link reaches the distance; then the link, NONE where
+// none is named.
+pub fn put_verdict(verdict: Verdict, out: &mut [u32])
+    ensures { λ r. ⌜ now (out .exit) ≡ sets (now (out .entry)) 0 (verdictNumbers verdict) ⌝ }
+{
+    match verdict {
+        Verdict::IsDestination => put_two(1, NONE, out),
+        Verdict::NoPath => put_two(2, NONE, out),
+        Verdict::LinkDown(link) => put_two(3, link as u32, out),
+        Verdict::NothingHeld(link) => put_two(4, link as u32, out),
+        Verdict::HeldTooGreat(link) => put_two(5, link as u32, out),
+        Verdict::SentNotAbove(link) => put_two(6, link as u32, out),
+        Verdict::NoLink => put_two(7, NONE, out),
+        Verdict::Forwards(link) => put_two(0, link as u32, out),
     }
 }

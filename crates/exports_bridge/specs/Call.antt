@@ -7,8 +7,20 @@ use mathlib.Core.List.{List, [], _∷_}
 use lib.ListN.{length}
 use lib.Dec.{leb}
 use Rattle.agreement.specs.Record.{answerNumbers}
+use Rattle.agreement.specs.Reasons.{verdictNumbers}
 use Rattle.agreement.specs.Update.{bridgeUpdateOutcome}
-use Rattle.agreement.specs.Call.{Response, Outcome, ViewData, offerOutcome, freshOutcome, updateOutcome, carryOutcome, deliverOutcome, portOutcome}
+use Rattle.agreement.specs.Call.{
+  Response,
+  Outcome,
+  ViewData,
+  offerOutcome,
+  freshOutcome,
+  updateOutcome,
+  carryOutcome,
+  deliverOutcome,
+  verdictOutcome,
+  portOutcome,
+}
 use Rattle.agreement.specs.declared.Answer.{Answer}
 use Rattle.encoding.specs.Numbers.{
   recordAt,
@@ -75,3 +87,10 @@ portReply v views down records sent held y d out =
     (leb 64 (length down) && (holdsRecords records && leb 1 (length out)))
     (out ∷ [])
     (valueReply portNumbers out (portOutcome v views (flagsIn down) (recordsIn records) sent held y d))
+
+unfoldable pub verdictReply : ViewData → ℕ → List ℕ → List ℕ → List ℕ → List ℕ → ℕ → ℕ → List ℕ → CallOutcome
+verdictReply v views down records sent held y d out =
+    ifLong
+    (leb 64 (length down) && (holdsRecords records && leb 2 (length out)))
+    (out ∷ [])
+    (valueReply verdictNumbers out (verdictOutcome v views (flagsIn down) (recordsIn records) sent held y d))

@@ -7,15 +7,17 @@ use agreement::Forwarding;
 use agreement::Offered;
 use agreement::Reaction;
 use agreement::Reply;
+use agreement::VerdictReply;
 use agreement::calls;
 use agreement::sizes::ENDS;
 use encoding::AGREEMENT;
 use encoding::ANSWER;
+use encoding::VERDICT;
 ghost use mathlib.Core.Path.{_≡_};
 ghost use mathlib.Core.List.{[], _∷_};
 ghost use Rattle.agreement.specs.Call.{viewData};
 ghost use Rattle.encoding.specs.Replies.{callOutcome};
-ghost use Rattle.exports_bridge.specs.Call.{offerReply, freshReply, bridgeUpdateReply, updateReply, carryReply, deliverReply, portReply};
+ghost use Rattle.exports_bridge.specs.Call.{offerReply, freshReply, bridgeUpdateReply, updateReply, carryReply, deliverReply, portReply, verdictReply};
 
 // `agreement::calls::offer_over`: the offer goes to out[0].
 #[no_mangle]
@@ -282,6 +284,60 @@ pub extern "C" fn bench_port(
         Forwarding::Refused => 17,
         Forwarding::Found(port) => {
             out[0] = encoding::link_number(port);
+            0
+        }
+    }
+}
+
+// `agreement::calls::verdict`: the number of the verdict goes to out[0], the link that it names to out[1], as `encoding::put_verdict` has them.
+// `down` and `records` as in `bench_port`.
+#[no_mangle]
+pub extern "C" fn bench_verdict(
+    bridges: usize,
+    links: usize,
+    ends: &[u8],
+    costs: &[u32],
+    table: &[u32],
+    views: usize,
+    down: &[u8],
+    records: &[u32],
+    sent: &[u32],
+    held: &[u32],
+    bridge: usize,
+    dest: usize,
+    out: &mut [u32],
+) -> u8
+    ensures { λ r. ⌜ callOutcome r (now (out .exit) ∷ []) ≡ verdictReply (viewData bridges links (now (ends .entry)) (now (costs .entry)) (now (table .entry))) views (now (down .entry)) (now (records .entry)) (now (sent .entry)) (now (held .entry)) bridge dest (now (out .entry)) ⌝ }
+{
+    if down.len() < ENDS {
+        return 17;
+    }
+    if !encoding::holds_records(records) {
+        return 17;
+    }
+    if out.len() < VERDICT {
+        return 17;
+    }
+    let flags = encoding::flags_in(down);
+    let known = encoding::records_in(records);
+    let found = calls::verdict(
+        bridges,
+        links,
+        ends,
+        costs,
+        table,
+        views,
+        flags,
+        known,
+        sent,
+        held,
+        bridge,
+        dest,
+    );
+    match found {
+        VerdictReply::Refused => 17,
+        VerdictReply::Found(verdict) => {
+            encoding::put_verdict(verdict, out);
             0
         }
     }

@@ -9,8 +9,9 @@ use lib.Dec.{eqb, leb, ltb}
 use Rattle.distances.specs.Table.{rewritten}
 use Rattle.distances.specs.Call.{allBelow}
 use Rattle.agreement.specs.Record.{freshRecord, answerNumbers}
-use Rattle.protocol.specs.Calls.{Call, change, update, cut, restore, send, deliver, repeat, lose, port, path, answerAt}
-use Rattle.protocol.specs.Ports.{forwardingPort}
+use Rattle.agreement.specs.Reasons.{verdictNumbers}
+use Rattle.protocol.specs.Calls.{Call, change, update, cut, restore, send, deliver, repeat, lose, port, verdict, path, answerAt}
+use Rattle.protocol.specs.Ports.{forwardingVerdict, forwardingPort}
 use Rattle.protocol.specs.Paths as paths
 use Rattle.bench.specs.declared.Bench.{Bench}
 use Rattle.bench.specs.State.{State, state}
@@ -127,6 +128,11 @@ unfoldable pub netPortReply : List ℕ → List ℕ → List ℕ → List ℕ �
 netPortReply xs costs sent held y d out =
     ifLong (holdsBench xs && leb 1 (length out)) (out ∷ [])
     (valueReply portNumbers out (outcomeOf (state (benchIn xs) costs sent held []) (port y d) (λ n. forwardingPort n y d) .reply))
+
+unfoldable pub netVerdictReply : List ℕ → List ℕ → List ℕ → List ℕ → ℕ → ℕ → List ℕ → CallOutcome
+netVerdictReply xs costs sent held y d out =
+    ifLong (holdsBench xs && leb 2 (length out)) (out ∷ [])
+    (valueReply verdictNumbers out (outcomeOf (state (benchIn xs) costs sent held []) (verdict y d) (λ n. forwardingVerdict n y d) .reply))
 
 unfoldable pub netPathReply : List ℕ → List ℕ → List ℕ → List ℕ → ℕ → ℕ → List ℕ → CallOutcome
 netPathReply xs costs sent held y d out =

@@ -7,9 +7,11 @@ use bench::Forwarding;
 use bench::PathReply;
 use bench::Reaction;
 use bench::Reply;
+use bench::VerdictReply;
 use bench::answers;
 use bench::changes;
 use encoding::ANSWER;
+use encoding::VERDICT;
 ghost use mathlib.Core.Path.{_≡_};
 ghost use mathlib.Core.List.{[], _∷_};
 ghost use Prim.Native.Nat.{_≤_};
@@ -18,7 +20,7 @@ ghost use Rattle.bench.specs.Contracts.{doneResponse, reactionResponse};
 ghost use Rattle.bench.specs.declared.Reaction as replies;
 ghost use Rattle.agreement.specs.Record.{answerNumbers};
 ghost use Rattle.encoding.specs.Replies.{callOutcome, withValue};
-ghost use Rattle.exports_network.specs.Network.{withBench, netFreshReply, netUpdateReply, netCutReply, netRestoreReply, netSendReply, netLoseReply, netDeliverReply, netRepeatReply, netPortReply, netReportReply, netPathReply};
+ghost use Rattle.exports_network.specs.Network.{withBench, netFreshReply, netUpdateReply, netCutReply, netRestoreReply, netSendReply, netLoseReply, netDeliverReply, netRepeatReply, netPortReply, netVerdictReply, netReportReply, netPathReply};
 
 fn number_of(reply: Reply) -> u8
     ensures { λ r. ⌜ r ≡ doneResponse reply .number ⌝ }
@@ -227,6 +229,36 @@ pub extern "C" fn bench_net_port(
         Forwarding::Refused(by) => by,
         Forwarding::Found(port) => {
             out[0] = encoding::link_number(port);
+            0
+        }
+    }
+}
+
+// `bench::answers::verdict`: the number of the verdict goes to out[0], the link that it names to out[1], as `encoding::put_verdict` has them.
+#[no_mangle]
+pub extern "C" fn bench_net_verdict(
+    bench: &[u32],
+    costs: &[u32],
+    sent: &[u32],
+    held: &[u32],
+    bridge: usize,
+    dest: usize,
+    out: &mut [u32],
+) -> u8
+    ensures { λ r. ⌜ callOutcome r (now (out .exit) ∷ []) ≡ netVerdictReply (now (bench .entry)) (now (costs .entry)) (now (sent .entry)) (now (held .entry)) bridge dest (now (out .entry)) ⌝ }
+{
+    if !benches::holds(bench) {
+        return 17;
+    }
+    if out.len() < VERDICT {
+        return 17;
+    }
+    let old = benches::load(bench);
+    let found = answers::verdict(old, costs, sent, held, bridge, dest);
+    match found {
+        VerdictReply::Refused(by) => by,
+        VerdictReply::Found(verdict) => {
+            encoding::put_verdict(verdict, out);
             0
         }
     }

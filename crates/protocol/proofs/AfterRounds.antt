@@ -16,7 +16,7 @@ use Rattle.agreement.proofs.Ends.{opposite-opposite, linkOf-opposite, offer-giv
 use Rattle.agreement.specs.Rule.{Reaches, IsChosen, Forwards}
 use Rattle.agreement.proofs.Forwards.{chosen-exists, chosen-is, link-reaches, forwards-open}
 use Rattle.protocol.specs.Net.{Network, distanceIn}
-use Rattle.protocol.specs.Ports.{forwardingPort, Crosses}
+use Rattle.protocol.specs.Ports.{forwardingVerdict, forwardingPort, Crosses}
 use Rattle.protocol.proofs.Hops.{hop-open}
 use Rattle.protocol.proofs.Deliveries.{InformedAt, ClearedAt, OneView}
 
@@ -67,7 +67,7 @@ module _ (n : Network) (t : ℕ) (ready : Ready n t) (y d : ℕ) (near : distanc
 
   -- where some end reaches the distance and d is another bridge, y forwards
   forwards-by : (e : ℕ) → y < n .plan .graph .bridges → (y ≡ d → ⊥) → e < 2 * n .plan .graph .links → Reaches (n .plan .graph) (n .plan .costs t) (distanceIn (n .plan) t) y d e → ForwardsOver n t y d (chosenIn n t y d)
-  unfolding forwardingPort
+  unfolding forwardingPort forwardingVerdict
   forwards-by e there away h r =
       let g : Graph = n .plan .graph in
       let c : Costs = n .plan .costs t in
@@ -89,7 +89,7 @@ module _ (n : Network) (t : ℕ) (ready : Ready n t) (y d : ℕ) (near : distanc
             };
       } in
       let up : UpAt (n .records) k = by .allowed .up in
-      let opens : forwardingPort n y d ≡ Open (linkOf k) = rw (ready .oneView .onView y there) (forwards-open g c f (n .records) y d (range .differ) by) in
+      let opens : forwardingPort n y d ≡ Open (linkOf k) = rw (ready .oneView .onView y there) (forwards-open g c f (n .records) y d (range .differ) (omega arith) by) in
       record {
         by = by;
         opens = opens;

@@ -7,12 +7,13 @@ use mathlib.Core.List.{List, []}
 use Rattle.distances.specs.View.{NONE}
 use Rattle.distances.specs.Meaning.{IsLeast, IsDistance}
 use Rattle.distances.specs.Examples.{triangle, view1}
+use Rattle.agreement.specs.declared.Verdict.the-variants.{IsDestination}
 use Rattle.protocol.specs.Ports.{stays, hop}
 use Rattle.protocol.specs.Rings.{Trail.stay, Trail.cross}
 use Rattle.protocol.specs.Demand2.{ByTheRule, Demand2}
 use Rattle.protocol.specs.Demand3.{Demand3}
 use Rattle.protocol.specs.Calls.{Call}
-use Rattle.protocol.specs.Examples.{plan, after, callsE3, callsOneEnd, callsE4, callsE6, callsE7}
+use Rattle.protocol.specs.Examples.{plan, after, callsE3, callsOneEnd, callsOwnEnd, callsE4, callsE6, callsE7}
 use Rattle.protocol.specs.SettlingMet.{before, first, second, SettlingCanBeMet}
 use Rattle.protocol.specs.Applied.{RuleAtExamples, ListsAtExamples, DemandsApply}
 use Rattle.protocol.proofs.Hops.{stays-crosses}
@@ -43,6 +44,12 @@ rule-applies claim met =
       crossed = at callsE3 .crossed 0 2 1 1 (crossing .0) (crossing .1);
       dies = (at callsOneEnd .forwards 1 0 0 refl, λ z e w. stays-crosses 0 z (at callsOneEnd .crossed 0 1 0 z e w));
       closed = at [] .closed 2 0 (λ l e w. omega (arith, w .allowed .held));
+      nothing = at [] .verdict 2 0;
+      tooGreat = at callsE4 .verdict 1 0;
+      notAbove = at callsE6 .verdict 1 0;
+      linkDown = at callsOwnEnd .verdict 1 0;
+      isDestination = at callsE6 .noOtherVerdict 0 0 IsDestination refl;
+      hasLink = at callsE4 .hasLink 1 0;
       arrives = at callsE3 .paths 2 0;
       stops = (stop .0, over (stop .2));
       stopsDying = (dying .0, over-dying (dying .2));

@@ -17,7 +17,7 @@ use Rattle.agreement.proofs.Ends.{opposite-below, bridge-in-range}
 use Rattle.agreement.proofs.Forwards.{open-forwards}
 use Rattle.protocol.specs.Net.{Network}
 use Rattle.protocol.specs.Demand2.{ForwardsBy, CrossesBy}
-use Rattle.protocol.specs.Ports.{stays, crosses, ownDistance, forwardingPort, across, isLive, hopBy, hop, Crosses}
+use Rattle.protocol.specs.Ports.{stays, crosses, ownDistance, forwardingVerdict, forwardingPort, across, isLive, hopBy, hop, Crosses}
 use Rattle.protocol.proofs.Invariant.{far}
 use Rattle.protocol.proofs.Links.{across-far}
 
@@ -57,8 +57,8 @@ module _ (r : Records) (e : ℕ) where
 
 module _ (n : Network) where
   pub port-forwards : (y d l : ℕ) → forwardingPort n y d ≡ Open l → (e : ℕ) × ForwardsBy n y d l e
-  unfolding forwardingPort
-  port-forwards y d l e = (_, open-forwards _ _ _ _ y d l e)
+  unfolding forwardingPort forwardingVerdict
+  port-forwards y d l e = open-forwards _ _ _ _ y d l e
 
   -- the bridge across the link is the far one of the end
   across-by : InRange (n .plan .graph) → (y d l e : ℕ) → ForwardsBy n y d l e → across (n .plan .graph) l y ≡ far n e

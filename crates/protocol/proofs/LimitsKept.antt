@@ -12,7 +12,7 @@ use Rattle.agreement.specs.Record.{heldLimit, updated, heldUpdated, isStale, is
 use Rattle.agreement.specs.declared.EndRecord.{EndRecord}
 use Rattle.agreement.proofs.RecordLaws.{updated-adopts, updated-keeps, held-adopts, held-keeps, sent-updated, agreed-view, stale-recorded, agreed-recorded, noted-recorded, stale-held, agreed-held, noted-held, sent-cleared, sent-kept}
 use Rattle.protocol.specs.Net.{Network, Plan, Message, sender, offerIn, fresh}
-use Rattle.protocol.specs.Calls.{Call, change, update, cut, restore, send, deliver, repeat, lose, port, report, path, accepted, messageAt, moved, updatedTo, withEnd, sentOver, receivedAt, afterDelivery, afterChange, act, step, run}
+use Rattle.protocol.specs.Calls.{Call, change, update, cut, restore, send, deliver, repeat, lose, port, verdict, report, path, accepted, messageAt, moved, updatedTo, withEnd, sentOver, receivedAt, afterDelivery, afterChange, act, step, run}
 use Rattle.protocol.specs.LimitViews.{movesTo, receives, nothing, updateEffect, deliveryEffect, acceptedEffect, endEffect, only, EndViews, freshViews, viewsAfter, viewsRun, leastOver, offerHeld, Limits, LimitsAsDefined}
 use Rattle.protocol.proofs.Runs.{plan-run}
 
@@ -107,6 +107,7 @@ module _ (n : Network) (e d : ℕ) (v : EndViews) (old : Limits (n .plan) (n .re
   limits-act (repeat p) = limits-delivered p
   limits-act (lose p) = old
   limits-act (port b f) = old
+  limits-act (verdict b f) = old
   limits-act (report f) = old
   limits-act (path s f) = old
 

@@ -16,7 +16,7 @@ use Rattle.agreement.specs.Offer.{opposite}
 use Rattle.agreement.specs.Forwarding.{UpAt, isUp}
 use Rattle.agreement.proofs.Ends.{opposite-opposite, opposite-below}
 use Rattle.protocol.specs.Net.{Network, Message}
-use Rattle.protocol.specs.Calls.{Call, change, send, deliver, repeat, lose, port, report, path, accepted, endOf, messageOf, sentOver, act, step, run}
+use Rattle.protocol.specs.Calls.{Call, change, send, deliver, repeat, lose, port, verdict, report, path, accepted, endOf, messageOf, sentOver, act, step, run}
 use Rattle.protocol.specs.Rounds.{MessageStatus, taken, lost, waits, statusBy, orLater, isDelivered, isSendFrom, isSentAndDelivered, hasRound, hasNoChange}
 use Rattle.protocol.proofs.Links.{end-of-link}
 use Rattle.protocol.proofs.Accepted.{SendFacts, send-listed}
@@ -54,6 +54,7 @@ module _ (t e : ℕ) (W : Type 0) where
   sent n (repeat p) oneView there told q = absurd (false≢true q)
   sent n (lose p) oneView there told q = absurd (false≢true q)
   sent n (port b d) oneView there told q = absurd (false≢true q)
+  sent n (verdict b d) oneView there told q = absurd (false≢true q)
   sent n (report d) oneView there told q = absurd (false≢true q)
   sent n (path b d) oneView there told q = absurd (false≢true q)
 

@@ -7,12 +7,14 @@ use mathlib.Core.Bool.{Bool, true, false, cond}
 use mathlib.Core.List.{List}
 use lib.Dec.{eqb}
 use borrow.Author.Tests.{eqb-true, eqb-false}
-use Rattle.distances.proofs.Laws.{dist-is-distance}
+use Rattle.distances.proofs.Laws.{dist-is-distance, dist-le-none}
 use Rattle.agreement.specs.Offer.{linkOf}
-use Rattle.agreement.proofs.Forwards.{port-follows-rule}
-use Rattle.protocol.specs.Net.{Network, Plan, PlanInRange, fresh}
+use Rattle.agreement.specs.Reasons.{Says}
+use Rattle.agreement.specs.declared.Verdict.the-variants.{NoLink}
+use Rattle.agreement.proofs.Forwards.{chosen-for-path, chosen-is, verdict-is-so, no-other-verdict, port-follows-rule}
+use Rattle.protocol.specs.Net.{Network, Plan, PlanInRange, distanceIn, fresh}
 use Rattle.protocol.specs.Calls.{Call, run}
-use Rattle.protocol.specs.Ports.{Hop, stays, crosses, ownDistance, forwardingPort, hop, Crosses}
+use Rattle.protocol.specs.Ports.{Hop, stays, crosses, ownDistance, forwardingVerdict, forwardingPort, hop, Crosses}
 use Rattle.protocol.specs.Rings.{Trail, Trail.stay, Trail.cross}
 use Rattle.protocol.specs.Paths.{PathResult, delivered, stops, follow, onward, path}
 use Rattle.protocol.specs.Demand2.{NetworkInRange, CrossesBy, FollowsPorts, ByTheRule, Demand2}
@@ -63,22 +65,35 @@ module _ (n : Network) (d : ℕ) where
 
 -- a frame crosses where the port forwards and both ends are up
 crossed : (n : Network) → NetworkInRange n → (d y l z e : ℕ) → CrossesBy n d y l z e → Crosses n d y l z
-unfolding forwardingPort
+unfolding forwardingPort forwardingVerdict
 crossed n ok d y l z e by =
     let range = ok .plan .graph in
     let so = by .forwards in
-    let opens = port-follows-rule _ (range .differ) _ _ (n .records) y d .1 l (e, so) in
+    let opens = port-follows-rule _ (range .differ) _ _ (n .records) y d (dist-le-none _ _ y d) .1 l (e, so) in
     rw (← so .link) (hop-open n range d y e (rw (so .link) opens) (so .chosen .listed) (so .chosen .reaches .own) (by .nearUp) (by .farUp) ∙ ap (crosses (linkOf e)) (by .arrives))
 
+-- a bridge with a path to another has a chosen link
+has-link : (n : Network) → NetworkInRange n → (y d : ℕ) → forwardingVerdict n y d ≡ NoLink → ⊥
+unfolding forwardingVerdict
+has-link n ok y d is =
+    let g = n .plan .graph in
+    let c = n .plan .costs (n .view y) in
+    let none = subst (Says g c (distanceIn (n .plan) (n .view y)) (n .records) y d) is (verdict-is-so _ _ _ _ y d) in
+    let h = chosen-for-path g c (ok .plan .graph) y d (none .0) (none .1) in
+    none .2 _ h (chosen-is g c _ y d h .reaches)
+
 by-the-rule : (n : Network) → NetworkInRange n → ByTheRule n
-unfolding ownDistance forwardingPort
+unfolding ownDistance forwardingPort forwardingVerdict
 by-the-rule n ok =
     record {
       distance = λ y d low. dist-is-distance _ _ (ok .plan .graph) (ok .plan .costs (n .view y) (ok .views y low)) y d;
       others = λ y z d low. dist-is-distance _ _ (ok .plan .graph) (ok .plan .costs (n .view y) (ok .views y low)) z d;
-      opens = λ y d l e w. port-follows-rule _ (ok .plan .graph .differ) _ _ (n .records) y d .1 l (e, w);
-      forwards = λ y d. port-follows-rule _ (ok .plan .graph .differ) _ _ (n .records) y d .0;
-      closed = λ y d. port-follows-rule _ (ok .plan .graph .differ) _ _ (n .records) y d .2;
+      opens = λ y d l e w. port-follows-rule _ (ok .plan .graph .differ) _ _ (n .records) y d (dist-le-none _ _ y d) .1 l (e, w);
+      forwards = λ y d. port-follows-rule _ (ok .plan .graph .differ) _ _ (n .records) y d (dist-le-none _ _ y d) .0;
+      closed = λ y d. port-follows-rule _ (ok .plan .graph .differ) _ _ (n .records) y d (dist-le-none _ _ y d) .2;
+      verdict = λ y d. verdict-is-so _ _ _ _ y d;
+      noOtherVerdict = λ y d. no-other-verdict _ (ok .plan .graph .differ) _ _ (n .records) y d (dist-le-none _ _ y d);
+      hasLink = has-link n ok;
       crosses = hop-end n (ok .plan .graph);
       crossed = crossed n ok;
       paths = λ s d. follows-ports n d s;

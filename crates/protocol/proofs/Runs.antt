@@ -8,7 +8,7 @@ use lib.ListN.{length}
 use lib.Dec.{eqb}
 use Rattle.distances.proofs.Booleans.{both-true, true-both, other-false}
 use Rattle.protocol.specs.Net.{Network, Plan, Message}
-use Rattle.protocol.specs.Calls.{Call, Change, change, update, cut, restore, send, deliver, repeat, lose, port, report, path, checks, accepted, messageAt, withMessages, without, sentOver, afterDelivery, receivedAt, updatedTo, moved, withEnd, afterChange, act, step, run}
+use Rattle.protocol.specs.Calls.{Call, Change, change, update, cut, restore, send, deliver, repeat, lose, port, verdict, report, path, checks, accepted, messageAt, withMessages, without, sentOver, afterDelivery, receivedAt, updatedTo, moved, withEnd, afterChange, act, step, run}
 use Rattle.protocol.specs.Rounds.{isChange, hasNoChange}
 use Rattle.protocol.proofs.Accepted.{accepted-checks, place-listed}
 
@@ -44,6 +44,7 @@ plan-step n c = go (accepted n c)
     acts (repeat p) = refl
     acts (lose p) = refl
     acts (port b d) = refl
+    acts (verdict b d) = refl
     acts (report d) = refl
     acts (path s d) = refl
 
@@ -67,6 +68,7 @@ allowed-act n (deliver p) a e = delivers p (without p (n .messages)) (place-list
 allowed-act n (repeat p) a e = delivers p (n .messages) (place-listed n p _ (accepted-checks n (repeat p) a))
 allowed-act n (lose p) a e = moves (without p (n .messages))
 allowed-act n (port b d) a e = moves (n .messages)
+allowed-act n (verdict b d) a e = moves (n .messages)
 allowed-act n (report d) a e = moves (n .messages)
 allowed-act n (path s d) a e = moves (n .messages)
 

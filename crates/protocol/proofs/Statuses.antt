@@ -9,7 +9,7 @@ use lib.Dec.{eqb}
 use borrow.Author.Tests.{eqb-true, eqb-false}
 use Rattle.distances.proofs.Booleans.{other-false}
 use Rattle.protocol.specs.Net.{Network, Message}
-use Rattle.protocol.specs.Calls.{Call, change, send, deliver, repeat, lose, port, report, path, accepted, messageAt, messageOf, withMessages, without, sentOver, afterDelivery, receivedAt, act, step}
+use Rattle.protocol.specs.Calls.{Call, change, send, deliver, repeat, lose, port, verdict, report, path, accepted, messageAt, messageOf, withMessages, without, sentOver, afterDelivery, receivedAt, act, step}
 use Rattle.protocol.specs.Rounds.{MessageStatus, taken, lost, waits, movedUp, messageStatus, statusBy, isChange}
 use Rattle.protocol.proofs.Places.{Stands, stands-before, stands-without}
 use Rattle.protocol.proofs.Runs.{Allowed}
@@ -55,6 +55,7 @@ module _ (x : Message) where
   stands-act n (lose k) p q z s e =
       stands-removed x (n .messages) k p q lost (lost-waits q) e s
   stands-act n (port b d) p q z s e = rw (← same-place p q e) s
+  stands-act n (verdict b d) p q z s e = rw (← same-place p q e) s
   stands-act n (report d) p q z s e = rw (← same-place p q e) s
   stands-act n (path b d) p q z s e = rw (← same-place p q e) s
 
@@ -91,6 +92,7 @@ module _ (x : Message) where
       go true e = absurd (lost-taken e)
       go false e = absurd (taken-waits (movedUp k p) (sym e))
   taken-act n (port b d) p w e = absurd (taken-waits p (sym e))
+  taken-act n (verdict b d) p w e = absurd (taken-waits p (sym e))
   taken-act n (report d) p w e = absurd (taken-waits p (sym e))
   taken-act n (path b d) p w e = absurd (taken-waits p (sym e))
 

@@ -5,7 +5,7 @@ use mathlib.Core.Bool.{Bool, true, false, cond}
 use mathlib.Core.List.{List}
 use lib.Dec.{eqb}
 use Rattle.protocol.specs.Net.{Network, Plan, PlanInRange, fresh}
-use Rattle.protocol.specs.Calls.{Call, Change, change, send, deliver, repeat, lose, port, report, path, update, cut, restore, checks, accepted, withEnd, moved, updatedTo, afterChange, act, step, run, receivedAt, afterDelivery, messageAt}
+use Rattle.protocol.specs.Calls.{Call, Change, change, send, deliver, repeat, lose, port, verdict, report, path, update, cut, restore, checks, accepted, withEnd, moved, updatedTo, afterChange, act, step, run, receivedAt, afterDelivery, messageAt}
 use Rattle.protocol.proofs.Invariant.{Invariant, InvariantBy}
 use Rattle.protocol.proofs.Accepted.{accepted-checks, update-listed, place-listed, send-listed}
 use Rattle.protocol.proofs.Runs.{every-run}
@@ -54,6 +54,7 @@ module _ (n : Network) where
   kept-act (repeat p) e inv = (inv .0, kept-delivered n (inv .1) (messageAt n p) (each-sound n (inv .1) p (place-listed n p _ (accepted-checks n (repeat p) e))))
   kept-act (lose p) e inv = (inv .0, kept-without n (inv .1) p)
   kept-act (port b d) e inv = inv
+  kept-act (verdict b d) e inv = inv
   kept-act (report d) e inv = inv
   kept-act (path s d) e inv = inv
 

@@ -8,14 +8,15 @@ use Rattle.distances.specs.Meaning.{IsPath, total}
 use Rattle.distances.specs.Examples.{triangle, view1}
 use Rattle.agreement.specs.Offer.{opposite}
 use Rattle.agreement.specs.declared.Port.the-variants.{Closed, Open}
+use Rattle.agreement.specs.declared.Verdict.the-variants.{IsDestination, NoLink, LinkDown, NothingHeld, HeldTooGreat, SentNotAbove}
 use Rattle.protocol.specs.Net.{Network, offerIn, fresh}
-use Rattle.protocol.specs.Ports.{forwardingPort, stays, crosses, hop, Crosses}
+use Rattle.protocol.specs.Ports.{forwardingVerdict, forwardingPort, stays, crosses, hop, Crosses}
 use Rattle.protocol.specs.Rings.{Trail}
 use Rattle.protocol.specs.Paths.{path, delivered, hops, linksCrossed}
 use Rattle.protocol.specs.LimitViews.{viewsRun, freshViews, leastOver, offerHeld}
-use Rattle.protocol.specs.Demand2.{ForwardsBy, CrossesBy, Demand2}
+use Rattle.protocol.specs.Demand2.{ForwardsBy, SaysBy, CrossesBy, Demand2}
 use Rattle.protocol.specs.Demand3.{Demand3}
-use Rattle.protocol.specs.Examples.{plan, after, callsE3, callsOneEnd, callsE4, callsE6, callsE7}
+use Rattle.protocol.specs.Examples.{plan, after, callsE3, callsOneEnd, callsOwnEnd, callsE4, callsE6, callsE7}
 use Rattle.protocol.specs.SettlingMet.{before, first, second, SettlingCanBeMet}
 
 -- demand 2
@@ -35,6 +36,15 @@ pub record RuleAtExamples : Type 0 where
   pub dies : ((e : ℕ) × ForwardsBy (after callsOneEnd) 1 0 0 e) × ((z e : ℕ) → CrossesBy (after callsOneEnd) 0 1 0 z e → ⊥)
   -- E2: fresh, bridge 2 forwards on no link, and so its port is closed
   pub closed : forwardingPort (after []) 2 0 ≡ Closed
+  -- E2: over its chosen link 1 bridge 2 holds nothing; E4: what bridge 1 holds over link 1 is too great; E6: it suffices, but the sent limit there is not above
+  -- the distance; after E3 bridge 1's own end of its chosen link 0 is cut. Nothing else is said of bridge 0 than that it is the destination; and bridge 1,
+  -- which has a path, has a chosen link
+  pub nothing : SaysBy (after []) 2 0 (NothingHeld 1)
+  pub tooGreat : SaysBy (after callsE4) 1 0 (HeldTooGreat 1)
+  pub notAbove : SaysBy (after callsE6) 1 0 (SentNotAbove 1)
+  pub linkDown : SaysBy (after callsOwnEnd) 1 0 (LinkDown 0)
+  pub isDestination : forwardingVerdict (after callsE6) 0 0 ≡ IsDestination
+  pub hasLink : forwardingVerdict (after callsE4) 1 0 ≡ NoLink → ⊥
   -- E3: the path from 2 goes to bridge 0 by two hops; E4: by one hop to bridge 1, from which no frame crosses a link
   pub arrives : Trail (Crosses (after callsE3) 0) 2 2 0
   pub stops : Trail (Crosses (after callsE4) 0) 2 1 1 × (hop (after callsE4) 0 1 ≡ stays)

@@ -1,4 +1,4 @@
--- The calls, what turns each down, and what each does (document 01, "Events" and "Where input is turned down"; document 02, Change 1).
+-- The calls, what turns each down, and what each does (document 01, "Events" and "Where input is turned down"; document 02, Changes 1 and 2).
 -- Assumes nothing.
 use Prim.Native.Nat.{ℕ, suc, _+_, _*_, _%_}
 use mathlib.Core.Bool.{Bool, true, false, cond, _||_, not}
@@ -21,12 +21,12 @@ use Rattle.protocol.specs.Net.{Network, Message, receiver, offerIn}
 pub data Change : Type 0 where
   update cut restore : ℕ → ℕ → Change
 
--- send b l; deliver, repeat, lose at a place; port b d, report d and path s d only ask
+-- send b l; deliver, repeat, lose at a place; port b d, verdict b d, report d and path s d only ask
 pub data Call : Type 0 where
   change : Change → Call
   send : ℕ → ℕ → Call
   deliver repeat lose : ℕ → Call
-  port : ℕ → ℕ → Call
+  port verdict : ℕ → ℕ → Call
   report : ℕ → Call
   path : ℕ → ℕ → Call
 
@@ -89,6 +89,7 @@ checks n (deliver p) = noMessage n p ∷ endDown n (receiver (messageAt n p)) �
 checks n (repeat p) = noMessage n p ∷ endDown n (receiver (messageAt n p)) ∷ []
 checks n (lose p) = noMessage n p ∷ []
 checks n (port b d) = noSuchBridge n b ∷ noSuchBridge n d ∷ []
+checks n (verdict b d) = noSuchBridge n b ∷ noSuchBridge n d ∷ []
 checks n (report d) = noSuchBridge n d ∷ []
 checks n (path s d) = noSuchBridge n s ∷ noSuchBridge n d ∷ []
 
@@ -202,6 +203,7 @@ act n (deliver p) = withMessages (afterDelivery n (messageAt n p)) (without p (n
 act n (repeat p) = afterDelivery n (messageAt n p)
 act n (lose p) = withMessages n (without p (n .messages))
 act n (port b d) = n
+act n (verdict b d) = n
 act n (report d) = n
 act n (path s d) = n
 

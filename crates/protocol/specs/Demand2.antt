@@ -1,4 +1,4 @@
--- Demand 2 (document 01, "Network and views", "Records of a bridge", "Forwarding"; document 02, Change 1): what is told of a network, whatever stands in its
+-- Demand 2 (document 01, "Network and views", "Records of a bridge", "Forwarding"; document 02, Changes 1 and 2): what is told of a network, whatever stands in its
 -- records, is by the shortest distances and by the forwarding rule; and after every list of calls from a fresh network the limits in its
 -- records are those of document 01. Assumes nothing.
 use Prim.Native.Nat.{ℕ, _-_, _<_}
@@ -9,10 +9,13 @@ use Rattle.distances.specs.Meaning.{IsDistance}
 use Rattle.agreement.specs.Offer.{opposite}
 use Rattle.agreement.specs.Forwarding.{UpAt}
 use Rattle.agreement.specs.Rule.{Forwards}
+use Rattle.agreement.specs.Reasons.{Says}
 use Rattle.agreement.specs.declared.Port.the-variants.{Closed, Open}
+use Rattle.agreement.specs.declared.Verdict.{Verdict}
+use Rattle.agreement.specs.declared.Verdict.the-variants.{NoLink}
 use Rattle.protocol.specs.Net.{Network, Plan, PlanInRange, distanceIn, fresh}
 use Rattle.protocol.specs.Calls.{Call, run}
-use Rattle.protocol.specs.Ports.{ownDistance, forwardingPort, stays, hop, Crosses}
+use Rattle.protocol.specs.Ports.{ownDistance, forwardingVerdict, forwardingPort, stays, hop, Crosses}
 use Rattle.protocol.specs.Rings.{Trail}
 use Rattle.protocol.specs.Paths.{PathResult, delivered, stops, path}
 use Rattle.protocol.specs.LimitViews.{LimitsAsDefined}
@@ -26,6 +29,10 @@ pub record NetworkInRange (n : Network) : Type 0 where
 -- records
 abbrev pub ForwardsBy : Network → ℕ → ℕ → ℕ → ℕ → Type 0
 ForwardsBy n y d l e = Forwards (n .plan .graph) (n .plan .costs (n .view y)) (distanceIn (n .plan) (n .view y)) (n .records) y d l e
+
+-- what verdict v says of y's port for d, by the same
+abbrev pub SaysBy : Network → ℕ → ℕ → Verdict → Type 0
+SaysBy n y d v = Says (n .plan .graph) (n .plan .costs (n .view y)) (distanceIn (n .plan) (n .view y)) (n .records) y d v
 
 -- a frame for d crosses link l from y to z: y forwards on l by its end e, "both ends are up", and z is at the other
 pub record CrossesBy (n : Network) (d y l z e : ℕ) : Type 0 where
@@ -50,6 +57,11 @@ pub record ByTheRule (n : Network) : Type 0 where
   pub opens : (y d l e : ℕ) → ForwardsBy n y d l e → forwardingPort n y d ≡ Open l
   pub forwards : (y d l : ℕ) → forwardingPort n y d ≡ Open l → (e : ℕ) × ForwardsBy n y d l e
   pub closed : (y d : ℕ) → ((l e : ℕ) → ForwardsBy n y d l e → ⊥) → forwardingPort n y d ≡ Closed
+  -- "the first of these that applies", and otherwise that the port forwards: the verdict is so, and no other is; so it is `Forwards l` if and only if
+  -- y forwards on l. A bridge with a path to another has a chosen link
+  pub verdict : (y d : ℕ) → SaysBy n y d (forwardingVerdict n y d)
+  pub noOtherVerdict : (y d : ℕ) (v : Verdict) → SaysBy n y d v → forwardingVerdict n y d ≡ v
+  pub hasLink : (y d : ℕ) → forwardingVerdict n y d ≡ NoLink → ⊥
   -- a frame crosses a link if and only if the port forwards on it and both its ends are up
   pub crosses : (d y l z : ℕ) → Crosses n d y l z → (e : ℕ) × CrossesBy n d y l z e
   pub crossed : (d y l z e : ℕ) → CrossesBy n d y l z e → Crosses n d y l z

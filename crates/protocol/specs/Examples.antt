@@ -1,18 +1,19 @@
--- Document 01's known examples E1 to E8, and last two cases of ours for the sentences of document 02's Change 1, one table: what is computed
--- and what the document states. Assumes nothing.
+-- Document 01's known examples E1 to E8, and last cases of ours for the sentences of document 02's Changes 1 and 2, one table: what is computed
+-- and what the documents state. Assumes nothing.
 use Prim.Native.Nat.{ℕ, zero, suc}
 use mathlib.Core.List.{List, [], _∷_, _++_}
 use lib.ListN.{getD}
 use Rattle.distances.specs.View.{Costs, NONE, graphOf, costsOf}
 use Rattle.distances.specs.Examples.{Example, AllHold, examples, triangle, view0, view1}
 use Rattle.agreement.specs.Record.{heldLimit}
+use Rattle.agreement.specs.Reasons.{verdictNumbers}
 use Rattle.agreement.specs.declared.Answer.{Answer}
 use Rattle.agreement.specs.declared.Answer.the-variants.{Stale, Agreed, Noted}
 use Rattle.agreement.specs.declared.Port.{Port}
 use Rattle.agreement.specs.declared.Port.the-variants.{Closed, Open}
 use Rattle.protocol.specs.Net.{Network, Plan, fresh}
 use Rattle.protocol.specs.Calls.{Call, change, update, cut, send, deliver, refuse, run, messageAt, answerAt}
-use Rattle.protocol.specs.Ports.{forwardingPort, ownDistance}
+use Rattle.protocol.specs.Ports.{forwardingVerdict, forwardingPort, ownDistance}
 use Rattle.protocol.specs.Paths.{PathResult, delivered, stops, path}
 
 -- the triangle with its two views
@@ -39,6 +40,10 @@ callsE3 = round ++ round ++ (send 1 1 ∷ [])
 -- of link 0 bridge 0's end alone is cut (Change 1)
 abbrev pub callsOneEnd : List Call
 callsOneEnd = callsE3 ++ (change (cut 0 0) ∷ [])
+
+-- of its chosen link 0 bridge 1's own end is cut (Change 2)
+abbrev pub callsOwnEnd : List Call
+callsOwnEnd = callsE3 ++ (change (cut 1 0) ∷ [])
 
 -- bridge 0's message to bridge 1 over link 0
 abbrev pub sentBefore : List Call
@@ -73,6 +78,14 @@ pointing =
     (change (update 2 1) ∷ send 2 3 ∷ deliver 0 ∷ change (update 2 0) ∷ send 0 0 ∷ deliver 0 ∷ send 1 2 ∷ deliver 0
     ∷ change (cut 1 2) ∷ change (update 1 1) ∷ [])
 
+-- over the same links: bridges 1 and 2 go to view 1, and bridge 2's agreement over link 3 reaches bridge 1, whose sent limit on link 2 is still view 0's
+abbrev pub callsBarred : List Call
+callsBarred = change (update 2 1) ∷ change (update 1 1) ∷ send 2 3 ∷ deliver 0 ∷ []
+
+-- two bridges that no link joins
+abbrev pub unlinked : Plan
+unlinked = record { graph = graphOf 2 0 []; views = 1; costs = λ t. costsOf [] }
+
 -- numbers for the table: a port's link (NONE: no port), a path (0 delivered, 1 stops), a delivery's answer (0 stale, 1 agreed, 2 noted)
 abbrev pub linkUsed : Port → ℕ
 linkUsed Closed = NONE
@@ -94,6 +107,12 @@ uses cs y = linkUsed (forwardingPort (after cs) y 0)
 abbrev pub way : List Call → ℕ → List ℕ
 way cs y = exampleNumbers (path (after cs) y 0)
 
+abbrev pub why : List Call → ℕ → List ℕ
+why cs y = verdictNumbers (forwardingVerdict (after cs) y 0)
+
+abbrev pub whyDoubled : List Call → ℕ → List ℕ
+whyDoubled cs y = verdictNumbers (forwardingVerdict (run (fresh doubled) cs) y 0)
+
 abbrev pub answered : List Call → ℕ → ℕ
 answered cs p = answerNumber (answerAt (after cs) p)
 
@@ -101,7 +120,10 @@ answered cs p = answerNumber (answerAt (after cs) p)
 -- accepted (0) and stale. Then ours: bridge 0's end of link 0 alone is down. Bridge 1's port stays on link 0 and the path stops there; bridge 0's send
 -- is refused with 13, bridge 1's is not; a delivery over link 0 is accepted where the sender's end is down, and refused with 13 where the
 -- receiver's is. The last: for destination 0 bridge 1's port is on link 3, to bridge 2, and bridge 2's on link 2, to bridge 1; the path from 1
--- stops at 2 after 1 hop, for the frame dies on link 2
+-- stops at 2 after 1 hop, for the frame dies on link 2.
+-- Then the verdicts for destination 0 of E2 to E7, bridges 0, 1, 2 in E2 and 1, 2 after it: the destination, nothing held over the chosen link, what is
+-- held too great, the sent limit not above the distance, forwards. Next bridge 1's own end of its chosen link is cut. Then the lowest sent limit that bars
+-- is on another link than the chosen one; cut at bridge 1's end, it does not bar. Last, no path
 abbrev pub allExamples : List Example
 allExamples =
     examples
@@ -142,6 +164,13 @@ allExamples =
       found = linkUsed (forwardingPort pointing 1 0) ∷ linkUsed (forwardingPort pointing 2 0) ∷ exampleNumbers (path pointing 1 0);
       stated = 3 ∷ 2 ∷ 1 ∷ 2 ∷ 1 ∷ [];
     }
+    ∷ record { found = why [] 0 ++ why [] 1 ++ why [] 2; stated = 1 ∷ NONE ∷ 4 ∷ 0 ∷ 4 ∷ 1 ∷ [] }
+    ∷ record { found = why callsE3 1 ++ why callsE3 2 ++ why callsE4 1 ++ why callsE4 2; stated = 0 ∷ 0 ∷ 0 ∷ 1 ∷ 5 ∷ 1 ∷ 0 ∷ 1 ∷ [] }
+    ∷ record { found = why callsE5 1 ++ why callsE5 2 ++ why callsE6 1 ++ why callsE6 2; stated = 5 ∷ 1 ∷ 0 ∷ 2 ∷ 6 ∷ 1 ∷ 0 ∷ 2 ∷ [] }
+    ∷ record { found = why callsE7 1 ++ why callsE7 2; stated = 0 ∷ 1 ∷ 0 ∷ 2 ∷ [] }
+    ∷ record { found = why callsOwnEnd 1; stated = 3 ∷ 0 ∷ [] }
+    ∷ record { found = whyDoubled callsBarred 1 ++ whyDoubled (callsBarred ++ (change (cut 1 2) ∷ [])) 1; stated = 6 ∷ 2 ∷ 0 ∷ 3 ∷ [] }
+    ∷ record { found = verdictNumbers (forwardingVerdict (fresh unlinked) 1 0); stated = 2 ∷ NONE ∷ [] }
     ∷ [])
 
 -- they hold

@@ -13,7 +13,7 @@ use Rattle.agreement.specs.Record.{heldLimit, isStale, isAgreed, isClearing}
 use Rattle.agreement.specs.Forwarding.{Records}
 use Rattle.agreement.specs.declared.Agreement.{Agreement}
 use Rattle.protocol.specs.Net.{Network, Plan, receiver, offerIn, fresh}
-use Rattle.protocol.specs.Calls.{Call, change, update, cut, restore, send, deliver, repeat, lose, port, report, path, accepted, messageAt, step, run}
+use Rattle.protocol.specs.Calls.{Call, change, update, cut, restore, send, deliver, repeat, lose, port, verdict, report, path, accepted, messageAt, step, run}
 
 -- what a call does to an end: its bridge moves to another view, it receives a message, or neither
 pub data EndEffect : Type 0 where
@@ -39,6 +39,7 @@ acceptedEffect n e (deliver p) = deliveryEffect n e p
 acceptedEffect n e (repeat p) = deliveryEffect n e p
 acceptedEffect n e (lose p) = nothing
 acceptedEffect n e (port b d) = nothing
+acceptedEffect n e (verdict b d) = nothing
 acceptedEffect n e (report d) = nothing
 acceptedEffect n e (path s d) = nothing
 

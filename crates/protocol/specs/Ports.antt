@@ -1,21 +1,26 @@
--- The forwarding ports of a network, and where a frame goes by them (document 01, "Forwarding"; document 02, Change 1). Assumes nothing.
+-- The forwarding ports of a network, and where a frame goes by them (document 01, "Forwarding"; document 02, Changes 1 and 2). Assumes nothing.
 use Prim.Native.Nat.{ℕ, _*_, _+_}
 use mathlib.Core.Path.{_≡_}
 use mathlib.Core.Bool.{Bool, cond, _&&_}
 use lib.Dec.{eqb}
 use Rattle.distances.specs.View.{Graph}
-use Rattle.agreement.specs.Forwarding.{Records, isUp, port}
+use Rattle.agreement.specs.Forwarding.{Records, isUp, verdict, portOf}
 use Rattle.agreement.specs.declared.Port.{Port}
 use Rattle.agreement.specs.declared.Port.the-variants.{Closed, Open}
+use Rattle.agreement.specs.declared.Verdict.{Verdict}
 use Rattle.protocol.specs.Net.{Network, distanceIn}
 
 -- the distance of bridge y to d in y's own view
 unfoldable pub ownDistance : Network → ℕ → ℕ → ℕ
 ownDistance n y d = distanceIn (n .plan) (n .view y) y d
 
+-- the verdict on the port of y for d: the first condition that holds it shut, or that it forwards
+unfoldable pub forwardingVerdict : Network → ℕ → ℕ → Verdict
+forwardingVerdict n y d = verdict (n .plan .graph) (n .plan .costs (n .view y)) (distanceIn (n .plan) (n .view y)) (n .records) y d
+
 -- the forwarding port of y for d
 unfoldable pub forwardingPort : Network → ℕ → ℕ → Port
-forwardingPort n y d = port (n .plan .graph) (n .plan .costs (n .view y)) (distanceIn (n .plan) (n .view y)) (n .records) y d
+forwardingPort n y d = portOf (forwardingVerdict n y d)
 
 -- where a frame goes from a bridge: it crosses no link, or it crosses one to another bridge
 pub data Hop : Type 0 where

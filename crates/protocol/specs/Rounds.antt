@@ -8,7 +8,7 @@ use lib.Dec.{eqb, ltb}
 use Rattle.distances.specs.Call.{allBelow}
 use Rattle.agreement.specs.Forwarding.{isUp}
 use Rattle.protocol.specs.Net.{Network}
-use Rattle.protocol.specs.Calls.{Call, change, send, deliver, repeat, lose, port, report, path, accepted, step, endOf}
+use Rattle.protocol.specs.Calls.{Call, change, send, deliver, repeat, lose, port, verdict, report, path, accepted, step, endOf}
 
 -- what becomes of a message by a call: it is delivered (and may stay in), it is lost, or it waits, perhaps at another place
 pub data MessageStatus : Type 0 where
@@ -27,6 +27,7 @@ messageStatus (deliver q) p = cond (eqb q p) taken (waits (movedUp q p))
 messageStatus (repeat q) p = cond (eqb q p) taken (waits p)
 messageStatus (lose q) p = cond (eqb q p) lost (waits (movedUp q p))
 messageStatus (port b d) p = waits p
+messageStatus (verdict b d) p = waits p
 messageStatus (report d) p = waits p
 messageStatus (path s d) p = waits p
 
@@ -52,6 +53,7 @@ isSendFrom n e (deliver q) = false
 isSendFrom n e (repeat q) = false
 isSendFrom n e (lose q) = false
 isSendFrom n e (port b d) = false
+isSendFrom n e (verdict b d) = false
 isSendFrom n e (report d) = false
 isSendFrom n e (path s d) = false
 
@@ -73,6 +75,7 @@ isChange (deliver q) = false
 isChange (repeat q) = false
 isChange (lose q) = false
 isChange (port b d) = false
+isChange (verdict b d) = false
 isChange (report d) = false
 isChange (path s d) = false
 

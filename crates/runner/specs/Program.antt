@@ -9,7 +9,7 @@ use lib.ListN.{length, drop}
 use lib.Dec.{eqb, ltb}
 use Rattle.encoding.specs.Numbers.{linkNumber}
 use Rattle.protocol.specs.Net.{Network, Plan, fresh}
-use Rattle.protocol.specs.Calls.{Call, change, send, deliver, repeat, lose, port, report, path, refuse, accepted, step}
+use Rattle.protocol.specs.Calls.{Call, change, send, deliver, repeat, lose, port, verdict, report, path, refuse, accepted, step}
 use Rattle.protocol.specs.Ports.{ownDistance, forwardingPort}
 use Rattle.protocol.specs.Paths as paths
 use Rattle.bench.specs.Batches.{callOf}
@@ -117,6 +117,7 @@ unfoldable pub linesOf : Network → Call → List ℕ
 linesOf n (report d) = reportLines d (n .plan .graph .bridges) (λ y. ownDistance n y d) (λ y. linkNumber (forwardingPort n y d))
 linesOf n (path s d) = pathLine s d (paths.path n s d)
 linesOf n (port b d) = []
+linesOf n (verdict b d) = []
 linesOf n (change x) = []
 linesOf n (send b l) = []
 linesOf n (deliver p) = []

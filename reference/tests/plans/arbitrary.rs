@@ -2,22 +2,7 @@
 //! ends, have paths that follow from their reports.
 
 use crate::builder::Plan;
-
-/// A small generator of numbers that look random and are the same in each run.
-struct Numbers(u64);
-
-impl Numbers {
-    fn next(&mut self, below: u64) -> u64 {
-        self.0 ^= self.0 << 13;
-        self.0 ^= self.0 >> 7;
-        self.0 ^= self.0 << 17;
-        (self.0 >> 16) % below
-    }
-
-    fn byte(&mut self, below: u64) -> u8 {
-        self.next(below) as u8
-    }
-}
+use crate::numbers::Numbers;
 
 /// Bridges, links and views.
 struct Setup {

@@ -6,4 +6,5 @@ mod ends;
 mod errors;
 mod example;
 mod known;
+mod numbers;
 mod refusals;

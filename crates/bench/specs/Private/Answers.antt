@@ -1,12 +1,14 @@
--- What port, report and path answer, by the ports that layer 2 finds. Assumes nothing.
+-- What port, verdict, report and path answer, by the verdicts that layer 2 finds. Assumes nothing.
 use Prim.Native.Nat.{ℕ, zero, suc, _+_, _*_, _<_, _-_}
 use mathlib.Core.List.{List, [], _∷_}
 use lib.ListN.{getD, set}
 use Rattle.distances.specs.View.{graphOf}
 use Rattle.distances.specs.Table.{cell}
-use Rattle.agreement.specs.Call.{Response, says, portOutcome}
+use Rattle.agreement.specs.Forwarding.{portOf}
+use Rattle.agreement.specs.Call.{Response, says, verdictOutcome}
 use Rattle.agreement.specs.declared.Port.{Port}
-use Rattle.agreement.specs.declared.Port.the-variants.{Closed}
+use Rattle.agreement.specs.declared.Verdict.{Verdict}
+use Rattle.agreement.specs.declared.Verdict.the-variants.{NoLink}
 use Rattle.protocol.specs.Calls as calls
 use Rattle.protocol.specs.Ports.{Hop, hopBy}
 use Rattle.protocol.specs.Paths.{onward}
@@ -25,18 +27,21 @@ PathFits (PathReply.Refused k) = Unit {0}
 PathFits (PathReply.Delivered h) = h < 4294967296
 PathFits (PathReply.Stops last h) = (last < 4294967296) × (h < 4294967296)
 
--- the port of a reply, closed where there is none
-unfoldable pub found : List Port → Port
-found [] = Closed
-found (p ∷ ps) = p
+-- the verdict of a reply
+unfoldable pub found : List Verdict → Verdict
+found [] = NoLink
+found (v ∷ vs) = v
 
--- the port that layer 2 finds for bridge y, in y's view
-unfoldable pub portIn : State → ℕ → ℕ → Port
-portIn s y d =
+-- the verdict that layer 2 finds for bridge y, in y's view, and the port
+unfoldable pub verdictIn : State → ℕ → ℕ → Verdict
+verdictIn s y d =
     let b : Bench = s .bench in
     found
-    (portOutcome (lentView b (s .costs) (getD (b .view) y 0)) (b .views) (b .down) (b .records) (s .sent) (s .held) y d
+    (verdictOutcome (lentView b (s .costs) (getD (b .view) y 0)) (b .views) (b .down) (b .records) (s .sent) (s .held) y d
     .value)
+
+abbrev pub portIn : State → ℕ → ℕ → Port
+portIn s y d = portOf (verdictIn s y d)
 
 -- bridge y in a report of destination d: its distance in its own view and its link, NONE for no port
 unfoldable pub reportedRow : State → ℕ → ℕ → List ℕ → List ℕ

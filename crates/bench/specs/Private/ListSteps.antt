@@ -6,7 +6,7 @@ use lib.ListN.{getD}
 use Rattle.distances.specs.Table.{cell}
 use Rattle.agreement.specs.Record.{answerNumbers}
 use Rattle.encoding.specs.Numbers.{linkNumber}
-use Rattle.protocol.specs.Calls.{Call, change, update, cut, restore, send, deliver, repeat, lose, port, report, path}
+use Rattle.protocol.specs.Calls.{Call, change, update, cut, restore, send, deliver, repeat, lose, port, verdict, report, path}
 use Rattle.bench.specs.State.{State, state}
 use Rattle.bench.specs.Private.Views.{lentView}
 use Rattle.bench.specs.Contracts.{orRefused, pathNumbers}
@@ -34,6 +34,7 @@ stepBy s (repeat p) =
 stepBy s (lose p) =
     let o = loseOf (s .bench) (s .messages) p in state (o .bench) (s .costs) (s .sent) (s .held) (o .messages)
 stepBy s (port y d) = s
+stepBy s (verdict y d) = s
 stepBy s (report d) = s
 stepBy s (path y d) = s
 

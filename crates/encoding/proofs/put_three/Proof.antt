@@ -3,22 +3,17 @@ use borrow.Author.Needs.{needs}
 use Rattle.encoding.proofs.put_three.Statement.{statement}
 use Rattle.encoding.proofs.put_three.Tie as tie
 
+put-two-requires : tie.Need-put-two-requires
+put-two-requires c κs = search needs
+
 write-at-requires : tie.Need-write-at-requires
 write-at-requires c κs = search needs
-
-write-at-requires-2 : tie.Need-write-at-requires-2
-write-at-requires-2 c κs = search needs
-
-write-at-requires-3 : tie.Need-write-at-requires-3
-write-at-requires-3 c κs = search needs
 
 same-length : tie.Need-same-length
 same-length c = search needs
 
 returns : tie.Need-returns
-returns c = rw (c .before .before .write-at3 .ensures, c .before .before .before .before .before .before .write-at2 .ensures, c .before .before .before .before .before .before .before .before .before .before .write-at .ensures)
+returns c = rw (c .before .before .write-at .ensures, c .before .before .before .before .before .before .put-two .ensures)
 
 pub put-three-spec : {M : Type 1} → statement M
-put-three-spec =
-    tie.close
-    (tie.spec write-at-requires write-at-requires-2 write-at-requires-3 same-length returns)
+put-three-spec = tie.close (tie.spec put-two-requires write-at-requires same-length returns)

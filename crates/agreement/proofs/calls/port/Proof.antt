@@ -1,49 +1,25 @@
--- `calls::port` meets its contract. Assumes nothing.
-use Prim.Native.Nat.{ℕ, _≤_, _<_}
-use mathlib.Core.List.{List}
-use mathlib.Core.Bool.{true, _&&_}
-use mathlib.Core.Path.{_≡_, sym, _∙_}
-use borrow.Author.Tests.{leb-true, ltb-true}
+-- `calls::port` meets its contract: the port that the verdict opens. Assumes nothing.
 use borrow.Author.Needs.{needs}
-use lib.Dec.{leb, ltb}
-use Rattle.distances.proofs.Booleans.{both-true}
-use Rattle.agreement.specs.declared.EndRecord.{EndRecord}
-use Rattle.agreement.specs.Steps.{ViewReady}
-use Rattle.agreement.specs.Ranges.{viewInRange, recordsInRange, portInRange}
-use Rattle.agreement.proofs.Entry.{view-ready}
-use Rattle.agreement.proofs.Outcomes.{port-accepted, port-refused}
 use Rattle.agreement.proofs.calls.port.Statement.{statement}
 use Rattle.agreement.proofs.calls.port.Tie as tie
 
--- what an accepted call has been told
-told :
-    (bridges links : ℕ) (ends costs table : List ℕ) (views : ℕ) (records : List EndRecord) (sent held y d : ℕ) →
-    portInRange bridges links ends costs table views records sent held y d ≡ true →
-    ViewReady bridges links ends costs table × ((1024 ≤ sent) × (1024 ≤ held) × (y < bridges) × (d < bridges))
-unfolding portInRange
-told bridges links ends costs table views records sent held y d ok =
-    let view = both-true (viewInRange bridges links ends costs table) _ ok in
-    let long = both-true (leb 1024 sent && leb 1024 held) _ (view .1) in
-    let tables = both-true (leb 1024 sent) (leb 1024 held) (long .0) in
-    let known = both-true (recordsInRange views links records) _ (both-true (leb 1 views && leb views 32) _ (long .1) .1) in
-    let pair = both-true (ltb y bridges) (ltb d bridges) (known .1) in (
-      view-ready bridges links ends costs table (view .0),
-      (leb-true 1024 sent (tables .0), leb-true 1024 held (tables .1), ltb-true y bridges (pair .0), ltb-true d bridges (pair .1)),
-    )
+verdict-requires : tie.Need-verdict-requires
+verdict-requires c κs = search needs
 
-port-in-range-requires : tie.Need-port-in-range-requires
-port-in-range-requires c κs = search needs
+enum-known-reply : tie.Need-enum-known-reply
+enum-known-reply c = search needs
 
 port-of-requires : tie.Need-port-of-requires
-port-of-requires c κs = told _ _ _ _ _ _ _ _ _ _ _ (sym (c .before .port-in-range .ensures) ∙ c .if1 .taken)
+port-of-requires c κs = search needs
+
+enum-told : tie.Need-enum-told
+enum-told c = search needs
 
 returns : tie.Need-returns
-returns c =
-    rw (c .port-of .ensures)
-    (sym (port-accepted _ _ _ _ _ _ _ _ (sym (c .before .before .port-in-range .ensures) ∙ c .before .if1 .taken)))
+returns c = rw (c .port-of .ensures, ← c .before .before .before .before .verdict .ensures, c .before .before .reply .given .1)
 
 returns-2 : tie.Need-returns-2
-returns-2 c = sym (port-refused _ _ _ _ _ _ _ _ (sym (c .before .port-in-range .ensures) ∙ c .if1 .left))
+returns-2 c = rw (← c .before .before .verdict .ensures, c .enum-told .given .1)
 
 pub port-spec : {M : Type 1} → statement M
-port-spec = tie.close (tie.spec port-in-range-requires port-of-requires returns returns-2)
+port-spec = tie.close (tie.spec verdict-requires enum-known-reply port-of-requires enum-told returns returns-2)

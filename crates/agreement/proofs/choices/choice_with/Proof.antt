@@ -4,42 +4,47 @@ use borrow.Author.Needs.{needs}
 use Rattle.agreement.proofs.choices.choice_with.Statement.{statement}
 use Rattle.agreement.proofs.choices.choice_with.Tie as tie
 
-either-requires : tie.Need-either-requires
-either-requires c κs = search needs
-
 both-requires : tie.Need-both-requires
 both-requires c κs = search needs
-
-reaches-requires : tie.Need-reaches-requires
-reaches-requires c κs = search needs
 
 both-requires-2 : tie.Need-both-requires-2
 both-requires-2 c κs = search needs
 
-held-suffices-requires : tie.Need-held-suffices-requires
-held-suffices-requires c κs = search needs
+link-if-requires : tie.Need-link-if-requires
+link-if-requires c κs = search needs
+
+either-requires : tie.Need-either-requires
+either-requires c κs = search needs
+
+reaches-requires : tie.Need-reaches-requires
+reaches-requires c κs = search needs
 
 both-requires-3 : tie.Need-both-requires-3
 both-requires-3 c κs = search needs
 
+held-limit-requires : tie.Need-held-limit-requires
+held-limit-requires c κs = search needs
+
 returns : tie.Need-returns
 returns c =
-    next-chosen _ _ _ _ _ _ _ _ (c .before .before .before .both2 .ensures) (c .before .before .before .before .reaches .ensures) (c .before .before .before .before .before .before .both .ensures) (c .before .before .before .before .before .before .before .either .ensures) (c .before .before .if1 .taken) (c .both3 .ensures)
-    (c .before .held-suffices .ensures)
+    next-chosen _ _ _ _ _ _ _ _ (c .before .before .both3 .ensures) (c .before .before .before .reaches .ensures) (c .before .before .before .before .before .either .ensures) (c .before .before .before .before .before .before .link-if .ensures) (c .before .before .before .before .before .before .before .both2 .ensures) (c .before .before .before .before .before .before .before .before .before .both .ensures)
+    (c .before .if1 .taken) (c .held-limit .ensures)
 
 returns-2 : tie.Need-returns-2
 returns-2 c =
-    next-kept _ _ _ _ _ _ _ _ (c .before .both2 .ensures) (c .before .before .reaches .ensures) (c .before .before .before .before .both .ensures) (c .before .before .before .before .before .either .ensures) (c .if1 .left)
+    next-kept _ _ _ _ _ _ _ _ (c .before .both3 .ensures) (c .before .before .reaches .ensures) (c .before .before .before .before .either .ensures) (c .before .before .before .before .before .link-if .ensures) (c .before .before .before .before .before .before .both2 .ensures) (c .before .before .before .before .before .before .before .before .both .ensures)
+    (c .if1 .left)
 
 pub choice-with-spec : {M : Type 1} → statement M
 choice-with-spec =
     tie.close
     (tie.spec
-    either-requires
     both-requires
-    reaches-requires
     both-requires-2
-    held-suffices-requires
+    link-if-requires
+    either-requires
+    reaches-requires
     both-requires-3
+    held-limit-requires
     returns
     returns-2)

@@ -13,8 +13,11 @@ mul-rows-2 c = omega arith
 slice-write-rows : tie.Need-slice-write-rows
 slice-write-rows c = omega arith
 
-found-port-requires : tie.Need-found-port-requires
-found-port-requires c κs = omega arith
+found-verdict-requires : tie.Need-found-verdict-requires
+found-verdict-requires c κs = omega arith
+
+port-of-requires : tie.Need-port-of-requires
+port-of-requires c κs = tt
 
 link-number-requires : tie.Need-link-number-requires
 link-number-requires c κs = tt
@@ -29,13 +32,13 @@ mul-rows-4 : tie.Need-mul-rows-4
 mul-rows-4 c = omega arith
 
 slice-write-rows-2 : tie.Need-slice-write-rows-2
-slice-write-rows-2 c = simp length-set (omega (arith, c .before .before .before .pre))
+slice-write-rows-2 c = simp length-set (omega (arith, c .before .before .before .before .pre))
 
 same-length : tie.Need-same-length
 same-length c = simp length-set
 
 returns : tie.Need-returns
-returns c = rw (c .link-number .ensures, c .before .found-port .ensures)
+returns c = rw (c .link-number .ensures, c .before .port-of .ensures, c .before .before .found-verdict .ensures)
 
 pub report-row-spec : {M : Type 1} → statement M
 report-row-spec =
@@ -44,7 +47,8 @@ report-row-spec =
     mul-rows
     mul-rows-2
     slice-write-rows
-    found-port-requires
+    found-verdict-requires
+    port-of-requires
     link-number-requires
     mul-rows-3
     add-rows

@@ -1,4 +1,5 @@
 -- `records::bench_port` meets its contract: what it tests itself, then each case of the reply. Assumes nothing.
+use mathlib.Core.Path.{ap}
 use borrow.Author.Tests.{lt-leb, le-leb}
 use borrow.Author.Needs.{needs}
 use Rattle.encoding.specs.Replies.{withValue}
@@ -52,7 +53,8 @@ returns-4 c =
       le-leb _ _ (c .before .before .before .before .before .if3 .left),
       ← c .before .before .before .before .flags-in .ensures,
       ← c .before .before .before .records-in .ensures,
-      ← c .before .before .port .ensures,
+      ← ap (λ s. s .number) (c .before .before .port .ensures),
+      ← ap (λ s. s .value) (c .before .before .port .ensures),
       c .enum-told .given .1,
     )
 
@@ -68,7 +70,8 @@ returns-5 c =
       le-leb _ _ (c .before .before .before .before .before .before .before .if3 .left),
       ← c .before .before .before .before .before .before .flags-in .ensures,
       ← c .before .before .before .before .before .records-in .ensures,
-      ← c .before .before .before .before .port .ensures,
+      ← ap (λ s. s .number) (c .before .before .before .before .port .ensures),
+      ← ap (λ s. s .value) (c .before .before .before .before .port .ensures),
       c .before .before .found .given .1,
       ← c .link-number .ensures,
     )

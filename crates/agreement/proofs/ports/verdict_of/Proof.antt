@@ -1,4 +1,4 @@
--- `ports::port_of` meets its contract. The loop's invariant: the choice is that of the ends below `e`. Assumes nothing.
+-- `ports::verdict_of` meets its contract. The loop's invariant: the choice is that of the ends below `e`. Assumes nothing.
 use Prim.Native.Nat.{_≤_, _<_, _-_, _*_}
 use native.Mathlib.Omega.{arith}
 use mathlib.Core.Path.{_≡_, refl, sym, ap, _∙_}
@@ -14,9 +14,9 @@ use Rattle.agreement.specs.Choice.{choiceBelow}
 use Rattle.agreement.specs.declared.EndRecord.{EndRecord}
 use Rattle.agreement.proofs.Basics.{getD-default}
 use Rattle.agreement.proofs.Entry.{BothEnds, both-ends-ready}
-use Rattle.agreement.proofs.ChoiceLaws.{choice-none, choice-here, choice-away, choice-is-port}
-use Rattle.agreement.proofs.ports.port_of.Statement.{statement}
-use Rattle.agreement.proofs.ports.port_of.Tie as tie
+use Rattle.agreement.proofs.ChoiceLaws.{choice-none, choice-here, choice-away, choice-is-verdict}
+use Rattle.agreement.proofs.ports.verdict_of.Statement.{statement}
+use Rattle.agreement.proofs.ports.verdict_of.Tie as tie
 
 abbrev Inv-loop : tie.InvT-loop
 Inv-loop bridges links ends costs table sent held bridge dest down records own choice₀ e₀ choice e =
@@ -157,16 +157,16 @@ loop-again c =
     (λ w. (omega arith, w .1 ∙ inv .1 ∙ choice-away _ _ _ _ _ _ e (w .0 .left)))
     (c .if1 .came)
 
-chosen-port-requires : tie.Need-chosen-port-requires Inv-loop μ-loop
-chosen-port-requires c κs = search needs
+chosen-verdict-requires : tie.Need-chosen-verdict-requires Inv-loop μ-loop
+chosen-verdict-requires c κs = search needs
 
 returns : tie.Need-returns Inv-loop μ-loop
 returns c =
     let e : c .before .before .loop .e ≡ 2 * c .before .before .before .before .before .before .before .before .before .before .args .links = omega arith in
-    c .chosen-port .ensures ∙ rw (c .before .before .loop .inv .1, e) (choice-is-port _ _ _ _ _ _)
+    c .chosen-verdict .ensures ∙ rw (c .before .before .loop .inv .1, e) (choice-is-verdict _ _ _ _ _ _)
 
-pub port-of-spec : {M : Type 1} → statement M
-port-of-spec =
+pub verdict-of-spec : {M : Type 1} → statement M
+verdict-of-spec =
     tie.close
     (tie.spec
     Inv-loop
@@ -205,5 +205,5 @@ port-of-spec =
     add-e
     loop-less
     loop-again
-    chosen-port-requires
+    chosen-verdict-requires
     returns)

@@ -1,4 +1,4 @@
--- `ports::port_at` meets its contract. The loop's invariant: the choice is that of the ends below `e`, and `e` is the bridge's or none. Assumes nothing.
+-- `ports::verdict_at` meets its contract. The loop's invariant: the choice is that of the ends below `e`, and `e` is the bridge's or none. Assumes nothing.
 use Prim.Native.Nat.{suc, _+_, _≤_, _-_, _*_, _/_, _<_}
 use mathlib.Core.Path.{_≡_, refl, _∙_}
 use mathlib.Core.List.{[]}
@@ -9,12 +9,12 @@ use Rattle.bench.specs.State.{state}
 use Rattle.bench.specs.Private.Chains.{IsNext}
 use Rattle.bench.specs.Private.Steps.{choiceIn}
 use Rattle.bench.proofs.ChangeSteps.{length-mapped}
-use Rattle.bench.proofs.ChoiceSteps.{view-low, far-low, choice-first, choice-more, choice-low, choice-port}
+use Rattle.bench.proofs.ChoiceSteps.{view-low, far-low, choice-first, choice-more, choice-low, choice-verdict}
 use Rattle.bench.proofs.ChainLaws.{next-own, first-there, next-there, first-fits, end-fits, fewer-then}
 use Rattle.bench.proofs.ChainSteps.{choice-until, choice-next}
 use Rattle.bench.proofs.ChoiceReads.{end-low, link-low, bridge-fits, view-fits, costs-fit, cost-fits, cost-scaled, cost-there, block-fits, row-fits, distances-fit, distance-fits, distance-scaled, distance-there, record-fits, limits-fit, limit-fits, limit-scaled, limit-there, ends-fit, other-there, half-low, ends-low}
-use Rattle.bench.proofs.ports.port_at.Statement.{statement}
-use Rattle.bench.proofs.ports.port_at.Tie as tie
+use Rattle.bench.proofs.ports.verdict_at.Statement.{statement}
+use Rattle.bench.proofs.ports.verdict_at.Tie as tie
 
 abbrev Inv-loop : tie.InvT-loop
 Inv-loop costs tables chain sent held bridge dest bench view choice₀ e₀ choice e =
@@ -197,17 +197,17 @@ loop-again c =
           x,
     )
 
-found-port-requires : tie.Need-found-port-requires Inv-loop μ-loop
-found-port-requires c κs = rw (c .before .loop .inv .2) (choice-low _ _ _ _ (ends-low (c .before .loop .inv .0) (c .before .before .before .before .before .before .before .before .before .before .before .pre .0 .ready .fewLinks)))
+found-verdict-requires : tie.Need-found-verdict-requires Inv-loop μ-loop
+found-verdict-requires c κs = rw (c .before .loop .inv .2) (choice-low _ _ _ _ (ends-low (c .before .loop .inv .0) (c .before .before .before .before .before .before .before .before .before .before .before .pre .0 .ready .fewLinks)))
 
 returns : tie.Need-returns Inv-loop μ-loop
 returns c =
     let p = c .before .before .before .before .before .before .before .before .before .before .before .before .pre in
     let e : c .before .before .loop .e ≡ 2 * c .before .before .before .before .before .before .before .before .before .before .before .before .args .t1 .links = le-antisymm (c .before .before .loop .inv .0) (c .before .loop-test .left) in
-    c .found-port .ensures ∙ rw (c .before .before .loop .inv .2, e) (choice-port _ (p .0 .inRange) _ _ (p .1 .0 .0) (p .1 .0 .1))
+    c .found-verdict .ensures ∙ rw (c .before .before .loop .inv .2, e) (choice-verdict _ (p .0 .inRange) _ _ (p .1 .0 .0) (p .1 .0 .1))
 
-pub port-at-spec : {M : Type 1} → statement M
-port-at-spec =
+pub verdict-at-spec : {M : Type 1} → statement M
+verdict-at-spec =
     tie.close
     (tie.spec
     Inv-loop
@@ -255,5 +255,5 @@ port-at-spec =
     cast-e-2
     loop-less
     loop-again
-    found-port-requires
+    found-verdict-requires
     returns)

@@ -1,12 +1,12 @@
--- `ports::port_in` meets its contract: the bridge's view is computed, then the port found. Assumes nothing.
+-- `ports::verdict_in` meets its contract: the bridge's view is computed, then the port found. Assumes nothing.
 use native.Mathlib.Omega.{arith}
 use mathlib.Core.Path.{_≡_, sym}
 use borrow.Author.Needs.{needs}
 use lib.ListN.{length}
 use Rattle.bench.proofs.ChoiceSteps.{view-low}
 use Rattle.bench.proofs.TableSteps.{tables-filled}
-use Rattle.bench.proofs.ports.port_in.Statement.{statement}
-use Rattle.bench.proofs.ports.port_in.Tie as tie
+use Rattle.bench.proofs.ports.verdict_in.Statement.{statement}
+use Rattle.bench.proofs.ports.verdict_in.Tie as tie
 
 -- as many ends as the type says
 placed : (s : tie.Start) → length (s .args .t1 .ends) ≡ 64
@@ -24,8 +24,8 @@ slice-aggregate-need-view c = sym (placed (c .before .before .before .before .be
 need-view-requires : tie.Need-need-view-requires
 need-view-requires c κs = (view-low (c .before .before .before .before .before .before .before .before .before .before .before .pre .0) (c .before .before .before .before .before .before .before .before .before .before .before .args .bridge) (c .before .before .before .before .before .before .before .before .before .before .before .pre .1 .0), c .before .before .before .before .before .before .before .before .before .before .before .pre .0 .ready .costsLong, c .before .before .before .before .before .before .before .before .before .before .before .pre .1 .2)
 
-port-at-requires : tie.Need-port-at-requires
-port-at-requires c κs =
+verdict-at-requires : tie.Need-verdict-at-requires
+verdict-at-requires c κs =
     let kept = c .before .before .before .before .before .need-view .ensures .0 in
     (c .before .before .before .before .before .before .before .before .before .before .before .before .before .before .before .before .before .pre .0, ((c .before .before .before .before .before .before .before .before .before .before .before .before .before .before .before .before .before .pre .1 .0, c .before .before .before .before .before .before .before .before .before .before .before .before .before .before .before .before .before .pre .1 .1, omega (arith, kept .0 .long)), (tables-filled (c .before .before .before .before .before .before .before .before .before .before .before .before .before .before .before .before .before .args .t1) _ _ _ (kept .0) _ (view-low (c .before .before .before .before .before .before .before .before .before .before .before .before .before .before .before .before .before .pre .0) (c .before .before .before .before .before .before .before .before .before .before .before .before .before .before .before .before .before .args .bridge) (c .before .before .before .before .before .before .before .before .before .before .before .before .before .before .before .before .before .pre .1 .0)) (kept .1), c .before .before .before .before .before .before .before .before .before .before .before .before .before .before .before .before .before .pre .1 .3)))
 
@@ -36,8 +36,8 @@ same-length-2 : tie.Need-same-length-2
 same-length-2 c = c .before .before .before .before .before .before .need-view .kept .1 .1 .1 .1 .1 .1 .0
 
 returns : tie.Need-returns
-returns c = (c .port-at .ensures, c .before .before .before .before .before .before .need-view .ensures .0 .0)
+returns c = (c .verdict-at .ensures, c .before .before .before .before .before .before .need-view .ensures .0 .0)
 
-pub port-in-spec : {M : Type 1} → statement M
-port-in-spec =
-    tie.close (tie.spec element-copy-out-view cast-view slice-aggregate-need-view need-view-requires port-at-requires same-length same-length-2 returns)
+pub verdict-in-spec : {M : Type 1} → statement M
+verdict-in-spec =
+    tie.close (tie.spec element-copy-out-view cast-view slice-aggregate-need-view need-view-requires verdict-at-requires same-length same-length-2 returns)

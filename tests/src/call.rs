@@ -28,11 +28,13 @@ pub fn distances(bridges: usize, links: usize, ends: &[u8], costs: &[u32], table
     }
 }
 
-/// The lengths that the calls of layer 2 need: a limit table, a record, a message or an answer, a bridge's update, the flags, the records.
+/// The lengths that the calls of layer 2 need: a limit table, a record, a message or an answer, a bridge's update, a verdict, the flags,
+/// the records.
 pub const LIMITS: usize = 1024;
 pub const RECORD: usize = 4;
 pub const MESSAGE: usize = 3;
 pub const UPDATE: usize = 2;
+pub const VERDICT: usize = 2;
 pub const FLAGS: usize = 64;
 pub const RECORDS: usize = 256;
 
@@ -122,30 +124,39 @@ extern "C" {
         out: *mut u32,
         out_len: usize,
     ) -> u8;
-    fn bench_port(
-        bridges: usize,
-        links: usize,
-        ends: *const u8,
-        ends_len: usize,
-        costs: *const u32,
-        costs_len: usize,
-        table: *const u32,
-        table_len: usize,
-        views: usize,
-        down: *const u8,
-        down_len: usize,
-        records: *const u32,
-        records_len: usize,
-        sent: *const u32,
-        sent_len: usize,
-        held: *const u32,
-        held_len: usize,
-        bridge: usize,
-        dest: usize,
-        out: *mut u32,
-        out_len: usize,
-    ) -> u8;
 }
+
+/// Declares calls on the forwarding choice, which have the same parameters.
+macro_rules! choices {
+    ($($name:ident),*) => {
+        extern "C" {
+            $(fn $name(
+                bridges: usize,
+                links: usize,
+                ends: *const u8,
+                ends_len: usize,
+                costs: *const u32,
+                costs_len: usize,
+                table: *const u32,
+                table_len: usize,
+                views: usize,
+                down: *const u8,
+                down_len: usize,
+                records: *const u32,
+                records_len: usize,
+                sent: *const u32,
+                sent_len: usize,
+                held: *const u32,
+                held_len: usize,
+                bridge: usize,
+                dest: usize,
+                out: *mut u32,
+                out_len: usize,
+            ) -> u8;)*
+        }
+    };
+}
+choices!(bench_port, bench_verdict);
 
 /// A view as it is lent to the calls of layer 2.
 #[derive(Clone, Copy)]
@@ -289,9 +300,27 @@ pub struct Known<'a> {
     pub held: &'a [u32],
 }
 
+/// Which of the calls on the forwarding choice.
+enum Choice {
+    Port,
+    Verdict,
+}
+
 pub fn port(v: Lent, k: Known, bridge: usize, dest: usize, out: &mut [u32]) -> u8 {
+    choice(Choice::Port, v, k, bridge, dest, out)
+}
+
+pub fn verdict(v: Lent, k: Known, bridge: usize, dest: usize, out: &mut [u32]) -> u8 {
+    choice(Choice::Verdict, v, k, bridge, dest, out)
+}
+
+fn choice(which: Choice, v: Lent, k: Known, bridge: usize, dest: usize, out: &mut [u32]) -> u8 {
+    let exported = match which {
+        Choice::Port => bench_port,
+        Choice::Verdict => bench_verdict,
+    };
     unsafe {
-        bench_port(
+        exported(
             v.bridges,
             v.links,
             v.ends.as_ptr(),

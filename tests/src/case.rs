@@ -13,6 +13,14 @@ pub enum Call {
     Carry,
     Deliver,
     Port,
+    Verdict,
+}
+
+impl Call {
+    /// Is it about the forwarding choice. Both such calls read the same.
+    pub fn is_choice(self) -> bool {
+        matches!(self, Call::Port | Call::Verdict)
+    }
 }
 
 /// What any of the calls is handed. Each reads its own part.
@@ -90,10 +98,11 @@ impl Case {
             Call::Update => call::update_end(v, self.views, self.view, self.end, b),
             Call::Carry => call::carry(self.views, self.view, self.number, b.fields, out_numbers),
             Call::Deliver => call::deliver_end(v, receiver, message.numbers(), b, out_numbers),
-            Call::Port => {
+            Call::Port | Call::Verdict => {
                 let known =
                     Known { views: self.views, down: down.numbers(), records: records.numbers(), sent: b.sent, held: b.held };
-                call::port(v, known, self.bridge, self.dest, out_numbers)
+                let ask = if which == Call::Port { call::port } else { call::verdict };
+                ask(v, known, self.bridge, self.dest, out_numbers)
             }
         };
         unchanged(&ends, &self.lent.ends);

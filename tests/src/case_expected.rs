@@ -1,11 +1,12 @@
 //! What the calls of layer 2 do, by reference/, and what is counted of them.
 
-use crate::call::{MESSAGE, RECORD, REFUSED};
+use crate::call::{MESSAGE, RECORD, REFUSED, VERDICT};
 use crate::case::{Call, Case, Outcome};
 use crate::flaw::{ask, Flaw, Site};
 use crate::records_numbers::{
     agreement_number, answer_numbers, fields_of, put_fresh_limits, put_limits, records_in, RECORD_FIELDS,
 };
+use crate::verdict::{verdict, verdict_events, verdict_numbers, NO_LINK};
 use crate::view::NONE;
 use reference::map::{End, Map, View};
 use reference::network::Network;
@@ -37,6 +38,7 @@ impl Case {
             Call::Carry => self.expect_carry(o),
             Call::Deliver => self.expect_delivery(flaw, o),
             Call::Port => self.expect_port(flaw, o),
+            Call::Verdict => return self.expect_verdict(flaw, outcome),
         };
         Expected { outcome, events: events.into_iter().map(String::from).collect() }
     }
@@ -209,6 +211,18 @@ impl Case {
         };
         events.extend(self.far_events(&network, &failed));
         events
+    }
+
+    fn expect_verdict(&self, flaw: Option<Flaw>, mut outcome: Outcome) -> Expected {
+        let mut network = self.network(flaw);
+        let named = ask(flaw, &mut network, self.dest, |network| verdict(flaw, network, self.bridge, self.dest));
+        assert!(!self.true_distances || named.0 != NO_LINK, "no link reaches a true distance");
+        outcome.out[..VERDICT].copy_from_slice(&verdict_numbers(named));
+        let mut events = verdict_events(&network, self.bridge, self.dest);
+        if !self.true_distances {
+            events.push(format!("{}, by other distances", events[0]));
+        }
+        Expected { outcome, events }
     }
 
     fn open_events(&self, network: &Network) -> Vec<&'static str> {

@@ -28,7 +28,8 @@ impl Met {
     /// Panics unless each of these was met so often.
     pub fn at_least<E: AsRef<str>>(&self, label: &str, events: &[E], least: usize) {
         for event in events.iter().map(AsRef::as_ref) {
-            assert!(self.times(event) >= least, "{label}: only {} times: {event}\n{self:?}", self.times(event));
+            let times = self.times(event);
+            assert!(times >= least, "{label}: {times} times, and at least {least} are asked for: {event}\n{self:?}");
         }
     }
 

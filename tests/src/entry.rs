@@ -1,7 +1,7 @@
 //! Document 01's ranges, and what the calls of layer 2 refuse with 17 at their entry. Nothing in reference/ corresponds to it, since a
 //! plan cannot reach 17.
 
-use crate::call::{FLAGS, LIMITS, MESSAGE, RECORD, RECORDS, TABLE};
+use crate::call::{FLAGS, LIMITS, MESSAGE, RECORD, RECORDS, TABLE, VERDICT};
 use crate::case::{Call, Case};
 use crate::records_numbers::{Field, BYTES, MESSAGE_FIELDS, NO_VIEW, RECORD_FIELDS};
 use crate::view::MAX_COST;
@@ -63,6 +63,7 @@ impl Call {
     pub fn answer_length(self) -> usize {
         match self {
             Call::Offer | Call::Port => 1,
+            Call::Verdict => VERDICT,
             Call::Carry | Call::Deliver => MESSAGE,
             Call::Start | Call::Update => 0,
         }
@@ -79,14 +80,14 @@ impl Case {
         if matches!(which, Call::Offer | Call::Start | Call::Update | Call::Deliver) {
             add(c, "no such end", self.end / 2 >= self.lent.links);
         }
-        if matches!(which, Call::Start | Call::Update | Call::Deliver | Call::Port) {
+        if matches!(which, Call::Start | Call::Update | Call::Deliver) || which.is_choice() {
             add(c, "sent limits short", self.sent.len() < LIMITS);
             add(c, "held limits short", self.held.len() < LIMITS);
         }
         if matches!(which, Call::Start | Call::Update | Call::Carry | Call::Deliver) {
             add(c, "record short", self.fields.len() < RECORD);
         }
-        if matches!(which, Call::Update | Call::Carry | Call::Deliver | Call::Port) {
+        if matches!(which, Call::Update | Call::Carry | Call::Deliver) || which.is_choice() {
             add(c, "view count", !is_view_count(self.views));
         }
         if matches!(which, Call::Update | Call::Carry | Call::Deliver) {
@@ -101,10 +102,10 @@ impl Case {
             add(c, "view of the message", unknown);
             add_too_great(c, "the message", &self.message, MESSAGE_FIELDS);
         }
-        if which == Call::Port {
-            self.port_causes(c);
+        if which.is_choice() {
+            self.choice_causes(c);
         }
-        add(c, "no such destination", matches!(which, Call::Offer | Call::Port) && self.dest >= self.lent.bridges);
+        add(c, "no such destination", (which == Call::Offer || which.is_choice()) && self.dest >= self.lent.bridges);
         add(c, "out short", self.out.len() < which.answer_length());
         causes
     }
@@ -123,7 +124,7 @@ impl Case {
         add(causes, "cost too large", a.costs.iter().take(a.links).any(|&c| c > MAX_COST));
     }
 
-    fn port_causes(&self, causes: &mut Causes) {
+    fn choice_causes(&self, causes: &mut Causes) {
         add(causes, "no such bridge", self.bridge >= self.lent.bridges);
         add(causes, "flags short", self.down.len() < FLAGS);
         add(causes, "records short", self.records.len() < RECORDS);

@@ -33,6 +33,15 @@ pub enum Flaw {
     HighestLink,
     OwnEndIgnored,
     FarEndShuts,
+    // of verdicts: verdict.rs puts them in
+    PathBeforeDestination,
+    HoldingBeforeEnd,
+    SentBeforeHolding,
+    SentBeforeHeld,
+    NoneIsNothingHeld,
+    BlamesHighest,
+    BlamesChosen,
+    BlamesDownEnds,
     // of paths
     FrameNeedsNoFarEnd,
     // of sends, deliveries, cuts and taking out
@@ -45,7 +54,7 @@ pub enum Flaw {
     LatestKeepsPlace,
 }
 
-/// Those that calls of layer 3 notice.
+/// Those that calls of layer 3 notice, but for those of verdicts.
 pub const FLAWS: [Flaw; 25] = [
     Flaw::SentMayBeEqual,
     Flaw::ClearsOnSending,
@@ -72,6 +81,17 @@ pub const FLAWS: [Flaw; 25] = [
     Flaw::RestoresBothEnds,
     Flaw::OwnEndIgnored,
     Flaw::FarEndShuts,
+];
+
+/// Those that verdicts alone notice, by distances of the costs.
+pub const OF_VERDICTS: [Flaw; 7] = [
+    Flaw::HoldingBeforeEnd,
+    Flaw::SentBeforeHolding,
+    Flaw::SentBeforeHeld,
+    Flaw::NoneIsNothingHeld,
+    Flaw::BlamesHighest,
+    Flaw::BlamesChosen,
+    Flaw::BlamesDownEnds,
 ];
 
 /// A link end, its bridge, and its records before a call.
@@ -138,7 +158,8 @@ impl Flaw {
 
 // ---- the forwarding choice
 
-const OF_CHOICES: [Flaw; 8] = [
+/// Those that ports and verdicts notice.
+pub const OF_CHOICES: [Flaw; 8] = [
     Flaw::SentOnChosenOnly,
     Flaw::SentOfDownEnds,
     Flaw::SentByFarEnds,

@@ -26,4 +26,5 @@ pub mod random_case;
 pub mod reading_call;
 pub mod records_numbers;
 pub mod slice_call;
+pub mod verdict;
 pub mod view;

@@ -1,6 +1,7 @@
 //! The calls of layer 3 by reference/. A flaw is an error put around them, for tests of the tests.
 
 use crate::flaw::{ask, path, Flaw, Site};
+use crate::verdict::{verdict, Verdict};
 use crate::view::NONE;
 use reference::forwarding::PathEnd;
 use reference::network::Network;
@@ -17,6 +18,7 @@ pub enum Call {
     Repeat(usize),
     Lose(usize),
     Port(usize, usize),
+    Verdict(usize, usize),
     Report(usize),
     Path(usize, usize),
 }
@@ -28,6 +30,7 @@ pub enum Reply {
     Answered(Answer, Message),
     /// The link.
     Port(Option<usize>),
+    Verdict(Verdict),
     /// A distance and a link for each bridge.
     Report(Vec<(u32, Option<usize>)>),
     Path(PathEnd),
@@ -78,6 +81,11 @@ impl Model {
             Call::Port(bridge, dest) => {
                 let (bridge, dest) = (network.bridge(byte(bridge))?, network.bridge(byte(dest))?);
                 Ok(Reply::Port(self.ask(dest, |network| link(network, bridge, dest))))
+            }
+            Call::Verdict(bridge, dest) => {
+                let (bridge, dest) = (network.bridge(byte(bridge))?, network.bridge(byte(dest))?);
+                let flaw = self.flaw;
+                Ok(Reply::Verdict(self.ask(dest, |network| verdict(flaw, network, bridge, dest))))
             }
             Call::Report(dest) => {
                 let dest = network.bridge(byte(dest))?;

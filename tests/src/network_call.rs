@@ -55,20 +55,6 @@ extern "C" {
         link: usize,
     ) -> u8;
     fn bench_net_lose(bench: *mut u32, bench_len: usize, messages: *mut u32, messages_len: usize, place: usize) -> u8;
-    fn bench_net_port(
-        bench: *const u32,
-        bench_len: usize,
-        costs: *const u32,
-        costs_len: usize,
-        sent: *const u32,
-        sent_len: usize,
-        held: *const u32,
-        held_len: usize,
-        bridge: usize,
-        dest: usize,
-        out: *mut u32,
-        out_len: usize,
-    ) -> u8;
     fn bench_net_report(
         bench: *const u32,
         bench_len: usize,
@@ -82,20 +68,37 @@ extern "C" {
         rows: *mut u32,
         rows_len: usize,
     ) -> u8;
-    fn bench_net_path(
-        bench: *const u32,
-        bench_len: usize,
-        costs: *const u32,
-        costs_len: usize,
-        sent: *const u32,
-        sent_len: usize,
-        held: *const u32,
-        held_len: usize,
-        start: usize,
-        dest: usize,
-        out: *mut u32,
-        out_len: usize,
-    ) -> u8;
+}
+
+/// Declares questions about a bridge and a destination, which have the same parameters.
+macro_rules! questions {
+    ($($name:ident),*) => {
+        extern "C" {
+            $(fn $name(
+                bench: *const u32,
+                bench_len: usize,
+                costs: *const u32,
+                costs_len: usize,
+                sent: *const u32,
+                sent_len: usize,
+                held: *const u32,
+                held_len: usize,
+                bridge: usize,
+                dest: usize,
+                out: *mut u32,
+                out_len: usize,
+            ) -> u8;)*
+        }
+    };
+}
+questions!(bench_net_port, bench_net_verdict, bench_net_path);
+
+/// Which of them.
+#[derive(Clone, Copy)]
+enum Question {
+    Port,
+    Verdict,
+    Path,
 }
 
 /// Declares calls with the parameters of deliver, which are those of repeat too, over numbers and over structs. What is only read passes as
@@ -132,7 +135,7 @@ pub(crate) enum Delivery {
     SliceRepeat,
 }
 
-/// All that is lent to the calls. `out` takes answers, ports, paths and report rows.
+/// All that is lent to the calls. `out` takes answers, ports, verdicts, paths and report rows.
 #[derive(Clone, Debug)]
 pub struct Lent {
     pub bench: Buffer,
@@ -199,9 +202,10 @@ impl Lent {
             Call::Deliver(place) => self.delivery(Delivery::Deliver, place),
             Call::Repeat(place) => self.delivery(Delivery::Repeat, place),
             Call::Lose(place) => self.lose(place),
-            Call::Port(bridge, dest) => self.port(bridge, dest),
+            Call::Port(bridge, dest) => self.question(Question::Port, bridge, dest),
+            Call::Verdict(bridge, dest) => self.question(Question::Verdict, bridge, dest),
             Call::Report(dest) => self.report(dest),
-            Call::Path(start, dest) => self.path(start, dest),
+            Call::Path(start, dest) => self.question(Question::Path, start, dest),
         }
     }
 
@@ -273,11 +277,16 @@ impl Lent {
         }
     }
 
-    fn port(&mut self, bridge: usize, dest: usize) -> u8 {
+    fn question(&mut self, which: Question, bridge: usize, dest: usize) -> u8 {
+        let exported = match which {
+            Question::Port => bench_net_port,
+            Question::Verdict => bench_net_verdict,
+            Question::Path => bench_net_path,
+        };
         let (b, c) = (self.bench.numbers(), self.costs.numbers());
         let (s, h, o) = (self.sent.numbers(), self.held.numbers(), self.out.numbers_mut());
         unsafe {
-            bench_net_port(
+            exported(
                 b.as_ptr(),
                 b.len(),
                 c.as_ptr(),
@@ -307,27 +316,6 @@ impl Lent {
                 s.len(),
                 h.as_ptr(),
                 h.len(),
-                dest,
-                o.as_mut_ptr(),
-                o.len(),
-            )
-        }
-    }
-
-    fn path(&mut self, start: usize, dest: usize) -> u8 {
-        let (b, c) = (self.bench.numbers(), self.costs.numbers());
-        let (s, h, o) = (self.sent.numbers(), self.held.numbers(), self.out.numbers_mut());
-        unsafe {
-            bench_net_path(
-                b.as_ptr(),
-                b.len(),
-                c.as_ptr(),
-                c.len(),
-                s.as_ptr(),
-                s.len(),
-                h.as_ptr(),
-                h.len(),
-                start,
                 dest,
                 o.as_mut_ptr(),
                 o.len(),

@@ -1,7 +1,7 @@
 //! What the calls of layer 3 refuse with 17 at their entry: buffers that are too short, numbers that do not fit their field, and numbers
 //! outside document 01's ranges.
 
-use crate::call::RECORD;
+use crate::call::{RECORD, VERDICT};
 use crate::entry::{is_bridge_count, is_link_count, is_received_view, is_view, is_view_count};
 use crate::model::Call;
 use crate::network_call::{Lent, ANSWER, BENCH, COSTS, DOWN, ENDS, LIMITS, MESSAGES, NUMBER, RECORDS, ROWS, VIEW};
@@ -21,6 +21,7 @@ fn answer_length(call: Call) -> usize {
     match call {
         Call::Deliver(_) | Call::Repeat(_) | Call::Path(..) => ANSWER,
         Call::Port(..) => 1,
+        Call::Verdict(..) => VERDICT,
         Call::Report(_) => ROWS,
         _ => 0,
     }

@@ -2,6 +2,7 @@
 
 use crate::case_expected::{failed_conditions, OWN_END};
 use crate::model::{Call, Reply};
+use crate::verdict::{name_of, verdict_events};
 use reference::forwarding::PathEnd;
 use reference::map::End;
 use reference::network::Network;
@@ -21,6 +22,7 @@ pub fn event(call: Call, outcome: &Outcome) -> String {
         (_, Ok(Reply::Answered(answer, _))) => format!("{answer:?}").to_lowercase(),
         (_, Ok(Reply::Port(None))) => "closed".into(),
         (_, Ok(Reply::Port(Some(_)))) => "open".into(),
+        (_, Ok(Reply::Verdict((case, _)))) => name_of(*case).into(),
         (_, Ok(Reply::Report(rows))) if rows.iter().all(|row| row.1.is_none()) => "without ports".into(),
         (_, Ok(Reply::Report(_))) => "with ports".into(),
         (Call::Path(_, dest), Ok(Reply::Path(end))) if end.last == dest && end.hops == 0 => "delivered at once".into(),
@@ -31,7 +33,7 @@ pub fn event(call: Call, outcome: &Outcome) -> String {
     format!("{} {what}", name(call))
 }
 
-/// All that `event` says.
+/// All that `event` says, but for verdicts.
 pub const EVENTS: [&str; 39] = [
     "update done",
     "update 10",
@@ -90,8 +92,12 @@ pub fn end_of(network: &Network, call: Call) -> Option<End> {
     }
 }
 
-/// What is counted of a call about this end that has left this network: what `event` says, and what it was like at the ends of the link.
+/// What is counted of a call about this end that has left this network: what `event` says, and what it was like at the ends of the link,
+/// or what goes with a verdict.
 pub fn events(network: &Network, call: Call, end: Option<End>, outcome: &Outcome) -> Vec<String> {
+    if let (Call::Verdict(bridge, dest), Ok(_)) = (call, outcome) {
+        return verdict_events(network, bridge, dest);
+    }
     let event = event(call, outcome);
     let more = at_ends(network, call, end, outcome).map(|more| match outcome {
         Ok(Reply::Answered(..)) => format!("{} done, {more}", name(call)),
@@ -144,7 +150,7 @@ fn of_stop(network: &Network, last: usize, dest: usize) -> &'static str {
     }
 }
 
-/// What `events` says beside what `event` says, from any network that a fresh one leads to.
+/// What `events` says of the ends beside what `event` says, from any network that a fresh one leads to.
 pub const END_EVENTS: [&str; 39] = [
     "cut done, far end up",
     "cut done, far end down",

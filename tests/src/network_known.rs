@@ -4,6 +4,7 @@ use crate::model::{Call, Reply};
 use crate::network_random::map_of;
 use crate::network_run::Run;
 use crate::random::Random;
+use crate::verdict::Verdict;
 use reference::records::Answer;
 
 /// The triangle of document 01 with two views, fresh.
@@ -49,6 +50,12 @@ impl Run {
             Reply::Report(rows) => rows[bridge],
             other => panic!("{other:?}"),
         }
+    }
+
+    /// What is named of each bridge.
+    pub fn named(&mut self, dest: usize) -> Vec<Verdict> {
+        let bridges = 0..self.map().bridge_count();
+        bridges.map(|bridge| self.verdict(bridge, dest).unwrap_or_else(|difference| panic!("{difference}"))).collect()
     }
 
     pub fn ports(&mut self, dest: usize) -> Vec<Option<usize>> {

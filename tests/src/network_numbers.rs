@@ -8,6 +8,7 @@ use crate::network_call::{Lent, BENCH, DOWN, NUMBER, RECORDS, VIEW};
 use crate::network_entry::{reads_messages, reads_views};
 use crate::network_random::map_of;
 use crate::records_numbers::{agreement_number, answer_numbers, fields_of, put_fresh_limits, put_limits, records_in, NO_VIEW};
+use crate::verdict::verdict_numbers;
 use crate::view::NONE;
 use reference::map::{End, Map};
 use reference::network::Network;
@@ -107,6 +108,7 @@ fn put_reply(call: Call, reply: &Reply, out: &mut [u32]) {
         (_, Reply::Done) => {}
         (_, Reply::Answered(answer, message)) => out[..3].copy_from_slice(&answer_numbers(*answer, *message)),
         (_, Reply::Port(port)) => out[0] = link(*port),
+        (_, Reply::Verdict(verdict)) => out[..2].copy_from_slice(&verdict_numbers(*verdict)),
         (_, Reply::Report(rows)) => {
             for (row, &(distance, port)) in out.chunks_exact_mut(2).zip(rows) {
                 row.copy_from_slice(&[distance, link(port)]);
@@ -119,7 +121,7 @@ fn put_reply(call: Call, reply: &Reply, out: &mut [u32]) {
 
 /// Does an accepted call only ask.
 pub fn is_question(call: Call) -> bool {
-    matches!(call, Call::Port(..) | Call::Report(_) | Call::Path(..))
+    matches!(call, Call::Port(..) | Call::Verdict(..) | Call::Report(_) | Call::Path(..))
 }
 
 /// One call on the network that the buffers hold: its reply, and the buffers as it is to leave them. An error is document 01's number.

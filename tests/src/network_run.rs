@@ -8,6 +8,7 @@ use crate::network_handed::hand_in;
 use crate::network_numbers::{compare, expect, is_question, network_in, put_fresh};
 use crate::network_random::{lend, pair};
 use crate::random::Random;
+use crate::verdict::{Verdict, FORWARDS};
 use reference::distances::NONE;
 use reference::forwarding::PathEnd;
 use reference::map::{End, Map};
@@ -310,22 +311,38 @@ impl Run {
         }
     }
 
+    /// What is named of a bridge: that its port forwards exactly where the port is open, and on that link.
+    pub fn verdict(&mut self, bridge: usize, dest: usize) -> Result<Verdict, String> {
+        let port = self.port(bridge, dest)?;
+        let outcome = self.ask(Call::Verdict(bridge, dest))?;
+        match (port, outcome) {
+            (Some(_), Ok(Reply::Verdict(named))) if named == (FORWARDS, port) => Ok(named),
+            (None, Ok(Reply::Verdict(named))) if named.0 != FORWARDS => Ok(named),
+            (port, outcome) => Err(format!("verdict of {bridge} for {dest}: {outcome:?} beside port {port:?}")),
+        }
+    }
+
+    /// Every port and verdict.
+    pub fn verdicts(&mut self) -> Result<(), String> {
+        pairs_of(self.map().bridge_count()).try_for_each(|(bridge, dest)| self.verdict(bridge, dest).map(|_| ()))
+    }
+
     /// Does a frame that is sent over the link get across: both ends are up.
     fn is_crossed(&self, link: usize) -> bool {
         self.network().down[link] == [false; 2]
     }
 
-    /// Every report, port and path; the hops of frames close no ring, and paths end by themselves.
+    /// Every report, port, verdict and path; the hops of frames close no ring, and paths end by themselves.
     pub fn survey(&mut self) -> Result<(), String> {
         let bridges = self.map().bridge_count();
         for dest in 0..bridges {
             self.call(Call::Report(dest))?;
-            let ports = (0..bridges).map(|bridge| self.port(bridge, dest)).collect::<Result<Vec<_>, _>>()?;
-            let hop = |(bridge, port): (usize, Option<usize>)| {
-                let link = port.filter(|&link| self.is_crossed(link))?;
+            let verdicts = (0..bridges).map(|bridge| self.verdict(bridge, dest)).collect::<Result<Vec<_>, _>>()?;
+            let hop = |(bridge, (case, link)): (usize, Verdict)| {
+                let link = link.filter(|&link| case == FORWARDS && self.is_crossed(link))?;
                 Some(across(self.map(), link, bridge))
             };
-            let next: Vec<Option<usize>> = ports.into_iter().enumerate().map(hop).collect();
+            let next: Vec<Option<usize>> = verdicts.into_iter().enumerate().map(hop).collect();
             for start in 0..bridges {
                 let outcome = self.ask(Call::Path(start, dest))?;
                 ends_by_itself(&next, start, dest, &outcome)?;

@@ -10,7 +10,7 @@ pub fn field(tag: u8, value: &[u8]) -> Vec<u8> {
     [&[tag][..], &length, value].concat()
 }
 
-/// The field of an event, `None` for a port, which is none.
+/// The field of an event, `None` for a port or a verdict, which are none.
 pub fn event_field(call: Call) -> Option<Vec<u8>> {
     let one = |tag: u8, number: usize| Some(field(tag, &[byte(number)]));
     let two = |tag: u8, first: usize, second: usize| Some(field(tag, &[byte(first), byte(second)]));
@@ -24,7 +24,7 @@ pub fn event_field(call: Call) -> Option<Vec<u8>> {
         Call::Restore(bridge, link) => two(10, bridge, link),
         Call::Report(dest) => one(11, dest),
         Call::Path(start, dest) => two(12, start, dest),
-        Call::Port(..) => None,
+        Call::Port(..) | Call::Verdict(..) => None,
     }
 }
 

@@ -22,11 +22,11 @@ fn random_number(random: &mut Random, met: u16) -> u16 {
     random.pick(&[0, 1, 2, met, met, met.saturating_sub(1), met.saturating_add(1), 65_534, 65_535, any])
 }
 
-/// A view with true distances, or with a table of arbitrary numbers, and which of the two.
-fn random_lent(random: &mut Random) -> (Arguments, bool) {
+/// A view with true distances, or once in `others` times with a table of arbitrary numbers, and which of the two.
+fn random_lent(random: &mut Random, others: usize) -> (Arguments, bool) {
     let bridges = if random.one_in(3) { 2 + random.below(3) } else { 2 + random.below(15) };
     let mut lent = random_arguments(random, bridges);
-    let true_distances = !random.one_in(3);
+    let true_distances = !random.one_in(others);
     if !true_distances {
         for cost in &mut lent.costs[..lent.links] {
             *cost = random.pick(&[0, 1, 1, 2, 3, 5, MAX_COST]);
@@ -145,6 +145,17 @@ impl Case {
         self.records = longer(random, &self.records);
         self.down.extend(spare(random).into_iter().map(|x| x as u8));
     }
+
+    /// At each end of the bridge every condition of the forwarding choice fails often, so that several fail at once.
+    fn mix_conditions(&mut self, random: &mut Random) {
+        let distance = self.lent.table[16 * self.bridge + self.dest];
+        for end in (0..2 * self.lent.links).filter(|&end| usize::from(self.lent.ends[end]) == self.bridge) {
+            self.down[end] = random.pick(&[0, 0, 1]);
+            self.records[RECORD * end + 3] = random.pick(&[0, 1, 1]);
+            self.sent[16 * end + self.dest] = random_sent(random, 2, distance, self.lent.costs[end / 2]);
+            self.held[16 * end + self.dest] = random_held(random, 2, distance);
+        }
+    }
 }
 
 /// A message to an end that has received this number, at a bridge on this view with this number.
@@ -168,9 +179,10 @@ fn longer(random: &mut Random, numbers: &[u32]) -> Vec<u32> {
 
 /// An accepted call. What lies past the need is random.
 pub fn random_case(random: &mut Random, which: Call) -> Case {
-    let (mut lent, mut true_distances) = random_lent(random);
-    while lent.links == 0 && !matches!(which, Call::Carry | Call::Port) {
-        (lent, true_distances) = random_lent(random);
+    let others = if which == Call::Verdict { 2 } else { 3 };
+    let (mut lent, mut true_distances) = random_lent(random, others);
+    while lent.links == 0 && which != Call::Carry && !which.is_choice() {
+        (lent, true_distances) = random_lent(random, others);
     }
     let views = if random.one_in(2) { 1 + random.below(3) } else { 1 + random.below(32) };
     let view = random.below(views) as u8;
@@ -187,7 +199,7 @@ pub fn random_case(random: &mut Random, which: Call) -> Case {
         message: longer(random, &message),
         sent: random.numbers(LIMITS),
         held: random.numbers(LIMITS),
-        out: random.numbers(if which.answer_length() == 1 { 1 } else { MESSAGE }),
+        out: random.numbers(if which.answer_length() == 0 { MESSAGE } else { which.answer_length() }),
         down: random_flags(random),
         records: vec![0; RECORDS],
         views,
@@ -198,6 +210,9 @@ pub fn random_case(random: &mut Random, which: Call) -> Case {
     };
     case.random_limits(random, rarely);
     case.random_records(random, rarely);
+    if which == Call::Verdict && random.one_in(2) {
+        case.mix_conditions(random);
+    }
     if which == Call::Start && random.one_in(2) {
         // not read, so they need not fit
         case.fields = random.numbers(RECORD);
@@ -227,16 +242,17 @@ impl Case {
         let large = random.pick(&LARGE);
         let unknown = self.views as u32 + random.below(255 - self.views) as u32;
         let other = random.pick(&[unknown, NO_VIEW]);
-        let on_end = !matches!(which, Call::Carry | Call::Port);
+        let of_choice = which.is_choice();
+        let on_end = which != Call::Carry && !of_choice;
         let with_limits = !matches!(which, Call::Offer | Call::Carry);
-        let with_record = !matches!(which, Call::Offer | Call::Port);
+        let with_record = which != Call::Offer && !of_choice;
         let with_views = !matches!(which, Call::Offer | Call::Start);
         match kind {
             8 if on_end => self.end = 2 * links + large,
             9 if with_limits => self.sent.truncate(random.below(LIMITS)),
             10 if with_limits => self.held.truncate(random.below(LIMITS)),
-            11 if matches!(which, Call::Offer | Call::Port) => self.dest = bridges + large,
-            12 if which == Call::Port => self.bridge = bridges + large,
+            11 if which == Call::Offer || of_choice => self.dest = bridges + large,
+            12 if of_choice => self.bridge = bridges + large,
             13 if with_record => self.fields.truncate(random.below(RECORD)),
             14 if which == Call::Deliver => self.message.truncate(random.below(MESSAGE)),
             15 if which.answer_length() > 0 => self.out.truncate(random.below(which.answer_length())),
@@ -244,9 +260,9 @@ impl Case {
             17 if with_views && with_record => self.view = (self.views + random.below(256 - self.views)) as u8,
             18 if with_views && with_record => self.fields[1] = unknown,
             19 if which == Call::Deliver => self.message[0] = other,
-            20 if which == Call::Port => self.down.truncate(random.below(FLAGS)),
-            21 if which == Call::Port && random.one_in(2) => self.records.truncate(random.below(RECORDS)),
-            21 if which == Call::Port && links > 0 => self.records[RECORD * end + 1] = unknown,
+            20 if of_choice => self.down.truncate(random.below(FLAGS)),
+            21 if of_choice && random.one_in(2) => self.records.truncate(random.below(RECORDS)),
+            21 if of_choice && links > 0 => self.records[RECORD * end + 1] = unknown,
             _ => return false,
         }
         true
@@ -259,7 +275,9 @@ impl Case {
             Call::Offer | Call::Start => return false,
             Call::Deliver if random.one_in(2) => (&mut self.message[field], MESSAGE_FIELDS[field]),
             Call::Update | Call::Carry | Call::Deliver => (&mut self.fields[field], RECORD_FIELDS[field]),
-            Call::Port => (&mut self.records[RECORD * random.below(RECORDS / RECORD) + field], RECORD_FIELDS[field]),
+            Call::Port | Call::Verdict => {
+                (&mut self.records[RECORD * random.below(RECORDS / RECORD) + field], RECORD_FIELDS[field])
+            }
         };
         *number = random.beyond(*number, values);
         true

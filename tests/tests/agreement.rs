@@ -1,17 +1,19 @@
 //! The calls of layer 2 as compiled, against document 01 and against reference/.
 
 use bench_tests::bridge_update::{BridgeUpdate, Reply};
-use bench_tests::call::REFUSED;
+use bench_tests::call::{REFUSED, VERDICT};
 use bench_tests::case::{compare, Call, Case, Outcome};
 use bench_tests::count::Met;
 use bench_tests::entry::too_great;
-use bench_tests::flaw::Flaw;
+use bench_tests::flaw::{Flaw, OF_CHOICES, OF_VERDICTS};
 use bench_tests::random::Random;
 use bench_tests::random_case::{damage, random_case};
 use bench_tests::records_numbers::{Field, MESSAGE_FIELDS, RECORD_FIELDS};
+use bench_tests::verdict::{VERDICTS, VERDICT_FEATURES};
+use bench_tests::view::NONE;
 
 const CASES: u64 = 20_000;
-const CALLS: [Call; 6] = [Call::Offer, Call::Start, Call::Update, Call::Carry, Call::Deliver, Call::Port];
+const CALLS: [Call; 7] = [Call::Offer, Call::Start, Call::Update, Call::Carry, Call::Deliver, Call::Port, Call::Verdict];
 
 fn seed_of(which: Call, case: u64) -> u64 {
     (which as u64 + 1) * 1_000_000_000 + case
@@ -24,15 +26,34 @@ fn try_case(label: &str, which: Call, case: &Case, met: &mut Met) {
         panic!("{which:?}, {label}: {difference}\n{case:?}");
     }
     expected.events.into_iter().for_each(|event| met.note(event));
+    if which == Call::Verdict {
+        agrees_with_port(label, case);
+    }
+}
+
+/// The port is open exactly where the verdict is that it forwards, and on that link. The two are refused alike, but that a verdict needs
+/// room for two numbers.
+fn agrees_with_port(label: &str, case: &Case) {
+    let [port, verdict] = [Call::Port, Call::Verdict].map(|which| case.run(which));
+    let is_short = case.out.len() < VERDICT;
+    assert_eq!(verdict.reply == REFUSED, port.reply == REFUSED || is_short, "{label}\n{case:?}");
+    if verdict.reply == 0 {
+        let open = if verdict.out[0] == 0 { verdict.out[1] } else { NONE };
+        assert_eq!(port.out[0], open, "{label}: the port beside the verdict {:?}\n{case:?}", &verdict.out[..VERDICT]);
+    }
 }
 
 fn random_cases(which: Call, events: &[&str]) {
+    met_in_random_cases(which).only(&format!("{which:?}"), events, 200);
+}
+
+fn met_in_random_cases(which: Call) -> Met {
     let mut met = Met::default();
     for case in 0..CASES {
         let seed = seed_of(which, case);
         try_case(&format!("seed {seed}"), which, &random_case(&mut Random::new(seed), which), &mut met);
     }
-    met.only(&format!("{which:?}"), events, 200);
+    met
 }
 
 #[test]
@@ -120,6 +141,35 @@ fn random_ports() {
         "closed by several",
     ];
     random_cases(Call::Port, &events);
+}
+
+/// No link reaches the distance, which is not that of the costs.
+const NO_LINK: &str = "verdict no link";
+
+/// Of distances that are not those of the costs. The destination may then have any distance.
+const BY_OTHER_DISTANCES: [&str; 13] = [
+    "verdict forwards, by other distances",
+    "verdict destination, by other distances",
+    "verdict no path, by other distances",
+    "verdict own end down, by other distances",
+    "verdict nothing held, by other distances",
+    "verdict held too great, by other distances",
+    "verdict sent too low, by other distances",
+    "verdict no link, by other distances",
+    "verdict destination, no path too",
+    "verdict destination, own end down too",
+    "verdict destination, nothing held too",
+    "verdict destination, held too great too",
+    "verdict destination, sent too low too",
+];
+
+#[test]
+fn random_verdicts() {
+    let met = met_in_random_cases(Call::Verdict);
+    let frequent = [&VERDICTS[..], &VERDICT_FEATURES, &[NO_LINK]].concat();
+    met.only("verdicts", &[&frequent[..], &BY_OTHER_DISTANCES].concat(), 100);
+    met.at_least("verdicts", &frequent, 250);
+    met.at_least("verdicts", &[&VERDICTS[..], &[NO_LINK]].concat(), 1_000);
 }
 
 // ---- updates of a bridge
@@ -232,7 +282,7 @@ fn too_great_causes(which: Call) -> Vec<String> {
         Call::Offer | Call::Start => Vec::new(),
         Call::Update | Call::Carry => of("the record", RECORD_FIELDS),
         Call::Deliver => [of("the record", RECORD_FIELDS), of("the message", MESSAGE_FIELDS)].concat(),
-        Call::Port => [of("a record", RECORD_FIELDS), of("a record past the links", RECORD_FIELDS)].concat(),
+        Call::Port | Call::Verdict => [of("a record", RECORD_FIELDS), of("a record past the links", RECORD_FIELDS)].concat(),
     }
 }
 
@@ -247,7 +297,7 @@ fn causes(which: Call) -> Vec<String> {
         Call::Deliver => {
             &[&OF_A_VIEW, &["no such end"], &limits, &record, &["message short", "view of the message", "out short"]]
         }
-        Call::Port => &[
+        Call::Port | Call::Verdict => &[
             &OF_A_VIEW,
             &limits,
             &["view count", "no such bridge", "no such destination"],
@@ -328,14 +378,17 @@ fn wrong_rules_are_noticed() {
         (Flaw::HeldMustBeBelow, Call::Port),
         (Flaw::HoldingIgnored, Call::Port),
         (Flaw::HighestLink, Call::Port),
+        (Flaw::HoldingIgnored, Call::Verdict),
+        (Flaw::PathBeforeDestination, Call::Verdict),
     ];
-    for (flaw, which) in flaws {
+    let of_verdicts = OF_VERDICTS.into_iter().chain(OF_CHOICES).map(|flaw| (flaw, Call::Verdict));
+    for (flaw, which) in flaws.into_iter().chain(of_verdicts) {
         let differs = |case: &u64| {
             let case = random_case(&mut Random::new(seed_of(which, *case)), which);
             compare(&case.expected(which, Some(flaw)).outcome, &case.run(which)).is_err()
         };
         let noticed = (0..CASES / 4).filter(differs).count();
-        println!("{flaw:?}: {noticed}");
-        assert!(noticed >= 30, "{flaw:?}: noticed in only {noticed} of {} cases", CASES / 4);
+        println!("{flaw:?}, {which:?}: {noticed}");
+        assert!(noticed >= 30, "{flaw:?}, {which:?}: noticed in {noticed} of {} cases, and at least 30 are asked for", CASES / 4);
     }
 }

@@ -51,8 +51,9 @@ fn reading_call(random: &mut Random, network: &Network) -> Call {
     let (bridges, views) = (network.map.bridge_count(), network.map.view_count());
     let [bridge, dest] = [0; 2].map(|_: u8| random.below(bridges));
     let place = random.below(network.flight.len().max(1));
-    match random.below(6) {
+    match random.below(7) {
         0 => Call::Port(bridge, dest),
+        6 => Call::Verdict(bridge, dest),
         1 => Call::Report(dest),
         2 => Call::Path(bridge, dest),
         3 => Call::Update(bridge, random.below(views)),
@@ -68,7 +69,7 @@ fn view_of(call: Call, network: &Network) -> usize {
         Call::Deliver(place) | Call::Repeat(place) => {
             network.flight.get(place).map_or(0, |message| network.map.bridge_at(message.from.far()))
         }
-        Call::Port(bridge, _) | Call::Path(bridge, _) => bridge,
+        Call::Port(bridge, _) | Call::Verdict(bridge, _) | Call::Path(bridge, _) => bridge,
         _ => 0,
     };
     network.bridges[bridge].view
@@ -123,10 +124,11 @@ fn calls_go_by_the_costs_of_the_moment() {
     for seed in 200_000_000..200_000_400 {
         met.add(&one_run(&mut Random::new(seed)).unwrap_or_else(|difference| panic!("seed {seed}: {difference}")));
     }
-    let calls = ["port", "report", "path", "update", "deliver", "repeat", "list"].map(|call| format!("{call} shows it"));
+    let calls = ["port", "verdict", "report", "path", "update", "deliver", "repeat", "list"];
+    let calls = calls.map(|call| format!("{call} shows it"));
     met.0.retain(|event, _| calls.contains(event));
     met.only("changed costs", &calls, 30);
-    met.at_least("changed costs", &calls[..6], 100);
+    met.at_least("changed costs", &calls[..7], 100);
 }
 
 /// The triangle after E3: link 0 becomes dearer in the view that all are on, and bridge 2 takes link 2 at once.

@@ -1,6 +1,8 @@
 //! Document 01's known examples E1 to E8, by the compiled calls of layers 1 and 2 alone: the network and its messages are this file's.
 
-use bench_tests::call::{self, EndBuffers, Known, Lent, Receiver, FILLED, FLAGS, LIMITS, MESSAGE, RECORD, RECORDS, TABLE};
+use bench_tests::call::{
+    self, EndBuffers, Known, Lent, Receiver, FILLED, FLAGS, LIMITS, MESSAGE, RECORD, RECORDS, TABLE, VERDICT,
+};
 use bench_tests::view::NONE;
 
 const BRIDGES: usize = 3;
@@ -101,13 +103,30 @@ impl Network {
         self.tables[usize::from(self.view[bridge])][16 * bridge + DEST]
     }
 
-    fn port(&self, bridge: usize) -> Option<usize> {
+    /// A bridge's view, and what its forwarding choice reads besides.
+    fn choice(&self, bridge: usize) -> (Lent<'_>, Known<'_>) {
         let view = usize::from(self.view[bridge]);
         let lent = Lent { bridges: BRIDGES, links: 3, ends: &ENDS, costs: &COSTS[view], table: &self.tables[view] };
-        let known = Known { views: 2, down: &self.down, records: &self.records, sent: &self.sent, held: &self.held };
+        (lent, Known { views: 2, down: &self.down, records: &self.records, sent: &self.sent, held: &self.held })
+    }
+
+    fn port(&self, bridge: usize) -> Option<usize> {
+        let (lent, known) = self.choice(bridge);
         let mut out = [0];
         assert_eq!(call::port(lent, known, bridge, DEST, &mut out), 0);
         (out[0] != NONE).then_some(out[0] as usize)
+    }
+
+    /// The number of the case, and the link that is named.
+    fn verdict(&self, bridge: usize) -> (u32, Option<usize>) {
+        let (lent, known) = self.choice(bridge);
+        let mut out = [0; VERDICT];
+        assert_eq!(call::verdict(lent, known, bridge, DEST, &mut out), 0);
+        (out[0], (out[1] != NONE).then_some(out[1] as usize))
+    }
+
+    fn verdicts(&self) -> [(u32, Option<usize>); BRIDGES] {
+        [0, 1, 2].map(|bridge| self.verdict(bridge))
     }
 
     fn ports(&self) -> [Option<usize>; BRIDGES] {
@@ -132,10 +151,12 @@ fn known_examples_e1_to_e8() {
     let columns = [0, 1].map(|view| [0, 16, 32].map(|p: usize| network.tables[view][p]));
     assert_eq!(columns, [[0, 1, 2], [0, 4, 3]], "E1");
     assert_eq!(network.ports(), [None; 3], "E2");
+    assert_eq!(network.verdicts(), [(1, None), (4, Some(0)), (4, Some(1))], "E2");
 
     network.round();
     network.round();
     assert_eq!(network.ports(), [None, Some(0), Some(1)], "E3");
+    assert_eq!(network.verdicts(), [(1, None), (0, Some(0)), (0, Some(1))], "E3");
     assert_eq!(network.path(2), (0, 2), "E3");
     let old = network.message(1, 1);
     assert_eq!(old[1], 1);
@@ -145,18 +166,23 @@ fn known_examples_e1_to_e8() {
     assert_eq!(network.distance(1), 4, "E4");
     assert_eq!(network.port(1), None, "E4");
     assert_eq!(network.path(2), (1, 1), "E4");
+    // the view that bridge 1 still holds over link 1 offers NONE
+    assert_eq!(network.verdicts(), [(1, None), (5, Some(1)), (0, Some(1))], "E4");
 
     network.update(2, 1);
     assert_eq!(network.port(2), Some(2), "E5");
+    assert_eq!(network.verdicts(), [(1, None), (5, Some(1)), (0, Some(2))], "E5");
 
     assert_eq!(network.send(2, 1), AGREED);
     let end = Network::end(1, 1);
     assert_eq!((network.held[16 * end + DEST], network.sent[16 * end + DEST]), (4, 2), "E6");
     assert_eq!(network.port(1), None, "E6");
+    assert_eq!(network.verdicts(), [(1, None), (6, Some(1)), (0, Some(2))], "E6");
 
     assert_eq!(network.send(1, 1), AGREED);
     assert_eq!(network.send(2, 1), AGREED);
     assert_eq!(network.port(1), Some(1), "E7");
+    assert_eq!(network.verdicts(), [(1, None), (0, Some(1)), (0, Some(2))], "E7");
 
     let before = [network.records.clone(), network.sent.clone(), network.held.clone()];
     assert_eq!(network.deliver(1, 1, old), STALE, "E8");
@@ -169,10 +195,11 @@ fn a_port_looks_at_its_own_end() {
     let mut network = Network::fresh();
     network.round();
     network.round();
-    for (end, flag, ports, path) in [(0, 1, [None, Some(0), Some(1)], (1, 1)), (1, 255, [None, None, Some(1)], (1, 1))] {
+    for (end, flag, ports, case) in [(0, 1, [None, Some(0), Some(1)], 0), (1, 255, [None, None, Some(1)], 3)] {
         network.down[end] = flag;
         assert_eq!(network.ports(), ports, "end {end}");
-        assert_eq!(network.path(2), path, "end {end}");
+        assert_eq!(network.verdict(1), (case, Some(0)), "end {end}");
+        assert_eq!(network.path(2), (1, 1), "end {end}");
         network.down[end] = 0;
     }
     assert_eq!(network.path(2), (0, 2));

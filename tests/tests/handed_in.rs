@@ -9,14 +9,14 @@ use bench_tests::network_event::{END_EVENTS, EVENTS, STOPPED_BY_LENGTH};
 use bench_tests::network_random::{random_call, random_map};
 use bench_tests::network_run::{pairs_of, Run};
 use bench_tests::random::Random;
+use bench_tests::verdict::{VERDICTS, VERDICT_FEATURES};
 
 /// How many calls are made on copies of a network.
 const CALLS: usize = 40;
 
-/// Every report, port and path.
+/// Every report and path; `verdicts` asks for the rest.
 fn questions(bridges: usize) -> impl Iterator<Item = Call> {
-    let pairs = pairs_of(bridges).flat_map(|(bridge, dest)| [Call::Port(bridge, dest), Call::Path(bridge, dest)]);
-    (0..bridges).map(Call::Report).chain(pairs)
+    (0..bridges).map(Call::Report).chain(pairs_of(bridges).map(|(bridge, dest)| Call::Path(bridge, dest)))
 }
 
 /// One network: every question, calls of every kind, each on a copy, and a list of calls.
@@ -24,6 +24,7 @@ fn one_network(random: &mut Random, flaw: Option<Flaw>) -> Result<Met, String> {
     let map = random_map(random);
     let mut run = Run::handed_in(random, &map)?;
     run.model.flaw = flaw;
+    run.verdicts()?;
     for call in questions(map.bridge_count()) {
         run.call(call)?;
     }
@@ -47,7 +48,10 @@ fn every_call_on_networks_handed_in() {
     }
     let limits = ["Any limits", "Loose limits", "Near limits"];
     let stops = ["list to End", "list to NoEvent", "list to Room", "list to Refused"];
-    met.only("handed in", &[&EVENTS[..], &END_EVENTS, &["clearing", STOPPED_BY_LENGTH], &limits, &stops].concat(), 50);
+    let verdicts = [&VERDICTS[..], &VERDICT_FEATURES].concat();
+    met.only("handed in", &[&EVENTS[..], &END_EVENTS, &verdicts, &["clearing", STOPPED_BY_LENGTH], &limits, &stops].concat(), 50);
+    met.at_least("handed in", &VERDICTS, 2_000);
+    met.at_least("handed in", &VERDICT_FEATURES, 500);
 }
 
 /// One network is enough to notice most of the flaws.

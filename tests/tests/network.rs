@@ -7,6 +7,7 @@ use bench_tests::network_event::{END_EVENTS, EVENTS, STOPPED_BY_LENGTH};
 use bench_tests::network_random::{pair, random_call, random_map};
 use bench_tests::network_run::{pairs_of, Run};
 use bench_tests::random::Random;
+use bench_tests::verdict::{VERDICTS, VERDICT_FEATURES};
 use reference::map::{End, Map};
 use reference::network::Network;
 
@@ -55,9 +56,8 @@ fn handed_in_list(random: &mut Random, run: &mut Run, calls: usize) -> Result<()
     }
     for (start, dest) in pairs_of(bridges) {
         run.call(Call::Path(start, dest))?;
-        run.call(Call::Port(start, dest))?;
     }
-    Ok(())
+    run.verdicts()
 }
 
 const AROUND_CUT: &str = "settled around a cut link";
@@ -96,10 +96,11 @@ fn fresh_lists(part: u64) {
     }
     let label = format!("fresh lists, part {part}");
     let mut frequent: Vec<&str> = EVENTS.into_iter().filter(|&event| event != LAST_NUMBER).chain(END_EVENTS).collect();
-    frequent.extend(["clearing", "settled", "parallel links"]);
-    met.only(&label, &[&frequent[..], &FEATURES, &["64 in flight", AROUND_CUT]].concat(), 4);
+    frequent.extend(["clearing", "settled", "parallel links"].into_iter().chain(VERDICTS));
+    met.only(&label, &[&frequent[..], &FEATURES, &VERDICT_FEATURES, &["64 in flight", AROUND_CUT]].concat(), 4);
     met.at_least(&label, &frequent, 100);
     met.at_least(&label, &[AROUND_CUT], 40);
+    met.at_least(&label, &VERDICTS, 200);
     let [alone, second] = ["cut done, far end up", "cut done, far end down"].map(|cut| met.times(cut));
     assert!(alone >= 2 * second, "{label}: {second} of {} cuts are of a second end", alone + second);
 }
@@ -138,7 +139,9 @@ fn lists_from_networks_handed_in() {
         met.add(&run.met);
     }
     let others = ["clearing", STOPPED_BY_LENGTH, "Any limits", "Loose limits", "Near limits"];
-    met.only("handed in", &[&EVENTS[..], &END_EVENTS, &others].concat(), 50);
+    met.only("handed in", &[&EVENTS[..], &END_EVENTS, &VERDICTS, &VERDICT_FEATURES, &others].concat(), 50);
+    met.at_least("handed in", &VERDICTS, 2_000);
+    met.at_least("handed in", &VERDICT_FEATURES, 500);
 }
 
 // ---- the tests themselves

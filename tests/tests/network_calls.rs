@@ -10,6 +10,7 @@ use bench_tests::network_numbers::{compare, expect, put_fresh};
 use bench_tests::network_random::{damage, lend, map_of, random_call, random_map, widen, widened, OUT_OF_RANGE};
 use bench_tests::network_run::Run;
 use bench_tests::random::Random;
+use bench_tests::verdict::{Verdict, DESTINATION, FORWARDS, HELD_TOO_GREAT, NOTHING_HELD, SENT_TOO_LOW};
 use bench_tests::view::NONE;
 use reference::forwarding::PathEnd;
 use reference::map::Map;
@@ -17,7 +18,7 @@ use reference::records::Answer;
 
 // ---- refusals at the entry
 
-const KINDS: [Option<Call>; 11] = [
+const KINDS: [Option<Call>; 12] = [
     None,
     Some(Call::Update(0, 0)),
     Some(Call::Cut(0, 0)),
@@ -27,6 +28,7 @@ const KINDS: [Option<Call>; 11] = [
     Some(Call::Repeat(0)),
     Some(Call::Lose(0)),
     Some(Call::Port(0, 0)),
+    Some(Call::Verdict(0, 0)),
     Some(Call::Report(0)),
     Some(Call::Path(0, 0)),
 ];
@@ -103,6 +105,12 @@ fn exact_buffers_are_enough() {
     }
 }
 
+/// A verdict of any bridge, or of one that the network lacks.
+fn random_verdict(random: &mut Random, map: &Map) -> Call {
+    let [bridge, dest] = [0; 2].map(|_: u8| random.below(map.bridge_count() + 1));
+    Call::Verdict(bridge, dest)
+}
+
 /// One number is damaged: the call is refused, or it is not lent that number and does what it does without the damage.
 #[test]
 fn numbers_out_of_range_are_refused() {
@@ -114,7 +122,11 @@ fn numbers_out_of_range_are_refused() {
         let run = Run::handed_in(&mut random, &map).expect("a network");
         let mut lent = run.expected.clone();
         let Some(cause) = damage(&mut random, &mut lent) else { continue };
-        let call = if random.one_in(11) { None } else { Some(random_call(&mut random, run.network())) };
+        let call = match random.below(12) {
+            0 => None,
+            1 => Some(random_verdict(&mut random, &map)),
+            _ => Some(random_call(&mut random, run.network())),
+        };
         let (label, kind) = (format!("seed {seed}"), kind(call));
         let refused = is_turned_down(&lent, call);
         match call {
@@ -155,6 +167,32 @@ fn numbers_that_do_not_fit_are_refused() {
     let all: Vec<String> =
         KINDS.iter().flat_map(|&call| widened().into_iter().map(move |cause| format!("{}, {cause}", kind(call)))).collect();
     met.only("too great", &all, 50);
+}
+
+/// Numbers that no bridge of the triangle has.
+const LACKING: [usize; 8] = [3, 4, 16, 255, 256, 65_536, 1 << 32, usize::MAX];
+
+/// A bridge or a destination that the network lacks gets 10, after 17. Nothing is written either way.
+#[test]
+fn lacking_bridges_come_after_17() {
+    let mut run = after_rounds(triangle());
+    run.make(Call::Send(0, 0));
+    let (mut random, mut met) = (Random::new(140_000_000), Met::default());
+    let pairs = LACKING.into_iter().flat_map(|x| [(x, 0), (0, x), (2, x), (x, x)]);
+    for call in pairs.flat_map(|(bridge, dest)| [Call::Port(bridge, dest), Call::Verdict(bridge, dest)]) {
+        run.refused(call, 10);
+        for (which, length) in needed(Some(call)).into_iter().enumerate().filter(|(_, length)| *length > 0) {
+            expect_turned_down("short", &run.found.resized(which, length - 1), Some(call));
+        }
+        for _ in 0..100 {
+            let mut lent = run.found.clone();
+            let Some(cause) = damage(&mut random, &mut lent) else { continue };
+            let reply = if is_turned_down(&lent, Some(call)) { 17 } else { 10 };
+            expect_outcome(&cause, &lent, Some(call), reply, &lent);
+            met.note(format!("{} {reply}", name(call)));
+        }
+    }
+    met.only("damaged", &["port 10", "port 17", "verdict 10", "verdict 17"], 500);
 }
 
 fn kind(call: Option<Call>) -> String {
@@ -221,15 +259,20 @@ fn fresh_reads_counts_ends_and_costs() {
 
 // ---- known answers
 
+/// What is named of the destination in each example.
+const IS_DESTINATION: Verdict = (DESTINATION, None);
+
 /// E2 to E8, as one list of calls.
 #[test]
 fn known_examples_e2_to_e8() {
     let mut run = triangle();
     assert_eq!(run.ports(0), [None, None, None], "E2");
+    assert_eq!(run.named(0), [IS_DESTINATION, (NOTHING_HELD, Some(0)), (NOTHING_HELD, Some(1))], "E2");
     for _ in 0..2 {
         run.round(&mut Random::new(3)).expect("a round");
     }
     assert_eq!(run.ports(0), [None, Some(0), Some(1)], "E3");
+    assert_eq!(run.named(0), [IS_DESTINATION, (FORWARDS, Some(0)), (FORWARDS, Some(1))], "E3");
     assert_eq!(run.make(Call::Path(2, 0)), Reply::Path(PathEnd { last: 0, hops: 2 }), "E3");
     // of number 1, and late
     run.make(Call::Send(1, 1));
@@ -237,16 +280,21 @@ fn known_examples_e2_to_e8() {
     run.make(Call::Cut(1, 0));
     run.make(Call::Update(1, 1));
     assert_eq!(run.distance_and_port(1, 0), (4, None), "E4");
+    // the view that bridge 1 still holds over link 1 offers NONE
+    assert_eq!(run.named(0), [IS_DESTINATION, (HELD_TOO_GREAT, Some(1)), (FORWARDS, Some(1))], "E4");
     assert_eq!(run.make(Call::Path(2, 0)), Reply::Path(PathEnd { last: 1, hops: 1 }), "E4");
     run.make(Call::Update(2, 1));
     assert_eq!(run.distance_and_port(2, 0).1, Some(2), "E5");
+    assert_eq!(run.named(0), [IS_DESTINATION, (HELD_TOO_GREAT, Some(1)), (FORWARDS, Some(2))], "E5");
     assert_eq!(run.tell(2, 1), (Answer::Agreed, 2, 1), "E6");
     assert_eq!(run.found.held.numbers()[16 * 2], 4, "E6");
     assert_eq!(run.found.sent.numbers()[16 * 2], 2, "E6");
     assert_eq!(run.distance_and_port(1, 0), (4, None), "E6");
+    assert_eq!(run.named(0), [IS_DESTINATION, (SENT_TOO_LOW, Some(1)), (FORWARDS, Some(2))], "E6");
     assert_eq!(run.tell(1, 1), (Answer::Agreed, 2, 1), "E7");
     assert_eq!(run.tell(2, 1), (Answer::Agreed, 2, 1), "E7");
     assert_eq!(run.distance_and_port(1, 0), (4, Some(1)), "E7");
+    assert_eq!(run.named(0), [IS_DESTINATION, (FORWARDS, Some(1)), (FORWARDS, Some(2))], "E7");
     let before = run.found.clone();
     assert!(matches!(run.make(Call::Repeat(0)), Reply::Answered(Answer::Stale, _)), "E8");
     assert_eq!(before.bench.numbers(), run.found.bench.numbers(), "E8");

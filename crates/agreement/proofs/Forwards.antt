@@ -38,7 +38,7 @@ use Rattle.agreement.specs.Forwarding.{
 }
 use Rattle.agreement.specs.Rule.{Reaches, IsChosen, EndsDiffer, PortFollowsRule}
 use Rattle.agreement.specs.Rule as rule
-use Rattle.agreement.specs.Reasons.{Chooses, Bars, IsLowestBar, Says, VerdictIsSo, NoOtherVerdict}
+use Rattle.agreement.specs.Reasons.{Chooses, Bars, IsLowestBar, Means, VerdictIsSo, NoOtherVerdict, VerdictFollowsRule}
 use Rattle.agreement.specs.declared.Port.{Port}
 use Rattle.agreement.specs.declared.Port.the-variants.{Closed, Open}
 use Rattle.agreement.specs.declared.Verdict.{Verdict}
@@ -202,7 +202,7 @@ module _ (g : Graph) (c : Costs) (f : ℕ → ℕ → ℕ) (r : Records) (y d : 
       holdsNothing r chosen ≡ n →
       heldTooGreat f r y d chosen ≡ t →
       isBarred g f r y d ≡ s →
-      Says g c f r y d (firstOf a b m w n t s (linkOf chosen) (linkOf (barringEnd g f r y d)))
+      Means g c f r y d (firstOf a b m w n t s (linkOf chosen) (linkOf (barringEnd g f r y d)))
   unfolding firstOf isDestination hasNoPath hasNoLink holdsNothing heldTooGreat isBarred
   is-so true b m w n t s p₁ p₂ p₃ p₄ p₅ p₆ p₇ = eqb-true y d p₁
   is-so false true m w n t s p₁ p₂ p₃ p₄ p₅ p₆ p₇ = (eqb-false y d p₁, eqb-true (f y d) NONE p₂)
@@ -221,7 +221,7 @@ module _ (g : Graph) (c : Costs) (f : ℕ → ℕ → ℕ) (r : Records) (y d : 
           ltb (f y d) limit ≡ t →
           ltb (barringEnd g f r y d) (2 * g .links) ≡ s →
           Chooses g c f y d (linkOf chosen) chosen →
-          Says g c f r y d (firstOf false false false w n t s (linkOf chosen) (linkOf (barringEnd g f r y d)))
+          Means g c f r y d (firstOf false false false w n t s (linkOf chosen) (linkOf (barringEnd g f r y d)))
       go true n t s p₄ p₅ p₆ p₇ by = (chosen, by, p₄)
       go false true t s p₄ p₅ p₆ p₇ by = (chosen, by, p₄, not-true _ p₅)
       go false false true s p₄ p₅ p₆ p₇ by = (chosen, by, p₄, not-false _ p₅, ltb-true (f y d) limit p₆)
@@ -243,7 +243,7 @@ module _ (g : Graph) (c : Costs) (f : ℕ → ℕ → ℕ) (r : Records) (y d : 
         },
       )
 
-  verdict-says : Says g c f r y d (verdict g c f r y d)
+  verdict-says : Means g c f r y d (verdict g c f r y d)
   unfolding verdict verdictFrom
   verdict-says = is-so _ _ _ _ _ _ _ refl refl refl refl refl refl refl
 
@@ -271,7 +271,7 @@ module _ (g : Graph) (c : Costs) (f : ℕ → ℕ → ℕ) (r : Records) (y d : 
         go true p h = p
         go false p h = absurd (some (omega arith))
 
-    only : f y d ≤ NONE → (v : Verdict) → Says g c f r y d v → verdict g c f r y d ≡ v
+    only : f y d ≤ NONE → (v : Verdict) → Means g c f r y d v → verdict g c f r y d ≡ v
     unfolding verdict verdictFrom firstOf isDestination hasNoPath hasNoLink holdsNothing heldTooGreat isBarred
     only most IsDestination w = rw (eq-eqb y d w)
     only most NoPath w = rw (ne-eqb y d (w .0), eq-eqb (f y d) NONE (w .1))
@@ -302,6 +302,10 @@ verdict-is-so = verdict-says
 pub no-other-verdict : NoOtherVerdict
 no-other-verdict g differ c f r y d = only g c f r y d differ
 
+pub verdict-follows-rule : VerdictFollowsRule
+verdict-follows-rule g c f r y d l =
+    (λ is. subst (Means g c f r y d) is (verdict-is-so g c f r y d), λ differ most w. no-other-verdict g differ c f r y d most (Forwards l) w)
+
 -- ---- the port
 
 -- it is open only where the verdict is that it forwards
@@ -317,10 +321,10 @@ open-verdict (SentNotAbove k) l e = absurd (let z : _≡_ {A = ℕ} 0 1 = cc in 
 
 module _ (g : Graph) (c : Costs) (f : ℕ → ℕ → ℕ) (r : Records) (y d : ℕ) where
   pub open-forwards : (l : ℕ) → port g c f r y d ≡ Open l → (e : ℕ) × rule.Forwards g c f r y d l e
-  open-forwards l is = subst (Says g c f r y d) (open-verdict (verdict g c f r y d) l is) (verdict-is-so g c f r y d)
+  open-forwards l is = verdict-follows-rule g c f r y d l .0 (open-verdict (verdict g c f r y d) l is)
 
   pub forwards-open : EndsDiffer g → f y d ≤ NONE → {l e : ℕ} → rule.Forwards g c f r y d l e → port g c f r y d ≡ Open l
-  forwards-open differ most {l} {e} w = ap portOf (no-other-verdict g differ c f r y d most (Forwards l) (e, w))
+  forwards-open differ most {l} {e} w = ap portOf (verdict-follows-rule g c f r y d l .1 differ most (e, w))
 
   -- a port is closed or open
   none-closed : ((l e : ℕ) → rule.Forwards g c f r y d l e → ⊥) → port g c f r y d ≡ Closed
@@ -331,8 +335,8 @@ module _ (g : Graph) (c : Costs) (f : ℕ → ℕ → ℕ) (r : Records) (y d : 
       go (Open l) t = let by = open-forwards l t in absurd (none l (by .0) (by .1))
 
 pub port-follows-rule : PortFollowsRule
-port-follows-rule g differ c f r y d most =
-    (open-forwards g c f r y d, λ l w. forwards-open g c f r y d differ most (w .1), none-closed g c f r y d)
+port-follows-rule g c f r y d =
+    (open-forwards g c f r y d, λ differ most l w. forwards-open g c f r y d differ most (w .1), none-closed g c f r y d)
 
 -- a bridge with a path to another has a chosen link
 pub chosen-for-path :
@@ -341,3 +345,9 @@ chosen-for-path g c range y d apart path =
     let t = next-hop g c range y d apart path in
     let w = link-reaches g c (dist g c) y d (t .0) (t .1) (t .2) (t .3) in
     chosen-exists g c (dist g c) y d (w .0) (w .1) (w .2)
+
+pub verdict-has-link : (g : Graph) (c : Costs) → InRange g → (r : Records) (y d : ℕ) → verdict g c (dist g c) r y d ≡ NoLink → ⊥
+verdict-has-link g c range r y d is =
+    let none = subst (Means g c (dist g c) r y d) is (verdict-is-so g c (dist g c) r y d) in
+    let h = chosen-for-path g c range y d (none .0) (none .1) in
+    none .2 (chosenEnd g c (dist g c) y d) h (chosen-is g c (dist g c) y d h .reaches)

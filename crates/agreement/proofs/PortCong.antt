@@ -2,15 +2,20 @@
 -- their ends for the destination. Assumes nothing.
 use Prim.Native.Nat.{ℕ, _*_, _<_}
 use native.Mathlib.Omega.{arith}
-use mathlib.Core.Path.{_≡_, refl}
+use mathlib.Core.Path.{_≡_, refl, sym, _∙_}
 use mathlib.Core.Bool.{Bool, true, false}
 use borrow.Author.Tests.{ltb-true}
 use lib.Dec.{ltb}
-use Rattle.distances.specs.View.{Graph, Costs, InRange}
+use Rattle.distances.specs.View.{Graph, Costs, InRange, costsOf}
+use Rattle.distances.specs.Table.{cell}
+use Rattle.distances.specs.Distance.{dist}
 use Rattle.distances.proofs.Joined.{present-same}
+use Rattle.distances.proofs.Ranges.{in-range-told, graph-in-range}
 use Rattle.agreement.specs.Offer.{linkOf, opposite, farBridge}
 use Rattle.agreement.specs.Forwarding.{Records, reaches, chosenEnd, isUp, hasNoPath, hasNoLink, holdsNothing, heldTooGreat, sentNotAbove, barringEnd, isBarred, firstOf, verdictFrom, verdict}
+use Rattle.agreement.specs.Call.{lentGraph, LentVerdictIsVerdict}
 use Rattle.agreement.proofs.Firsts.{first-cong}
+use Rattle.agreement.proofs.Forwards.{verdict-has-link}
 use Rattle.agreement.proofs.Ends.{opposite-below, bridge-in-range}
 
 -- what a port for d looks at is the same
@@ -64,3 +69,28 @@ module _
   pub verdict-cong : verdict g c f r y d ≡ verdict g k h q y d
   unfolding verdict
   verdict-cong = rw chosen-same (verdict-from-same (chosenEnd g k h y d))
+
+-- where the table holds the distances the verdict is the view's
+pub lent-verdict : LentVerdictIsVerdict
+lent-verdict v ok holds r y d hy hd = (same, λ is. verdict-has-link g c inside r y d (sym same ∙ is))
+  where
+    g : Graph
+    g = lentGraph v
+
+    c : Costs
+    c = costsOf (v .costs)
+
+    inside : InRange g
+    inside = graph-in-range _ _ _ (in-range-told _ _ _ _ _ ok .0)
+
+    same : verdict g c (cell (v .table)) r y d ≡ verdict g c (dist g c) r y d
+    same =
+        verdict-cong g c c (cell (v .table)) (dist g c) r r inside y d hy
+        (record {
+          distances = λ i hi. holds i d hi hd;
+          costs = λ l h. refl;
+          down = λ e h. refl;
+          ends = λ e h. refl;
+          sent = λ e h. refl;
+          held = λ e h. refl;
+        })

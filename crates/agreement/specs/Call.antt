@@ -23,6 +23,7 @@ use Rattle.agreement.specs.declared.Carrying.{Carrying}
 use Rattle.agreement.specs.declared.Reaction.{Reaction}
 use Rattle.agreement.specs.declared.Forwarding.{Forwarding}
 use Rattle.agreement.specs.declared.Verdict.{Verdict}
+use Rattle.agreement.specs.declared.Verdict.the-variants.{NoLink}
 use Rattle.agreement.specs.declared.VerdictReply.{VerdictReply}
 
 -- what a reply says: document 01's number, 0 where the call is not refused, and the value that it brings
@@ -101,6 +102,19 @@ LentOffersAreOffers =
     e < 2 * v .links →
     d < v .bridges →
     lentOffer v e d ≡ offer (lentGraph v) (costsOf (v .costs)) (dist (lentGraph v) (costsOf (v .costs))) e d
+
+-- and the verdict on a port is that by the view's own distances; so a bridge with a path to another has a chosen link
+abbrev pub LentVerdictIsVerdict : Type 0
+LentVerdictIsVerdict =
+    (v : ViewData) →
+    lentInRange v ≡ true →
+    HoldsDistances v →
+    (r : Records) (y d : ℕ) →
+    y < v .bridges →
+    d < v .bridges →
+    (let g = lentGraph v in
+    let c = costsOf (v .costs) in
+    (verdict g c (cell (v .table)) r y d ≡ verdict g c (dist g c) r y d) × (verdict g c (cell (v .table)) r y d ≡ NoLink → ⊥))
 
 -- The offer over the link of end e for destination d
 unfoldable pub offerOutcome : ViewData → ℕ → ℕ → Response ℕ

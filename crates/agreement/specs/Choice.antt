@@ -81,7 +81,7 @@ unfoldable pub nextOutcome : Choice → ℕ → ℕ → ℕ → Bool → Bool �
 nextOutcome old link cost far down holding sent held =
     cond (ltb link 32 && leb cost maxCost) (says (nextChoice old link cost far down holding sent held)) refused
 
--- and for a choice handed in with such a link
+-- and for a choice handed in with such a link, chosen or barring
 unfoldable pub choiceOutcome : Choice → Response Verdict
 choiceOutcome c = cond (ltb (c .link) 32 && ltb (c .barring) 32) (says (verdictBy c)) refused
 

@@ -55,7 +55,7 @@ isDestination y d = eqb y d
 unfoldable pub hasNoPath : (ℕ → ℕ → ℕ) → ℕ → ℕ → Bool
 hasNoPath f y d = eqb (f y d) NONE
 
--- no link reaches the distance, which is never so of a view's own distances
+-- no link reaches the distance; where neither of the two above applies this is never so of a view's own distances
 unfoldable pub hasNoLink : Graph → ℕ → Bool
 hasNoLink g e = not (ltb e (2 * g .links))
 

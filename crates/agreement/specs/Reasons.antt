@@ -22,7 +22,7 @@ pub record Chooses (g : Graph) (c : Costs) (f : ℕ → ℕ → ℕ) (y d l e : 
   pub link : linkOf e ≡ l
 
 -- a view is held at end e, and its "held limit" is not too great
-pub record Holds (f : ℕ → ℕ → ℕ) (r : Records) (y d e : ℕ) : Type 0 where
+pub record HoldsEnough (f : ℕ → ℕ → ℕ) (r : Records) (y d e : ℕ) : Type 0 where
   pub something : r .ends e .holding ≡ true
   pub limit : heldLimit (r .ends e) (r .held e) d ≤ f y d
 
@@ -40,25 +40,25 @@ pub record IsLowestBar (g : Graph) (f : ℕ → ℕ → ℕ) (r : Records) (y d 
   pub lowest : (j : ℕ) → j < 2 * g .links → Bars g f r y d j → linkOf k ≤ linkOf j
 
 -- what each verdict says: the condition that it names fails, and every earlier one is met
-abbrev pub Says : Graph → Costs → (ℕ → ℕ → ℕ) → Records → ℕ → ℕ → Verdict → Type 0
+abbrev pub Means : Graph → Costs → (ℕ → ℕ → ℕ) → Records → ℕ → ℕ → Verdict → Type 0
 -- "is the destination"
-Says g c f r y d IsDestination = y ≡ d
+Means g c f r y d IsDestination = y ≡ d
 -- "no path"
-Says g c f r y d NoPath = (y ≡ d → ⊥) × (f y d ≡ NONE)
+Means g c f r y d NoPath = (y ≡ d → ⊥) × (f y d ≡ NONE)
 -- no link reaches the distance: of distances that are not the view's
-Says g c f r y d NoLink = (y ≡ d → ⊥) × (f y d ≡ NONE → ⊥) × ((e : ℕ) → e < 2 * g .links → Reaches g c f y d e → ⊥)
+Means g c f r y d NoLink = (y ≡ d → ⊥) × (f y d ≡ NONE → ⊥) × ((e : ℕ) → e < 2 * g .links → Reaches g c f y d e → ⊥)
 -- "chosen link down at this end"
-Says g c f r y d (LinkDown l) = (e : ℕ) × Chooses g c f y d l e × DownAt r e
+Means g c f r y d (LinkDown l) = (e : ℕ) × Chooses g c f y d l e × DownAt r e
 -- "nothing held"
-Says g c f r y d (NothingHeld l) = (e : ℕ) × Chooses g c f y d l e × UpAt r e × (r .ends e .holding ≡ false)
+Means g c f r y d (NothingHeld l) = (e : ℕ) × Chooses g c f y d l e × UpAt r e × (r .ends e .holding ≡ false)
 -- "held limit too great"
-Says g c f r y d (HeldTooGreat l) =
+Means g c f r y d (HeldTooGreat l) =
     (e : ℕ) × Chooses g c f y d l e × UpAt r e × (r .ends e .holding ≡ true) × (f y d < heldLimit (r .ends e) (r .held e) d)
 -- "sent limit not above the distance"
-Says g c f r y d (SentNotAbove l) =
-    (e : ℕ) × Chooses g c f y d (linkOf e) e × UpAt r e × Holds f r y d e × ((k : ℕ) × IsLowestBar g f r y d l k)
+Means g c f r y d (SentNotAbove l) =
+    (e : ℕ) × Chooses g c f y d (linkOf e) e × UpAt r e × HoldsEnough f r y d e × ((k : ℕ) × IsLowestBar g f r y d l k)
 -- "Otherwise it says that the port forwards, and which": by document 01's rule
-Says g c f r y d (Forwards l) = (e : ℕ) × rule.Forwards g c f r y d l e
+Means g c f r y d (Forwards l) = (e : ℕ) × rule.Forwards g c f r y d l e
 
 -- a verdict in two numbers: the place of the condition in document 02's list, 0 where the port forwards, 7 where no link reaches the distance; and
 -- the link, NONE where none is named
@@ -74,9 +74,9 @@ verdictNumbers (Forwards link) = 0 ∷ link ∷ []
 
 -- the verdict is so
 abbrev pub VerdictIsSo : Type 0
-VerdictIsSo = (g : Graph) (c : Costs) (f : ℕ → ℕ → ℕ) (r : Records) (y d : ℕ) → Says g c f r y d (verdict g c f r y d)
+VerdictIsSo = (g : Graph) (c : Costs) (f : ℕ → ℕ → ℕ) (r : Records) (y d : ℕ) → Means g c f r y d (verdict g c f r y d)
 
--- and no other is: of those that could be given, one at most is so. Every distance is at most NONE
+-- and no other is. Every distance is at most NONE
 abbrev pub NoOtherVerdict : Type 0
 NoOtherVerdict =
     (g : Graph) →
@@ -84,5 +84,12 @@ NoOtherVerdict =
     (c : Costs) (f : ℕ → ℕ → ℕ) (r : Records) (y d : ℕ) →
     f y d ≤ NONE →
     (v : Verdict) →
-    Says g c f r y d v →
+    Means g c f r y d v →
     verdict g c f r y d ≡ v
+
+-- so the verdict is that the port forwards on link l if and only if y forwards on l by document 01's rule
+abbrev pub VerdictFollowsRule : Type 0
+VerdictFollowsRule =
+    (g : Graph) (c : Costs) (f : ℕ → ℕ → ℕ) (r : Records) (y d l : ℕ) →
+    (verdict g c f r y d ≡ Forwards l → (e : ℕ) × rule.Forwards g c f r y d l e)
+    × (EndsDiffer g → f y d ≤ NONE → (e : ℕ) × rule.Forwards g c f r y d l e → verdict g c f r y d ≡ Forwards l)

@@ -52,13 +52,11 @@ abbrev pub EndsDiffer : Graph → Type 0
 EndsDiffer g = (l : ℕ) → l < g .links → g .bridgeAt (2 * l) ≡ g .bridgeAt (2 * l + 1) → ⊥
 
 -- the port that the contracts speak of is open on link l if and only if y forwards on l, and closed if y forwards on none:
--- "No other port forwards for that destination". NONE "compares above every distance"
+-- "No other port forwards for that destination". A distance is at most NONE: by a number above it the limit NONE of an end that holds nothing would be
+-- "at most Y's distance"
 abbrev pub PortFollowsRule : Type 0
 PortFollowsRule =
-    (g : Graph) →
-    EndsDiffer g →
-    (c : Costs) (f : ℕ → ℕ → ℕ) (r : Records) (y d : ℕ) →
-    f y d ≤ NONE →
+    (g : Graph) (c : Costs) (f : ℕ → ℕ → ℕ) (r : Records) (y d : ℕ) →
     ((l : ℕ) → port g c f r y d ≡ Open l → (e : ℕ) × Forwards g c f r y d l e)
-    × ((l : ℕ) → (e : ℕ) × Forwards g c f r y d l e → port g c f r y d ≡ Open l)
+    × (EndsDiffer g → f y d ≤ NONE → (l : ℕ) → (e : ℕ) × Forwards g c f r y d l e → port g c f r y d ≡ Open l)
     × (((l e : ℕ) → Forwards g c f r y d l e → ⊥) → port g c f r y d ≡ Closed)

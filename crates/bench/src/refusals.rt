@@ -152,7 +152,7 @@ pub(crate) fn report_refusal(bridges: usize, dest: usize) -> u8
     0
 }
 
-// Also for `path`, which has the same checks.
+// For `verdict`, and so `port`, and for `path`, which has the same checks.
 pub(crate) fn port_refusal(bridges: usize, bridge: usize, dest: usize) -> u8
     ensures { λ r. ⌜ ((b : Bench) → b .bridges ≡ bridges → r ≡ refuse (networkOf b []) (port bridge dest)) ⌝ }
 {

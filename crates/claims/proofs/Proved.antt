@@ -2,9 +2,10 @@
 use Rattle.distances.proofs.Laws.{dist-is-distance, nothing-else-is, none-iff}
 use Rattle.distances.proofs.Greatest.{greatest-distance}
 use Rattle.distances.proofs.Known.{distances-apply}
-use Rattle.agreement.proofs.Forwards.{verdict-is-so, no-other-verdict, port-follows-rule}
+use Rattle.agreement.proofs.Forwards.{verdict-is-so, no-other-verdict, verdict-follows-rule, port-follows-rule}
 use Rattle.agreement.proofs.ChoiceLaws.{choice-is-verdict}
 use Rattle.agreement.proofs.Offers.{offer-is}
+use Rattle.agreement.proofs.PortCong.{lent-verdict}
 use Rattle.agreement.proofs.BetweenLaws.{plain-ends}
 use Rattle.protocol.proofs.Rules.{demand2}
 use Rattle.protocol.proofs.Theorem.{demand3}
@@ -38,8 +39,10 @@ claims =
       rule = port-follows-rule;
       verdict = verdict-is-so;
       noOtherVerdict = no-other-verdict;
+      verdictRule = verdict-follows-rule;
       choice = choice-is-verdict;
       lentOffers = offer-is;
+      lentVerdict = lent-verdict;
       plainEnds = plain-ends;
       demand2 = demand2;
       demand3 = demand3;

@@ -91,7 +91,7 @@ record Facts : Type 0 where
   accepted : refuse (made callsE7) (calls.deliver 0) ≡ 0
   stale : answerAt (made callsE7) 0 ≡ Stale
   inFlight : 0 < length (made callsE7 .messages)
-  missing : refuse (made []) (change (cut 0 9)) ≡ 10
+  missing : (refuse (made []) (change (cut 0 9)) ≡ 10) × (refuse (made []) (calls.verdict 3 0) ≡ 10)
 
 facts : Facts
 unfolding all
@@ -107,7 +107,7 @@ facts =
       accepted = refl;
       stale = refl;
       inFlight = omega arith;
-      missing = refl;
+      missing = (refl, refl);
     }
 
 limits-at-e6 :
@@ -190,7 +190,7 @@ module _ (claims : Claims) where
   at-first = meets claims []
 
   none-cut : refusalOf (readyFor started (change (cut 0 9))) (network started) (change (cut 0 9)) ≡ 0 → ⊥
-  none-cut e = omega (arith, sym (facts .missing) ∙ sym (at-first .replies .refusals (change (cut 0 9))) ∙ e)
+  none-cut e = omega (arith, sym (facts .missing .0) ∙ sym (at-first .replies .refusals (change (cut 0 9))) ∙ e)
 
   pub worked-calls : WorkedCalls
   worked-calls =
@@ -230,6 +230,7 @@ module _ (claims : Claims) where
         accepted = meets claims callsE7 .replies .refusals (calls.deliver 0) ∙ facts .accepted;
         stale = meets claims callsE7 .replies .deliveries 0 (facts .inFlight) ∙ facts .stale;
         refused = claims .refused started (change (cut 0 9)) none-cut;
+        lacking = at-first .replies .refusals (calls.verdict 3 0) ∙ facts .missing .1;
         asking = (claims .asking started 2 0 .0, claims .asking started 2 0 .1, claims .asking started 2 0 .2, claims .asking started 2 0 .3);
         noRing = λ l e. meets claims callsE7 .holds .noRing 0 1 1 (cross crossing (cross e stay));
         reported = meets claims callsE3 .replies .reports 0 (replicate 40 5) (omega (arith, length-replicate {A = ℕ} 40 5)) ∙ facts .none .1;

@@ -43,21 +43,26 @@ holds i j hi hj =
 pub worked-ends : Claims → WorkedEnds
 unfolding all
 worked-ends claims =
-    let by = claims .rule triangle (triangle-in-range .differ) view0 (dist triangle view0) (after callsE3 .records) 2 0 (omega arith) in
+    let by = claims .rule triangle view0 (dist triangle view0) (after callsE3 .records) 2 0 in
     record {
       noOther = λ x is. claims .noOther triangle view1 1 0 x 4 is (claims .distances triangle view1 triangle-in-range view1-in-range 1 0);
       greatest = claims .greatest .most triangle view1 triangle-in-range view1-in-range 1 0 (λ e. omega arith);
       apart = claims .none triangle (λ l. 0) triangle-in-range (record { most = λ l h. omega arith }) 1 0 .0 refl;
       none = λ no. omega (arith, claims .none triangle view1 triangle-in-range view1-in-range 1 0 .1 no);
       rule = by .0 1 refl;
-      opens = by .1 1 (by .0 1 refl);
-      closes = claims .rule triangle (triangle-in-range .differ) view0 (dist triangle view0) (after [] .records) 2 0 (omega arith) .2 (λ l e w. omega (arith, w .allowed .held));
+      opens = by .1 (triangle-in-range .differ) (omega arith) 1 (by .0 1 refl);
+      closes = claims .rule triangle view0 (dist triangle view0) (after [] .records) 2 0 .2 (λ l e w. omega (arith, w .allowed .held));
       choice = claims .choice triangle view0 (dist triangle view0) (after callsE3 .records) 2 0;
-      verdict = claims .verdict triangle view1 (dist triangle view1) (after callsE6 .records) 1 0;
+      isSo = claims .verdict triangle view1 (dist triangle view1) (after callsE6 .records) 1 0;
       noOtherVerdict = λ v is.
           sym (claims .noOtherVerdict triangle (triangle-in-range .differ) view1 (dist triangle view1) (after callsE6 .records) 1 0 (omega arith) v is);
+      verdictRule =
+          (let so = claims .verdictRule triangle view0 (dist triangle view0) (after callsE3 .records) 2 0 1 in
+          so .1 (triangle-in-range .differ) (omega arith) (so .0 refl));
       noLink = claims .verdict triangle view1 (λ i j. 7) (after [] .records) 1 0 .2;
       lentOffers = claims .lentOffers lent lent-ready holds 3 0 (omega arith) (omega arith);
+      lentVerdict = claims .lentVerdict lent lent-ready holds (after callsE6 .records) 1 0 (omega arith) (omega arith) .0;
+      lentLink = claims .lentVerdict lent lent-ready holds (after callsE6 .records) 1 0 (omega arith) (omega arith) .1;
       plainUpdate = ap (λ (o : Outcome ℕ). cell (o .sent) 3 0) (sym (claims .plainEnds .update lent 2 1 3 freshRecord limits limits refl));
       plainDelivery =
           ap (λ (o : Outcome (Response Answer)). cell (o .held) 2 0) (sym (claims .plainEnds .deliver lent 2 1 1 2 freshRecord message limits limits refl));

@@ -2,9 +2,9 @@
 -- a claim without a proof fails the check. What they come to in worked cases: specs/Worked.antt. Assumes nothing.
 use Rattle.distances.specs.Theorem.{DistIsDistance, NothingElseIs, NoneIsApart, GreatestDistance}
 use Rattle.agreement.specs.Rule.{PortFollowsRule}
-use Rattle.agreement.specs.Reasons.{VerdictIsSo, NoOtherVerdict}
+use Rattle.agreement.specs.Reasons.{VerdictIsSo, NoOtherVerdict, VerdictFollowsRule}
 use Rattle.agreement.specs.Choice.{ChoiceIsVerdict}
-use Rattle.agreement.specs.Call.{LentOffersAreOffers}
+use Rattle.agreement.specs.Call.{LentOffersAreOffers, LentVerdictIsVerdict}
 use Rattle.agreement.specs.Ends.{PlainEndsAreEnds}
 use Rattle.protocol.specs.Demand2.{Demand2}
 use Rattle.protocol.specs.Demand3.{Demand3}
@@ -26,13 +26,15 @@ pub record Claims : Type 0 where
   pub noOther : NothingElseIs
   pub none : NoneIsApart
   pub greatest : GreatestDistance
-  -- layer 2: the port follows the forwarding rule; the verdict is so, and no other is; it is that of the choice by one end after another; what is lent
-  -- or plain comes to the same
+  -- layer 2: the port follows the forwarding rule; the verdict is so, no other is, and it forwards where the rule does; it is that of the choice by one end
+  -- after another; what is lent or plain comes to the same
   pub rule : PortFollowsRule
   pub verdict : VerdictIsSo
   pub noOtherVerdict : NoOtherVerdict
+  pub verdictRule : VerdictFollowsRule
   pub choice : ChoiceIsVerdict
   pub lentOffers : LentOffersAreOffers
+  pub lentVerdict : LentVerdictIsVerdict
   pub plainEnds : PlainEndsAreEnds
   -- networks: demands 2 and 3, the limits among them; a path's hops are the links that it crosses; document 01's examples E1 to E8, two of links with one end down and those of verdicts
   pub demand2 : Demand2

@@ -8,7 +8,7 @@ use Rattle.claims.specs.WorkedCalls.{WorkedCalls}
 use Rattle.claims.specs.WorkedProgram.{WorkedProgram}
 
 pub record WorkedCases : Type 0 where
-  -- E1 by the meaning of a distance; demand 2 at E2, E3, E4 and E6; demand 3 at E4 and E7; both where a frame dies on a link; and the settling statement at a list of calls with stale,
+  -- E1 by the meaning of a distance; demand 2 at E2, E3, E4 and E6; demand 3 at E4 and E7; both where a frame dies on a link; demand 2 where a bridge's own end of its chosen link is cut; and the settling statement at a list of calls with stale,
   -- lost and repeated messages
   pub distances : MeaningAtE1
   pub demand2 : RuleAtExamples

@@ -91,6 +91,8 @@ pub record WorkedCalls : Type 0 where
   pub stale : answerAt (network (left callsE7)) 0 ≡ Stale
   -- a cut of a link that is not there changes nothing, and asking neither
   pub refused : leftBy started (change (cut 0 9)) ≡ started
+  -- a verdict of a bridge that is not there is refused with 10
+  pub lacking : refusalOf (readyFor started (calls.verdict 3 0)) (network started) (calls.verdict 3 0) ≡ 10
   pub asking : (leftBy started (calls.port 2 0) ≡ started) × (leftBy started (calls.verdict 2 0) ≡ started) × (leftBy started (calls.report 0) ≡ started) × (leftBy started (calls.path 2 0) ≡ started)
   -- E7: bridge 1's frame goes to bridge 2, and so none of bridge 2 goes to bridge 1
   pub noRing : (l : ℕ) → hop (calls.run (fresh (network lentState .plan)) callsE7) 0 2 ≡ crosses l 1 → ⊥

@@ -3,24 +3,24 @@ use Prim.Native.Nat.{ℕ, _≤_, _<_}
 use mathlib.Core.Path.{_≡_}
 use mathlib.Core.List.{List, [], _∷_}
 use lib.ListN.{length, replicate}
-use Rattle.distances.specs.View.{NONE, maxDistance}
+use Rattle.distances.specs.View.{NONE, maxDistance, costsOf}
 use Rattle.distances.specs.Meaning.{IsPath, IsDistance}
 use Rattle.distances.specs.Distance.{dist}
 use Rattle.distances.specs.Table.{cell}
 use Rattle.distances.specs.Call.{distancesOf}
 use Rattle.distances.specs.Examples.{triangle, view0, view1}
-use Rattle.agreement.specs.Call.{ViewData, viewData, lentOffer}
+use Rattle.agreement.specs.Call.{ViewData, viewData, lentGraph, lentOffer}
 use Rattle.agreement.specs.Choice.{verdictBy, choiceBelow}
 use Rattle.agreement.specs.Ends.{betweenAt, updateBetween, deliverBetween}
 use Rattle.agreement.specs.Record.{freshRecord}
-use Rattle.agreement.specs.Forwarding.{port}
+use Rattle.agreement.specs.Forwarding.{verdict, port}
 use Rattle.agreement.specs.Rule as rules
 use Rattle.agreement.specs.Rule.{Reaches}
-use Rattle.agreement.specs.Reasons.{Says}
+use Rattle.agreement.specs.Reasons.{Means}
 use Rattle.agreement.specs.declared.Agreement.{Agreement}
 use Rattle.agreement.specs.declared.Port.the-variants.{Closed, Open}
 use Rattle.agreement.specs.declared.Verdict.{Verdict}
-use Rattle.agreement.specs.declared.Verdict.the-variants.{SentNotAbove, Forwards}
+use Rattle.agreement.specs.declared.Verdict.the-variants.{NoLink, SentNotAbove, Forwards}
 use Rattle.protocol.specs.Calls as calls
 use Rattle.protocol.specs.Paths.{linksCrossed}
 use Rattle.protocol.specs.Examples.{after, callsE3, callsE6, callsE7, answered}
@@ -52,11 +52,15 @@ pub record WorkedEnds : Type 0 where
   pub choice : verdictBy (choiceBelow triangle view0 (dist triangle view0) (after callsE3 .records) 2 0 6) ≡ Forwards 1
   -- E6: of bridge 1 it is said that its sent limit on link 1 is not above its distance, and nothing else is so. By numbers that are no distances no link
   -- of it reaches its own
-  pub verdict : Says triangle view1 (dist triangle view1) (after callsE6 .records) 1 0 (SentNotAbove 1)
-  pub noOtherVerdict : (v : Verdict) → Says triangle view1 (dist triangle view1) (after callsE6 .records) 1 0 v → v ≡ SentNotAbove 1
+  pub isSo : Means triangle view1 (dist triangle view1) (after callsE6 .records) 1 0 (SentNotAbove 1)
+  pub noOtherVerdict : (v : Verdict) → Means triangle view1 (dist triangle view1) (after callsE6 .records) 1 0 v → v ≡ SentNotAbove 1
+  pub verdictRule : verdict triangle view0 (dist triangle view0) (after callsE3 .records) 2 0 ≡ Forwards 1
   pub noLink : (e : ℕ) → e < 6 → Reaches triangle view1 (λ i j. 7) 1 0 e → ⊥
   -- bridge 2's offer over link 1 for bridge 0 in view 1 is 4, of a lent view too
   pub lentOffers : lentOffer lent 3 0 ≡ 4
+  -- E6, of view 1 as it is lent: the same of bridge 1's sent limit, and it has a chosen link
+  pub lentVerdict : verdict (lentGraph lent) (costsOf (lent .costs)) (cell (lent .table)) (after callsE6 .records) 1 0 ≡ SentNotAbove 1
+  pub lentLink : verdict (lentGraph lent) (costsOf (lent .costs)) (cell (lent .table)) (after callsE6 .records) 1 0 ≡ NoLink → ⊥
   -- by plain numbers: bridge 2's end of link 1, end 3, goes to view 1, and its sent limit falls to that offer; the message arrives at bridge 1's
   -- end of link 1, end 2, and bridge 1, on view 1 with number 1, holds 4
   pub plainUpdate : cell (updateBetween (betweenAt lent 3) 2 1 3 freshRecord limits limits .sent) 3 0 ≡ 4

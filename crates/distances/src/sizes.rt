@@ -11,7 +11,7 @@ pub const MOST_VIEWS: usize = 32;
 // The most that a link may cost.
 pub const MAX_COST: u32 = 16777215;
 
-// No path, no limit and no port.
+// No path, no limit, no port, and no link named.
 pub const NONE: u32 = 4294967295;
 
 // A row of a table of distances, or of limits: a number for each of 16 bridges.

@@ -2,7 +2,7 @@
 -- name in `agreement`, with its values as numbers; lists too short for these, and numbers that do not fit their field, are refused
 -- first. Assumes nothing.
 use Prim.Native.Nat.{ℕ}
-use mathlib.Core.Bool.{_&&_}
+use mathlib.Core.Bool.{cond, _&&_}
 use mathlib.Core.List.{List, [], _∷_}
 use lib.ListN.{length}
 use lib.Dec.{leb}
@@ -11,6 +11,8 @@ use Rattle.agreement.specs.Reasons.{verdictNumbers}
 use Rattle.agreement.specs.Update.{bridgeUpdateOutcome}
 use Rattle.agreement.specs.Call.{
   Response,
+  refused,
+  mapped,
   Outcome,
   ViewData,
   offerOutcome,
@@ -19,9 +21,10 @@ use Rattle.agreement.specs.Call.{
   carryOutcome,
   deliverOutcome,
   verdictOutcome,
-  portOutcome,
 }
+use Rattle.agreement.specs.Forwarding.{portOf}
 use Rattle.agreement.specs.declared.Answer.{Answer}
+use Rattle.agreement.specs.declared.Verdict.{Verdict}
 use Rattle.encoding.specs.Numbers.{
   recordAt,
   agreementIn,
@@ -81,16 +84,15 @@ deliverReply v views t n e fields message sent held out =
     (fields ∷ out ∷ sent ∷ held ∷ [])
     (deliveryReply fields out (deliverOutcome v views t n e (recordAt fields 0) (agreementIn message) sent held))
 
+-- the verdict by flags and records as they are lent: refused where these are too few or do not fit their fields
+unfoldable pub lentVerdict : ViewData → ℕ → List ℕ → List ℕ → List ℕ → List ℕ → ℕ → ℕ → Response Verdict
+lentVerdict v views down records sent held y d =
+    cond (leb 64 (length down) && holdsRecords records) (verdictOutcome v views (flagsIn down) (recordsIn records) sent held y d) refused
+
 unfoldable pub portReply : ViewData → ℕ → List ℕ → List ℕ → List ℕ → List ℕ → ℕ → ℕ → List ℕ → CallOutcome
 portReply v views down records sent held y d out =
-    ifLong
-    (leb 64 (length down) && (holdsRecords records && leb 1 (length out)))
-    (out ∷ [])
-    (valueReply portNumbers out (portOutcome v views (flagsIn down) (recordsIn records) sent held y d))
+    ifLong (leb 1 (length out)) (out ∷ []) (valueReply portNumbers out (mapped portOf (lentVerdict v views down records sent held y d)))
 
 unfoldable pub verdictReply : ViewData → ℕ → List ℕ → List ℕ → List ℕ → List ℕ → ℕ → ℕ → List ℕ → CallOutcome
 verdictReply v views down records sent held y d out =
-    ifLong
-    (leb 64 (length down) && (holdsRecords records && leb 2 (length out)))
-    (out ∷ [])
-    (valueReply verdictNumbers out (verdictOutcome v views (flagsIn down) (recordsIn records) sent held y d))
+    ifLong (leb 2 (length out)) (out ∷ []) (valueReply verdictNumbers out (lentVerdict v views down records sent held y d))

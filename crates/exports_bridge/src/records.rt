@@ -3,21 +3,21 @@
 // an update of a bridge also 10 and 16, and 0 where it does not; a refused call changes nothing.
 use agreement::BridgeUpdate;
 use agreement::Carrying;
-use agreement::Forwarding;
 use agreement::Offered;
 use agreement::Reaction;
 use agreement::Reply;
 use agreement::VerdictReply;
 use agreement::calls;
+use agreement::choices::port_of;
 use agreement::sizes::ENDS;
 use encoding::AGREEMENT;
 use encoding::ANSWER;
 use encoding::VERDICT;
 ghost use mathlib.Core.Path.{_≡_};
 ghost use mathlib.Core.List.{[], _∷_};
-ghost use Rattle.agreement.specs.Call.{viewData};
+ghost use Rattle.agreement.specs.Call.{viewData, verdictResponse};
 ghost use Rattle.encoding.specs.Replies.{callOutcome};
-ghost use Rattle.exports_bridge.specs.Call.{offerReply, freshReply, bridgeUpdateReply, updateReply, carryReply, deliverReply, portReply, verdictReply};
+ghost use Rattle.exports_bridge.specs.Call.{offerReply, freshReply, bridgeUpdateReply, updateReply, carryReply, deliverReply, lentVerdict, portReply, verdictReply};
 
 // `agreement::calls::offer_over`: the offer goes to out[0].
 #[no_mangle]
@@ -235,7 +235,48 @@ pub extern "C" fn bench_deliver_end(
     }
 }
 
-// `agreement::calls::port`: the link, or 4,294,967,295 where no port forwards, goes to out[0].
+// The verdict by what is lent as numbers: a flag for each of 64 ends, and their records. Refused where these are too few or do not fit their fields.
+fn lent_verdict(
+    bridges: usize,
+    links: usize,
+    ends: &[u8],
+    costs: &[u32],
+    table: &[u32],
+    views: usize,
+    down: &[u8],
+    records: &[u32],
+    sent: &[u32],
+    held: &[u32],
+    bridge: usize,
+    dest: usize,
+) -> VerdictReply
+    ensures { λ r. ⌜ verdictResponse r ≡ lentVerdict (viewData bridges links (now (ends .entry)) (now (costs .entry)) (now (table .entry))) views (now (down .entry)) (now (records .entry)) (now (sent .entry)) (now (held .entry)) bridge dest ⌝ }
+{
+    if down.len() < ENDS {
+        return VerdictReply::Refused;
+    }
+    if !encoding::holds_records(records) {
+        return VerdictReply::Refused;
+    }
+    let flags = encoding::flags_in(down);
+    let known = encoding::records_in(records);
+    calls::verdict(
+        bridges,
+        links,
+        ends,
+        costs,
+        table,
+        views,
+        flags,
+        known,
+        sent,
+        held,
+        bridge,
+        dest,
+    )
+}
+
+// The port of `agreement::calls::port`: the link, or 4,294,967,295 where no port forwards, goes to out[0].
 // `down` has a flag for each of 64 ends, `records` their records.
 #[no_mangle]
 pub extern "C" fn bench_port(
@@ -255,41 +296,35 @@ pub extern "C" fn bench_port(
 ) -> u8
     ensures { λ r. ⌜ callOutcome r (now (out .exit) ∷ []) ≡ portReply (viewData bridges links (now (ends .entry)) (now (costs .entry)) (now (table .entry))) views (now (down .entry)) (now (records .entry)) (now (sent .entry)) (now (held .entry)) bridge dest (now (out .entry)) ⌝ }
 {
-    if down.len() < ENDS {
-        return 17;
-    }
-    if !encoding::holds_records(records) {
-        return 17;
-    }
     if out.len() < 1 {
         return 17;
     }
-    let flags = encoding::flags_in(down);
-    let known = encoding::records_in(records);
-    let found = calls::port(
+    let found = lent_verdict(
         bridges,
         links,
         ends,
         costs,
         table,
         views,
-        flags,
-        known,
+        down,
+        records,
         sent,
         held,
         bridge,
         dest,
     );
     match found {
-        Forwarding::Refused => 17,
-        Forwarding::Found(port) => {
-            out[0] = encoding::link_number(port);
+        VerdictReply::Refused => 17,
+        VerdictReply::Found(verdict) => {
+            out[0] = encoding::link_number(port_of(verdict));
             0
         }
     }
 }
 
-// `agreement::calls::verdict`: the number of the verdict goes to out[0], the link that it names to out[1], as `encoding::put_verdict` has them.
+// `agreement::calls::verdict`: to out[0] goes 0 where the port forwards, 1 where the bridge is the destination, 2 no path, 3 chosen link down at this end, 4
+// nothing held, 5 held limit too great, 6 sent limit not above the distance, 7 no link reaches the lent distance; to out[1] the link named, 4,294,967,295 where
+// none is.
 // `down` and `records` as in `bench_port`.
 #[no_mangle]
 pub extern "C" fn bench_verdict(
@@ -309,26 +344,18 @@ pub extern "C" fn bench_verdict(
 ) -> u8
     ensures { λ r. ⌜ callOutcome r (now (out .exit) ∷ []) ≡ verdictReply (viewData bridges links (now (ends .entry)) (now (costs .entry)) (now (table .entry))) views (now (down .entry)) (now (records .entry)) (now (sent .entry)) (now (held .entry)) bridge dest (now (out .entry)) ⌝ }
 {
-    if down.len() < ENDS {
-        return 17;
-    }
-    if !encoding::holds_records(records) {
-        return 17;
-    }
     if out.len() < VERDICT {
         return 17;
     }
-    let flags = encoding::flags_in(down);
-    let known = encoding::records_in(records);
-    let found = calls::verdict(
+    let found = lent_verdict(
         bridges,
         links,
         ends,
         costs,
         table,
         views,
-        flags,
-        known,
+        down,
+        records,
         sent,
         held,
         bridge,

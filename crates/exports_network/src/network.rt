@@ -234,7 +234,8 @@ pub extern "C" fn bench_net_port(
     }
 }
 
-// `bench::answers::verdict`: the number of the verdict goes to out[0], the link that it names to out[1], as `encoding::put_verdict` has them.
+// `bench::answers::verdict`: to out[0] goes 0 where the port forwards, 1 where the bridge is the destination, 2 no path, 3 chosen link down at this end, 4
+// nothing held, 5 held limit too great, 6 sent limit not above the distance; to out[1] the link named, 4,294,967,295 where none is.
 #[no_mangle]
 pub extern "C" fn bench_net_verdict(
     bench: &[u32],

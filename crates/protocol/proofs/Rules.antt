@@ -9,10 +9,8 @@ use lib.Dec.{eqb}
 use borrow.Author.Tests.{eqb-true, eqb-false}
 use Rattle.distances.proofs.Laws.{dist-is-distance, dist-le-none}
 use Rattle.agreement.specs.Offer.{linkOf}
-use Rattle.agreement.specs.Reasons.{Says}
-use Rattle.agreement.specs.declared.Verdict.the-variants.{NoLink}
-use Rattle.agreement.proofs.Forwards.{chosen-for-path, chosen-is, verdict-is-so, no-other-verdict, port-follows-rule}
-use Rattle.protocol.specs.Net.{Network, Plan, PlanInRange, distanceIn, fresh}
+use Rattle.agreement.proofs.Forwards.{verdict-is-so, no-other-verdict, verdict-has-link, port-follows-rule}
+use Rattle.protocol.specs.Net.{Network, Plan, PlanInRange, fresh}
 use Rattle.protocol.specs.Calls.{Call, run}
 use Rattle.protocol.specs.Ports.{Hop, stays, crosses, ownDistance, forwardingVerdict, forwardingPort, hop, Crosses}
 use Rattle.protocol.specs.Rings.{Trail, Trail.stay, Trail.cross}
@@ -69,18 +67,8 @@ unfolding forwardingPort forwardingVerdict
 crossed n ok d y l z e by =
     let range = ok .plan .graph in
     let so = by .forwards in
-    let opens = port-follows-rule _ (range .differ) _ _ (n .records) y d (dist-le-none _ _ y d) .1 l (e, so) in
+    let opens = port-follows-rule _ _ _ (n .records) y d .1 (range .differ) (dist-le-none _ _ y d) l (e, so) in
     rw (← so .link) (hop-open n range d y e (rw (so .link) opens) (so .chosen .listed) (so .chosen .reaches .own) (by .nearUp) (by .farUp) ∙ ap (crosses (linkOf e)) (by .arrives))
-
--- a bridge with a path to another has a chosen link
-has-link : (n : Network) → NetworkInRange n → (y d : ℕ) → forwardingVerdict n y d ≡ NoLink → ⊥
-unfolding forwardingVerdict
-has-link n ok y d is =
-    let g = n .plan .graph in
-    let c = n .plan .costs (n .view y) in
-    let none = subst (Says g c (distanceIn (n .plan) (n .view y)) (n .records) y d) is (verdict-is-so _ _ _ _ y d) in
-    let h = chosen-for-path g c (ok .plan .graph) y d (none .0) (none .1) in
-    none .2 _ h (chosen-is g c _ y d h .reaches)
 
 by-the-rule : (n : Network) → NetworkInRange n → ByTheRule n
 unfolding ownDistance forwardingPort forwardingVerdict
@@ -88,12 +76,12 @@ by-the-rule n ok =
     record {
       distance = λ y d low. dist-is-distance _ _ (ok .plan .graph) (ok .plan .costs (n .view y) (ok .views y low)) y d;
       others = λ y z d low. dist-is-distance _ _ (ok .plan .graph) (ok .plan .costs (n .view y) (ok .views y low)) z d;
-      opens = λ y d l e w. port-follows-rule _ (ok .plan .graph .differ) _ _ (n .records) y d (dist-le-none _ _ y d) .1 l (e, w);
-      forwards = λ y d. port-follows-rule _ (ok .plan .graph .differ) _ _ (n .records) y d (dist-le-none _ _ y d) .0;
-      closed = λ y d. port-follows-rule _ (ok .plan .graph .differ) _ _ (n .records) y d (dist-le-none _ _ y d) .2;
+      opens = λ y d l e w. port-follows-rule _ _ _ (n .records) y d .1 (ok .plan .graph .differ) (dist-le-none _ _ y d) l (e, w);
+      forwards = λ y d. port-follows-rule _ _ _ (n .records) y d .0;
+      closed = λ y d. port-follows-rule _ _ _ (n .records) y d .2;
       verdict = λ y d. verdict-is-so _ _ _ _ y d;
       noOtherVerdict = λ y d. no-other-verdict _ (ok .plan .graph .differ) _ _ (n .records) y d (dist-le-none _ _ y d);
-      hasLink = has-link n ok;
+      hasLink = λ y d. verdict-has-link _ _ (ok .plan .graph) (n .records) y d;
       crosses = hop-end n (ok .plan .graph);
       crossed = crossed n ok;
       paths = λ s d. follows-ports n d s;

@@ -14,7 +14,7 @@ use Rattle.protocol.specs.Ports.{forwardingVerdict, forwardingPort, stay
 use Rattle.protocol.specs.Rings.{Trail}
 use Rattle.protocol.specs.Paths.{path, delivered, hops, linksCrossed}
 use Rattle.protocol.specs.LimitViews.{viewsRun, freshViews, leastOver, offerHeld}
-use Rattle.protocol.specs.Demand2.{ForwardsBy, SaysBy, CrossesBy, Demand2}
+use Rattle.protocol.specs.Demand2.{ForwardsBy, MeansBy, CrossesBy, Demand2}
 use Rattle.protocol.specs.Demand3.{Demand3}
 use Rattle.protocol.specs.Examples.{plan, after, callsE3, callsOneEnd, callsOwnEnd, callsE4, callsE6, callsE7}
 use Rattle.protocol.specs.SettlingMet.{before, first, second, SettlingCanBeMet}
@@ -39,10 +39,10 @@ pub record RuleAtExamples : Type 0 where
   -- E2: over its chosen link 1 bridge 2 holds nothing; E4: what bridge 1 holds over link 1 is too great; E6: it suffices, but the sent limit there is not above
   -- the distance; after E3 bridge 1's own end of its chosen link 0 is cut. Nothing else is said of bridge 0 than that it is the destination; and bridge 1,
   -- which has a path, has a chosen link
-  pub nothing : SaysBy (after []) 2 0 (NothingHeld 1)
-  pub tooGreat : SaysBy (after callsE4) 1 0 (HeldTooGreat 1)
-  pub notAbove : SaysBy (after callsE6) 1 0 (SentNotAbove 1)
-  pub linkDown : SaysBy (after callsOwnEnd) 1 0 (LinkDown 0)
+  pub nothing : MeansBy (after []) 2 0 (NothingHeld 1)
+  pub tooGreat : MeansBy (after callsE4) 1 0 (HeldTooGreat 1)
+  pub notAbove : MeansBy (after callsE6) 1 0 (SentNotAbove 1)
+  pub linkDown : MeansBy (after callsOwnEnd) 1 0 (LinkDown 0)
   pub isDestination : forwardingVerdict (after callsE6) 0 0 ≡ IsDestination
   pub hasLink : forwardingVerdict (after callsE4) 1 0 ≡ NoLink → ⊥
   -- E3: the path from 2 goes to bridge 0 by two hops; E4: by one hop to bridge 1, from which no frame crosses a link

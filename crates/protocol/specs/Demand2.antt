@@ -9,7 +9,7 @@ use Rattle.distances.specs.Meaning.{IsDistance}
 use Rattle.agreement.specs.Offer.{opposite}
 use Rattle.agreement.specs.Forwarding.{UpAt}
 use Rattle.agreement.specs.Rule.{Forwards}
-use Rattle.agreement.specs.Reasons.{Says}
+use Rattle.agreement.specs.Reasons.{Means}
 use Rattle.agreement.specs.declared.Port.the-variants.{Closed, Open}
 use Rattle.agreement.specs.declared.Verdict.{Verdict}
 use Rattle.agreement.specs.declared.Verdict.the-variants.{NoLink}
@@ -31,8 +31,8 @@ abbrev pub ForwardsBy : Network → ℕ → ℕ → ℕ → ℕ → Type 0
 ForwardsBy n y d l e = Forwards (n .plan .graph) (n .plan .costs (n .view y)) (distanceIn (n .plan) (n .view y)) (n .records) y d l e
 
 -- what verdict v says of y's port for d, by the same
-abbrev pub SaysBy : Network → ℕ → ℕ → Verdict → Type 0
-SaysBy n y d v = Says (n .plan .graph) (n .plan .costs (n .view y)) (distanceIn (n .plan) (n .view y)) (n .records) y d v
+abbrev pub MeansBy : Network → ℕ → ℕ → Verdict → Type 0
+MeansBy n y d v = Means (n .plan .graph) (n .plan .costs (n .view y)) (distanceIn (n .plan) (n .view y)) (n .records) y d v
 
 -- a frame for d crosses link l from y to z: y forwards on l by its end e, "both ends are up", and z is at the other
 pub record CrossesBy (n : Network) (d y l z e : ℕ) : Type 0 where
@@ -57,10 +57,10 @@ pub record ByTheRule (n : Network) : Type 0 where
   pub opens : (y d l e : ℕ) → ForwardsBy n y d l e → forwardingPort n y d ≡ Open l
   pub forwards : (y d l : ℕ) → forwardingPort n y d ≡ Open l → (e : ℕ) × ForwardsBy n y d l e
   pub closed : (y d : ℕ) → ((l e : ℕ) → ForwardsBy n y d l e → ⊥) → forwardingPort n y d ≡ Closed
-  -- "the first of these that applies", and otherwise that the port forwards: the verdict is so, and no other is; so it is `Forwards l` if and only if
-  -- y forwards on l. A bridge with a path to another has a chosen link
-  pub verdict : (y d : ℕ) → SaysBy n y d (forwardingVerdict n y d)
-  pub noOtherVerdict : (y d : ℕ) (v : Verdict) → SaysBy n y d v → forwardingVerdict n y d ≡ v
+  -- "the first of these that applies", and otherwise that the port forwards: the verdict is so, and no other is; so it is that the port forwards on l if and
+  -- only if y forwards on l. A bridge with a path to another has a chosen link
+  pub verdict : (y d : ℕ) → MeansBy n y d (forwardingVerdict n y d)
+  pub noOtherVerdict : (y d : ℕ) (v : Verdict) → MeansBy n y d v → forwardingVerdict n y d ≡ v
   pub hasLink : (y d : ℕ) → forwardingVerdict n y d ≡ NoLink → ⊥
   -- a frame crosses a link if and only if the port forwards on it and both its ends are up
   pub crosses : (d y l z : ℕ) → Crosses n d y l z → (e : ℕ) × CrossesBy n d y l z e

@@ -78,7 +78,16 @@ pointing =
     (change (update 2 1) ∷ send 2 3 ∷ deliver 0 ∷ change (update 2 0) ∷ send 0 0 ∷ deliver 0 ∷ send 1 2 ∷ deliver 0
     ∷ change (cut 1 2) ∷ change (update 1 1) ∷ [])
 
--- over the same links: bridges 1 and 2 go to view 1, and bridge 2's agreement over link 3 reaches bridge 1, whose sent limit on link 2 is still view 0's
+-- the same links with link 3 in view 0 too
+abbrev pub trebled : Plan
+trebled =
+    record {
+      graph = doubled .graph;
+      views = 2;
+      costs = λ t. costsOf (getD ((1 ∷ 9 ∷ 1 ∷ 1 ∷ []) ∷ (0 ∷ 5 ∷ 0 ∷ 1 ∷ []) ∷ []) t []);
+    }
+
+-- over these links: bridges 1 and 2 go to view 1, and bridge 2's agreement over link 3 reaches bridge 1, whose sent limit on link 2 is still view 0's
 abbrev pub callsBarred : List Call
 callsBarred = change (update 2 1) ∷ change (update 1 1) ∷ send 2 3 ∷ deliver 0 ∷ []
 
@@ -110,8 +119,9 @@ way cs y = exampleNumbers (path (after cs) y 0)
 abbrev pub why : List Call → ℕ → List ℕ
 why cs y = verdictNumbers (forwardingVerdict (after cs) y 0)
 
-abbrev pub whyDoubled : List Call → ℕ → List ℕ
-whyDoubled cs y = verdictNumbers (forwardingVerdict (run (fresh doubled) cs) y 0)
+-- of bridge 1 in a plan of these links
+abbrev pub whyBarred : Plan → List Call → List ℕ
+whyBarred p cs = verdictNumbers (forwardingVerdict (run (fresh p) (callsBarred ++ cs)) 1 0)
 
 abbrev pub answered : List Call → ℕ → ℕ
 answered cs p = answerNumber (answerAt (after cs) p)
@@ -119,11 +129,12 @@ answered cs p = answerNumber (answerAt (after cs) p)
 -- E1 is layer 1's; end 2 is bridge 1's end of link 1. E8: a message over link 1 from end 2 (direction 0), of number 1; its delivery is
 -- accepted (0) and stale. Then ours: bridge 0's end of link 0 alone is down. Bridge 1's port stays on link 0 and the path stops there; bridge 0's send
 -- is refused with 13, bridge 1's is not; a delivery over link 0 is accepted where the sender's end is down, and refused with 13 where the
--- receiver's is. The last: for destination 0 bridge 1's port is on link 3, to bridge 2, and bridge 2's on link 2, to bridge 1; the path from 1
+-- receiver's is. Next (`pointing`): for destination 0 bridge 1's port is on link 3, to bridge 2, and bridge 2's on link 2, to bridge 1; the path from 1
 -- stops at 2 after 1 hop, for the frame dies on link 2.
 -- Then the verdicts for destination 0 of E2 to E7, bridges 0, 1, 2 in E2 and 1, 2 after it: the destination, nothing held over the chosen link, what is
--- held too great, the sent limit not above the distance, forwards. Next bridge 1's own end of its chosen link is cut. Then the lowest sent limit that bars
--- is on another link than the chosen one; cut at bridge 1's end, it does not bar. Last, no path
+-- held too great, the sent limit not above the distance, forwards. Next bridge 1's own end of its chosen link is cut, after E3 and at once, where
+-- nothing is held either; and fresh it goes to view 1, where nothing is held and a sent limit bars too. Then the only sent limit that bars is on another
+-- link than the chosen one; cut at bridge 1's end, it does not bar. Then two bar, and the lower is named; cut at bridge 1's end, the other is. Last, no path
 abbrev pub allExamples : List Example
 allExamples =
     examples
@@ -169,7 +180,9 @@ allExamples =
     ∷ record { found = why callsE5 1 ++ why callsE5 2 ++ why callsE6 1 ++ why callsE6 2; stated = 5 ∷ 1 ∷ 0 ∷ 2 ∷ 6 ∷ 1 ∷ 0 ∷ 2 ∷ [] }
     ∷ record { found = why callsE7 1 ++ why callsE7 2; stated = 0 ∷ 1 ∷ 0 ∷ 2 ∷ [] }
     ∷ record { found = why callsOwnEnd 1; stated = 3 ∷ 0 ∷ [] }
-    ∷ record { found = whyDoubled callsBarred 1 ++ whyDoubled (callsBarred ++ (change (cut 1 2) ∷ [])) 1; stated = 6 ∷ 2 ∷ 0 ∷ 3 ∷ [] }
+    ∷ record { found = why (change (cut 1 0) ∷ []) 1 ++ why (change (update 1 1) ∷ []) 1; stated = 3 ∷ 0 ∷ 4 ∷ 1 ∷ [] }
+    ∷ record { found = whyBarred doubled [] ++ whyBarred doubled (change (cut 1 2) ∷ []); stated = 6 ∷ 2 ∷ 0 ∷ 3 ∷ [] }
+    ∷ record { found = whyBarred trebled [] ++ whyBarred trebled (change (cut 1 2) ∷ []); stated = 6 ∷ 2 ∷ 6 ∷ 3 ∷ [] }
     ∷ record { found = verdictNumbers (forwardingVerdict (fresh unlinked) 1 0); stated = 2 ∷ NONE ∷ [] }
     ∷ [])
 

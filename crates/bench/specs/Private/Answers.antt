@@ -27,7 +27,7 @@ PathFits (PathReply.Refused k) = Unit {0}
 PathFits (PathReply.Delivered h) = h < 4294967296
 PathFits (PathReply.Stops last h) = (last < 4294967296) × (h < 4294967296)
 
--- the verdict of a reply
+-- the verdict of a reply, `NoLink` where there is none
 unfoldable pub found : List Verdict → Verdict
 found [] = NoLink
 found (v ∷ vs) = v

@@ -1,4 +1,4 @@
--- `ports::verdict_in` meets its contract: the bridge's view is computed, then the port found. Assumes nothing.
+-- `ports::verdict_in` meets its contract: the bridge's view is computed, then the verdict found. Assumes nothing.
 use native.Mathlib.Omega.{arith}
 use mathlib.Core.Path.{_≡_, sym}
 use borrow.Author.Needs.{needs}

@@ -2,7 +2,6 @@
 use borrow.Author.Tests.{lt-leb, le-leb}
 use borrow.Author.Needs.{needs}
 use Rattle.encoding.specs.Replies.{withValue}
-use Rattle.encoding.proofs.Entry.{passed, failed}
 use Rattle.exports_bridge.specs.Call.{verdictReply}
 use Rattle.exports_bridge.proofs.records.bench_verdict.Statement.{statement}
 use Rattle.exports_bridge.proofs.records.bench_verdict.Tie as tie
@@ -11,25 +10,8 @@ returns : tie.Need-returns
 unfolding verdictReply
 returns c = rw (lt-leb _ _ (c .if1 .taken))
 
-holds-records-requires : tie.Need-holds-records-requires
-holds-records-requires c κs = search needs
-
-returns-2 : tie.Need-returns-2
-unfolding verdictReply
-returns-2 c = rw (le-leb _ _ (c .before .before .if1 .left), failed (c .before .holds-records .ensures) (c .if2 .taken))
-
-returns-3 : tie.Need-returns-3
-unfolding verdictReply
-returns-3 c = rw (le-leb _ _ (c .before .before .before .if1 .left), passed (c .before .before .holds-records .ensures) (c .before .if2 .left), lt-leb _ _ (c .if3 .taken))
-
-flags-in-requires : tie.Need-flags-in-requires
-flags-in-requires c κs = search needs
-
-records-in-requires : tie.Need-records-in-requires
-records-in-requires c κs = search needs
-
-verdict-requires : tie.Need-verdict-requires
-verdict-requires c κs = search needs
+lent-verdict-requires : tie.Need-lent-verdict-requires
+lent-verdict-requires c κs = search needs
 
 enum-told : tie.Need-enum-told
 enum-told c = search needs
@@ -40,50 +22,26 @@ enum-known-found c = search needs
 put-verdict-requires : tie.Need-put-verdict-requires
 put-verdict-requires c κs = search needs
 
-returns-4 : tie.Need-returns-4
+returns-2 : tie.Need-returns-2
 unfolding verdictReply withValue
-returns-4 c =
-    rw (
-      le-leb _ _ (c .before .before .before .before .before .before .before .before .if1 .left),
-      passed (c .before .before .before .before .before .before .before .holds-records .ensures) (c .before .before .before .before .before .before .if2 .left),
-      le-leb _ _ (c .before .before .before .before .before .if3 .left),
-      ← c .before .before .before .before .flags-in .ensures,
-      ← c .before .before .before .records-in .ensures,
-      ← c .before .before .verdict .ensures,
-      c .enum-told .given .1,
-    )
+returns-2 c = rw (le-leb _ _ (c .before .before .before .if1 .left), ← c .before .before .lent-verdict .ensures, c .enum-told .given .1)
 
 same-length : tie.Need-same-length
 same-length c = search needs
 
-returns-5 : tie.Need-returns-5
+returns-3 : tie.Need-returns-3
 unfolding verdictReply withValue
-returns-5 c =
-    rw (
-      le-leb _ _ (c .before .before .before .before .before .before .before .before .before .before .before .before .before .if1 .left),
-      passed (c .before .before .before .before .before .before .before .before .before .before .before .before .holds-records .ensures) (c .before .before .before .before .before .before .before .before .before .before .before .if2 .left),
-      le-leb _ _ (c .before .before .before .before .before .before .before .before .before .before .if3 .left),
-      ← c .before .before .before .before .before .before .before .before .before .flags-in .ensures,
-      ← c .before .before .before .before .before .before .before .before .records-in .ensures,
-      ← c .before .before .before .before .before .before .before .verdict .ensures,
-      c .before .before .before .before .before .found .given .1,
-      c .before .before .put-verdict .ensures,
-    )
+returns-3 c = rw (le-leb _ _ (c .before .before .before .before .before .before .before .before .if1 .left), ← c .before .before .before .before .before .before .before .lent-verdict .ensures, c .before .before .before .before .before .found .given .1, c .before .before .put-verdict .ensures)
 
 pub bench-verdict-spec : {M : Type 1} → statement M
 bench-verdict-spec =
     tie.close
     (tie.spec
     returns
-    holds-records-requires
-    returns-2
-    returns-3
-    flags-in-requires
-    records-in-requires
-    verdict-requires
+    lent-verdict-requires
     enum-told
     enum-known-found
     put-verdict-requires
-    returns-4
+    returns-2
     same-length
-    returns-5)
+    returns-3)

@@ -42,17 +42,16 @@ impl Network {
         bench[4..6].copy_from_slice(&[0, 1]);
         (costs[0], costs[32]) = (5, 3);
         let mut n = Network { bench, costs, sent: [0; 1024], held: [0; 1024], messages: [0; 320] };
-        let reply = unsafe {
-            bench_net_fresh(n.bench.as_mut_ptr(), 420, n.costs.as_ptr(), 1024, n.sent.as_mut_ptr(), 1024, n.held.as_mut_ptr(), 1024)
-        };
-        assert_eq!(reply, 0);
+        let (bench, costs, sent, held) = (n.bench.as_mut_ptr(), n.costs.as_ptr(), n.sent.as_mut_ptr(), n.held.as_mut_ptr());
+        assert_eq!(unsafe { bench_net_fresh(bench, 420, costs, 1024, sent, 1024, held, 1024) }, 0);
         n
     }
 
     fn ask(&self, bridge: usize, dest: usize) {
         let mut out = [0; 2];
         let (bench, costs, sent, held) = (self.bench.as_ptr(), self.costs.as_ptr(), self.sent.as_ptr(), self.held.as_ptr());
-        let refused = unsafe { bench_net_verdict(bench, 420, costs, 1024, sent, 1024, held, 1024, bridge, dest, out.as_mut_ptr(), 2) };
+        let refused =
+            unsafe { bench_net_verdict(bench, 420, costs, 1024, sent, 1024, held, 1024, bridge, dest, out.as_mut_ptr(), 2) };
         let words = || WORDS[out[0] as usize];
         match (refused, out[1]) {
             (0, u32::MAX) => println!("{bridge} to {dest}: {}", words()),
@@ -75,14 +74,16 @@ impl Network {
 
     fn deliver(&mut self, place: usize) {
         let mut answer = [0; 3];
-        let (bench, costs, sent, held) = (self.bench.as_mut_ptr(), self.costs.as_ptr(), self.sent.as_mut_ptr(), self.held.as_mut_ptr());
+        let (bench, costs, sent, held) =
+            (self.bench.as_mut_ptr(), self.costs.as_ptr(), self.sent.as_mut_ptr(), self.held.as_mut_ptr());
         let (messages, out) = (self.messages.as_mut_ptr(), answer.as_mut_ptr());
         let reply = unsafe { bench_net_deliver(bench, 420, costs, 1024, sent, 1024, held, 1024, messages, 320, place, out, 3) };
         assert_eq!(reply, 0);
     }
 
     fn update(&mut self, bridge: usize, view: usize) {
-        let (bench, costs, sent, held) = (self.bench.as_mut_ptr(), self.costs.as_ptr(), self.sent.as_mut_ptr(), self.held.as_mut_ptr());
+        let (bench, costs, sent, held) =
+            (self.bench.as_mut_ptr(), self.costs.as_ptr(), self.sent.as_mut_ptr(), self.held.as_mut_ptr());
         assert_eq!(unsafe { bench_net_update(bench, 420, costs, 1024, sent, 1024, held, 1024, bridge, view) }, 0);
     }
 }

@@ -8,22 +8,18 @@ use native.Mathlib.Omega.{arith}
 use lib.Dec.{eqb, ltb}
 use Rattle.distances.specs.View.{Graph, Costs, NONE}
 use Rattle.distances.proofs.Booleans.{both-true}
-use Rattle.distances.proofs.Joined.{present-is}
 use Rattle.agreement.specs.Offer.{linkOf, farBridge}
-use Rattle.agreement.specs.Record.{heldLimit}
 use Rattle.agreement.specs.Tests.{firstBelow}
 use Rattle.agreement.specs.Forwarding.{
   Records,
+  reachesDistance,
   reaches,
   chosenEnd,
-  isDown,
-  isUp,
   isDestination,
-  hasNoPath,
   hasNoLink,
   holdsNothing,
-  heldTooGreat,
   sentNotAbove,
+  bars,
   barringEnd,
   isBarred,
   firstOf,
@@ -31,9 +27,7 @@ use Rattle.agreement.specs.Forwarding.{
   verdict,
 }
 use Rattle.agreement.specs.Choice.{
-  reachesDistance,
   becomesChosen,
-  bars,
   becomesBarring,
   firstChoice,
   nextChoice,
@@ -67,31 +61,29 @@ module _ (old : Choice) (link cost far : ℕ) (down holding : Bool) (sent held :
       {first reach bar firstBar barred : Bool}
       {barring : ℕ}
       (isFirst : first ≡ (not (old .found) && reach))
-      (doesReach : reach ≡ reachesDistance old cost far)
-      (isBarred : barred ≡ (old .barred || bar))
+      (doesReach : reach ≡ reachesDistance cost far (old .distance))
+      (hasBar : barred ≡ (old .barred || bar))
       (isBarring : barring ≡ cond firstBar link (old .barring))
       (isFirstBar : firstBar ≡ (not (old .barred) && bar))
-      (doesBar : bar ≡ bars old down sent) where
+      (doesBar : bar ≡ sentNotAbove down sent (old .distance)) where
     first-is-chosen : first ≡ becomesChosen old cost far
     first-is-chosen = isFirst ∙ rw doesReach
 
-    barred-is : barred ≡ (old .barred || bars old down sent)
-    barred-is = isBarred ∙ rw doesBar
+    barred-is : barred ≡ (old .barred || sentNotAbove down sent (old .distance))
+    barred-is = hasBar ∙ rw doesBar
 
     barring-is : barring ≡ cond (becomesBarring old down sent) link (old .barring)
     barring-is = isBarring ∙ rw (isFirstBar, doesBar)
 
     pub next-chosen :
-        {limit : ℕ} →
         first ≡ true →
-        limit ≡ cond holding held NONE →
-        choice (old .distance) limit link barring (old .destination) true down holding barred
+        choice (old .distance) held link barring (old .destination) true down holding barred
         ≡ nextChoice old link cost far down holding sent held
     unfolding nextChoice
-    next-chosen t u =
+    next-chosen t =
         let e : becomesChosen old cost far ≡ true = sym first-is-chosen ∙ t in
-        let h = both-true (not (old .found)) (reachesDistance old cost far) e in
-        rw (e, u, barred-is, barring-is, not-true (old .found) (h .0), h .1)
+        let h = both-true (not (old .found)) (reachesDistance cost far (old .distance)) e in
+        rw (e, barred-is, barring-is, not-true (old .found) (h .0), h .1)
 
     pub next-kept :
         first ≡ false →
@@ -100,12 +92,12 @@ module _ (old : Choice) (link cost far : ℕ) (down holding : Bool) (sent held :
     unfolding nextChoice
     next-kept t =
         let e : becomesChosen old cost far ≡ false = sym first-is-chosen ∙ t in
-        rw (e, barred-is, barring-is) (go (old .found) (reachesDistance old cost far) e)
+        rw (e, barred-is, barring-is) (go (old .found) (reachesDistance cost far (old .distance)) e)
       where
         with-found : Bool → Choice
         with-found f =
             choice (old .distance) (old .held) (old .link) (cond (becomesBarring old down sent) link (old .barring)) (old .destination) f (old .down)
-            (old .holding) (old .barred || bars old down sent)
+            (old .holding) (old .barred || sentNotAbove down sent (old .distance))
 
         go : (f t : Bool) → (not f && t) ≡ false → with-found f ≡ with-found (f || t)
         go true t e = refl
@@ -115,16 +107,17 @@ module _ (old : Choice) (link cost far : ℕ) (down holding : Bool) (sent held :
   module _ (at : Bool) where
     -- it is the first that reaches the distance; the first that bars the bridge
     abbrev chosenHere : Bool
-    chosenHere = not (old .found) && (at && reachesDistance old cost far)
+    chosenHere = not (old .found) && (at && reachesDistance cost far (old .distance))
 
     abbrev barringHere : Bool
-    barringHere = not (old .barred) && (at && bars old down sent)
+    barringHere = not (old .barred) && (at && sentNotAbove down sent (old .distance))
 
     abbrev nextIf : Choice
     nextIf =
-        choice (old .distance) (cond chosenHere (cond holding held NONE) (old .held)) (cond chosenHere link (old .link))
-        (cond barringHere link (old .barring)) (old .destination) (old .found || (at && reachesDistance old cost far))
-        (cond chosenHere down (old .down)) (cond chosenHere holding (old .holding)) (old .barred || (at && bars old down sent))
+        choice (old .distance) (cond chosenHere held (old .held)) (cond chosenHere link (old .link))
+        (cond barringHere link (old .barring)) (old .destination) (old .found || (at && reachesDistance cost far (old .distance)))
+        (cond chosenHere down (old .down)) (cond chosenHere holding (old .holding))
+        (old .barred || (at && sentNotAbove down sent (old .distance)))
 
   next-if : (at : Bool) → cond at (nextChoice old link cost far down holding sent held) old ≡ nextIf at
   unfolding nextChoice
@@ -134,7 +127,7 @@ module _ (old : Choice) (link cost far : ℕ) (down holding : Bool) (sent held :
       go :
           (f b : Bool) →
           choice (old .distance) (old .held) (old .link) (old .barring) (old .destination) f (old .down) (old .holding) b
-          ≡ choice (old .distance) (cond (not f && false) (cond holding held NONE) (old .held)) (cond (not f && false) link (old .link))
+          ≡ choice (old .distance) (cond (not f && false) held (old .held)) (cond (not f && false) link (old .link))
           (cond (not b && false) link (old .barring)) (old .destination) (f || false) (cond (not f && false) down (old .down))
           (cond (not f && false) holding (old .holding)) (b || false)
       go true true = refl
@@ -149,18 +142,18 @@ module _ (g : Graph) (c : Costs) (f : ℕ → ℕ → ℕ) (r : Records) (y d : 
   holdingAt e = r .ends e .holding
 
   abbrev heldAt : ℕ → ℕ
-  heldAt e = heldLimit (r .ends e) (r .held e) d
+  heldAt e = r .held e d
 
   -- what the choice by the ends below n is
   abbrev byEnds : ℕ → Choice
   byEnds n =
       choice (f y d) (atFirst (reaches g c f y d) n heldAt 0) (atFirst (reaches g c f y d) n linkOf 0)
-      (atFirst (sentNotAbove g f r y d) n linkOf 0) (eqb y d) (ltb (firstBelow n (reaches g c f y d)) n)
+      (atFirst (bars g f r y d) n linkOf 0) (eqb y d) (ltb (firstBelow n (reaches g c f y d)) n)
       (atFirst (reaches g c f y d) n (r .down) false) (atFirst (reaches g c f y d) n holdingAt false)
-      (ltb (firstBelow n (sentNotAbove g f r y d)) n)
+      (ltb (firstBelow n (bars g f r y d)) n)
 
   end-more : (n : ℕ) → cond (eqb (g .bridgeAt n) y) (choiceWith g c f r d n (byEnds n)) (byEnds n) ≡ byEnds (suc n)
-  unfolding choiceWith reaches sentNotAbove isUp
+  unfolding choiceWith reaches bars
   end-more n =
       next-if (byEnds n) _ _ _ _ _ _ _ (eqb (g .bridgeAt n) y)
       ∙ rw (
@@ -168,10 +161,9 @@ module _ (g : Graph) (c : Costs) (f : ℕ → ℕ → ℕ) (r : Records) (y d : 
         at-first-more (reaches g c f y d) linkOf 0 n,
         at-first-more (reaches g c f y d) (r .down) false n,
         at-first-more (reaches g c f y d) holdingAt false n,
-        at-first-more (sentNotAbove g f r y d) linkOf 0 n,
+        at-first-more (bars g f r y d) linkOf 0 n,
         found-more (reaches g c f y d) n,
-        found-more (sentNotAbove g f r y d) n,
-        present-is,
+        found-more (bars g f r y d) n,
       )
 
   by-ends : (n : ℕ) → choiceBelow g c f r y d n ≡ byEnds n
@@ -180,18 +172,26 @@ module _ (g : Graph) (c : Costs) (f : ℕ → ℕ → ℕ) (r : Records) (y d : 
   by-ends (suc n) = rw (by-ends n) (end-more n)
 
   by-verdict : verdictBy (byEnds (2 * g .links)) ≡ verdict g c f r y d
-  unfolding verdictBy verdict verdictFrom firstOf chosenEnd isDestination hasNoPath hasNoLink holdsNothing heldTooGreat barringEnd isBarred
+  unfolding verdictBy verdict verdictFrom firstOf chosenEnd isDestination hasNoLink holdsNothing barringEnd isBarred
   by-verdict = go (ltb e (2 * g .links)) (ltb k (2 * g .links)) refl refl
     where
       e : ℕ
       e = firstBelow (2 * g .links) (reaches g c f y d)
 
       k : ℕ
-      k = firstBelow (2 * g .links) (sentNotAbove g f r y d)
+      k = firstBelow (2 * g .links) (bars g f r y d)
+
+      -- a limit is asked for only where a view is held
+      held-asked :
+          (h t : Bool) →
+          firstOf (eqb y d) (eqb (f y d) NONE) false (r .down e) (not h) (ltb (f y d) (r .held e d)) t (linkOf e) (cond t (linkOf k) 0)
+          ≡ firstOf (eqb y d) (eqb (f y d) NONE) false (r .down e) (not h) (ltb (f y d) (cond h (r .held e d) NONE)) t (linkOf e) (linkOf k)
+      held-asked true true = refl
+      held-asked true false = refl
+      held-asked false t = refl
 
       go : (b t : Bool) → ltb e (2 * g .links) ≡ b → ltb k (2 * g .links) ≡ t → verdictBy (byEnds (2 * g .links)) ≡ verdictFrom g f r y d e
-      go true true p q = rw (p, q)
-      go true false p q = rw (p, q)
+      go true t p q = rw (p, q) (held-asked (r .ends e .holding) t)
       go false t p q = rw p
 
   -- its distance is the bridge's, and its links are some of those so far
@@ -209,7 +209,7 @@ module _ (g : Graph) (c : Costs) (f : ℕ → ℕ → ℕ) (r : Records) (y d : 
       go false e = omega arith
 
   pub choice-links : (n : ℕ) → n ≤ 64 → (choiceBelow g c f r y d n .link < 32) × (choiceBelow g c f r y d n .barring < 32)
-  choice-links n few = rw (by-ends n) (first-link (reaches g c f y d) n few, first-link (sentNotAbove g f r y d) n few)
+  choice-links n few = rw (by-ends n) (first-link (reaches g c f y d) n few, first-link (bars g f r y d) n few)
 
 -- ---- a loop over the ends
 

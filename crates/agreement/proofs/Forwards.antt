@@ -9,11 +9,11 @@ use native.Mathlib.Omega.{arith}
 use lib.Dec.{eqb, leb, ltb}
 use borrow.Author.Tests.{eqb-true, eqb-false, eq-eqb, ne-eqb, ltb-true, ltb-false, lt-ltb, le-ltb, leb-true, le-leb, not-true, not-false}
 use Rattle.distances.specs.View.{Graph, Costs, NONE, InRange}
-use Rattle.distances.specs.Distance.{present, dist}
+use Rattle.distances.specs.Distance.{dist}
 use Rattle.distances.specs.Meaning.{Joins}
 use Rattle.distances.proofs.Booleans.{both-true}
 use Rattle.distances.proofs.Laws.{next-hop}
-use Rattle.distances.proofs.Joined.{AreEnds, present-cost, cost-present}
+use Rattle.distances.proofs.Joined.{AreEnds}
 use Rattle.agreement.specs.Offer.{linkOf, farBridge}
 use Rattle.agreement.specs.Record.{heldLimit}
 use Rattle.agreement.specs.Forwarding.{
@@ -21,13 +21,11 @@ use Rattle.agreement.specs.Forwarding.{
   UpAt,
   reaches,
   chosenEnd,
-  isUp,
   isDestination,
-  hasNoPath,
   hasNoLink,
   holdsNothing,
   heldTooGreat,
-  sentNotAbove,
+  bars,
   barringEnd,
   isBarred,
   firstOf,
@@ -50,17 +48,17 @@ module _ (g : Graph) (c : Costs) (f : ℕ → ℕ → ℕ) (y d : ℕ) where
   unfolding reaches
   reaches-told e t =
       let one = both-true (eqb (g .bridgeAt e) y) _ t in
-      let two = both-true (present c (linkOf e)) _ (one .1) in
+      let two = both-true (not (eqb (c (linkOf e)) 0)) _ (one .1) in
       record {
         own = eqb-true (g .bridgeAt e) y (one .0);
-        present = present-cost c (linkOf e) (two .0);
+        present = eqb-false (c (linkOf e)) 0 (not-true _ (two .0));
         sum = eqb-true (c (linkOf e) + f (farBridge g e) d) (f y d) (two .1);
       }
 
   told-reaches : (e : ℕ) → Reaches g c f y d e → reaches g c f y d e ≡ true
   unfolding reaches
   told-reaches e r =
-      rw (eq-eqb (g .bridgeAt e) y (r .own), cost-present c (linkOf e) (r .present))
+      rw (eq-eqb (g .bridgeAt e) y (r .own), ne-eqb (c (linkOf e)) 0 (r .present))
       (eq-eqb (c (linkOf e) + f (farBridge g e) d) (f y d) (r .sum))
 
   -- the chosen end reaches the distance, and there is one where some end does
@@ -116,24 +114,24 @@ module _ (g : Graph) (c : Costs) (f : ℕ → ℕ → ℕ) (y d : ℕ) where
 -- ---- the sent limits that are not above the distance
 
 module _ (g : Graph) (f : ℕ → ℕ → ℕ) (r : Records) (y d : ℕ) where
-  bars-told : (k : ℕ) → sentNotAbove g f r y d k ≡ true → Bars g f r y d k
-  unfolding sentNotAbove isUp
+  bars-told : (k : ℕ) → bars g f r y d k ≡ true → Bars g f r y d k
+  unfolding bars
   bars-told k t =
       let one = both-true (eqb (g .bridgeAt k) y) _ t in
-      let two = both-true (isUp r k) (leb (r .sent k d) (f y d)) (one .1) in
+      let two = both-true (not (r .down k)) (leb (r .sent k d) (f y d)) (one .1) in
       record {
         own = eqb-true (g .bridgeAt k) y (one .0);
         up = not-true (r .down k) (two .0);
         limit = leb-true (r .sent k d) (f y d) (two .1);
       }
 
-  told-bars : (k : ℕ) → Bars g f r y d k → sentNotAbove g f r y d k ≡ true
-  unfolding sentNotAbove isUp
+  told-bars : (k : ℕ) → Bars g f r y d k → bars g f r y d k ≡ true
+  unfolding bars
   told-bars k b = rw (eq-eqb (g .bridgeAt k) y (b .own), b .up) (le-leb (r .sent k d) (f y d) (b .limit))
 
   barring-at-most : (k : ℕ) → k < 2 * g .links → Bars g f r y d k → barringEnd g f r y d ≤ k
   unfolding barringEnd
-  barring-at-most k h b = first-at-most (sentNotAbove g f r y d) (2 * g .links) k h (told-bars k b)
+  barring-at-most k h b = first-at-most (bars g f r y d) (2 * g .links) k h (told-bars k b)
 
   -- the end that is found is the lowest link's
   barring-is : barringEnd g f r y d < 2 * g .links → IsLowestBar g f r y d (linkOf (barringEnd g f r y d)) (barringEnd g f r y d)
@@ -141,7 +139,7 @@ module _ (g : Graph) (f : ℕ → ℕ → ℕ) (r : Records) (y d : ℕ) where
   barring-is h =
       record {
         listed = h;
-        bars = bars-told (barringEnd g f r y d) (first-passes (sentNotAbove g f r y d) (2 * g .links) h);
+        bars = bars-told (barringEnd g f r y d) (first-passes (bars g f r y d) (2 * g .links) h);
         link = refl;
         lowest = λ j low b. omega (arith, barring-at-most j low b);
       }
@@ -189,21 +187,25 @@ module _ (g : Graph) (c : Costs) (f : ℕ → ℕ → ℕ) (r : Records) (y d : 
   unreached : 2 * g .links ≤ chosen → (e : ℕ) → e < 2 * g .links → Reaches g c f y d e → ⊥
   unreached past e low by = omega (arith, chosen-exists g c f y d e low by)
 
-  chooses : (y ≡ d → ⊥) → (f y d ≡ NONE → ⊥) → chosen < 2 * g .links → Chooses g c f y d (linkOf chosen) chosen
-  chooses apart some h = record { notDestination = apart; hasPath = some; chosen = chosen-is g c f y d h; link = refl }
+  chooses : (y ≡ d → ⊥) → (f y d ≡ NONE → ⊥) → chosen < 2 * g .links → Chooses g c f y d chosen
+  chooses apart some h = record { notDestination = apart; hasPath = some; chosen = chosen-is g c f y d h }
+
+  -- the held limit of the chosen link
+  abbrev limit : ℕ
+  limit = heldLimit (r .ends chosen) (r .held chosen) d
 
   -- by what the tests say
   is-so :
       (a b m w n t s : Bool) →
       isDestination y d ≡ a →
-      hasNoPath f y d ≡ b →
+      eqb (f y d) NONE ≡ b →
       hasNoLink g chosen ≡ m →
       r .down chosen ≡ w →
       holdsNothing r chosen ≡ n →
-      heldTooGreat f r y d chosen ≡ t →
+      ltb (f y d) limit ≡ t →
       isBarred g f r y d ≡ s →
       Means g c f r y d (firstOf a b m w n t s (linkOf chosen) (linkOf (barringEnd g f r y d)))
-  unfolding firstOf isDestination hasNoPath hasNoLink holdsNothing heldTooGreat isBarred
+  unfolding firstOf isDestination hasNoLink holdsNothing isBarred
   is-so true b m w n t s p₁ p₂ p₃ p₄ p₅ p₆ p₇ = eqb-true y d p₁
   is-so false true m w n t s p₁ p₂ p₃ p₄ p₅ p₆ p₇ = (eqb-false y d p₁, eqb-true (f y d) NONE p₂)
   is-so false false true w n t s p₁ p₂ p₃ p₄ p₅ p₆ p₇ =
@@ -211,22 +213,25 @@ module _ (g : Graph) (c : Costs) (f : ℕ → ℕ → ℕ) (r : Records) (y d : 
   is-so false false false w n t s p₁ p₂ p₃ p₄ p₅ p₆ p₇ =
       go w n t s p₄ p₅ p₆ p₇ (chooses (eqb-false y d p₁) (eqb-false (f y d) NONE p₂) (ltb-true chosen (2 * g .links) (not-false _ p₃)))
     where
-      limit : ℕ
-      limit = heldLimit (r .ends chosen) (r .held chosen) d
-
       go :
           (w n t s : Bool) →
           r .down chosen ≡ w →
           not (r .ends chosen .holding) ≡ n →
           ltb (f y d) limit ≡ t →
           ltb (barringEnd g f r y d) (2 * g .links) ≡ s →
-          Chooses g c f y d (linkOf chosen) chosen →
+          Chooses g c f y d chosen →
           Means g c f r y d (firstOf false false false w n t s (linkOf chosen) (linkOf (barringEnd g f r y d)))
-      go true n t s p₄ p₅ p₆ p₇ by = (chosen, by, p₄)
-      go false true t s p₄ p₅ p₆ p₇ by = (chosen, by, p₄, not-true _ p₅)
-      go false false true s p₄ p₅ p₆ p₇ by = (chosen, by, p₄, not-false _ p₅, ltb-true (f y d) limit p₆)
-      go false false false true p₄ p₅ p₆ p₇ by =
-          (chosen, by, p₄, record { something = not-false _ p₅; limit = ltb-false (f y d) limit p₆ }, (barringEnd g f r y d, barring-is g f r y d (ltb-true (barringEnd g f r y d) (2 * g .links) p₇)))
+      go true n t s p₄ p₅ p₆ p₇ by = (chosen, by, refl, p₄)
+      go false true t s p₄ p₅ p₆ p₇ by = (chosen, by, refl, p₄, not-true _ p₅)
+      go false false true s p₄ p₅ p₆ p₇ by = (chosen, by, refl, p₄, not-false _ p₅, ltb-true (f y d) limit p₆)
+      go false false false true p₄ p₅ p₆ p₇ by = (
+        chosen,
+        by,
+        p₄,
+        not-false _ p₅,
+        ltb-false (f y d) limit p₆,
+        (barringEnd g f r y d, barring-is g f r y d (ltb-true (barringEnd g f r y d) (2 * g .links) p₇)),
+      )
       go false false false false p₄ p₅ p₆ p₇ by = (
         chosen,
         record {
@@ -251,16 +256,17 @@ module _ (g : Graph) (c : Costs) (f : ℕ → ℕ → ℕ) (r : Records) (y d : 
 
   module _ (differ : EndsDiffer g) where
     -- before the chosen link
-    goes-on : {l e : ℕ} → Chooses g c f y d l e →
-        verdict g c f r y d ≡ firstOf false false false (r .down e) (holdsNothing r e) (heldTooGreat f r y d e) (isBarred g f r y d) l (linkOf (barringEnd g f r y d))
-    unfolding verdict verdictFrom isDestination hasNoPath hasNoLink
-    goes-on {l} {e} by =
+    goes-on : {e : ℕ} → Chooses g c f y d e →
+        verdict g c f r y d
+        ≡ firstOf false false false (r .down e) (holdsNothing r e) (heldTooGreat (f y d) (heldLimit (r .ends e) (r .held e) d)) (isBarred g f r y d)
+        (linkOf e) (linkOf (barringEnd g f r y d))
+    unfolding verdict verdictFrom isDestination hasNoLink
+    goes-on {e} by =
         rw (
           chosen-unique g c f y d differ e (by .chosen),
           ne-eqb y d (by .notDestination),
           ne-eqb (f y d) NONE (by .hasPath),
           lt-ltb e (2 * g .links) (by .chosen .listed),
-          by .link,
         )
 
     -- a limit that is at most a distance is that of a view held
@@ -272,7 +278,7 @@ module _ (g : Graph) (c : Costs) (f : ℕ → ℕ → ℕ) (r : Records) (y d : 
         go false p h = absurd (some (omega arith))
 
     only : f y d ≤ NONE → (v : Verdict) → Means g c f r y d v → verdict g c f r y d ≡ v
-    unfolding verdict verdictFrom firstOf isDestination hasNoPath hasNoLink holdsNothing heldTooGreat isBarred
+    unfolding verdict verdictFrom firstOf isDestination hasNoLink holdsNothing isBarred
     only most IsDestination w = rw (eq-eqb y d w)
     only most NoPath w = rw (ne-eqb y d (w .0), eq-eqb (f y d) NONE (w .1))
     only most NoLink w =
@@ -283,18 +289,18 @@ module _ (g : Graph) (c : Costs) (f : ℕ → ℕ → ℕ) (r : Records) (y d : 
         past true e =
             let h : chosen < 2 * g .links = ltb-true chosen (2 * g .links) e in
             absurd (w .2 chosen h (chosen-is g c f y d h .reaches))
-    only most (LinkDown l) w = goes-on (w .1) ∙ rw (w .2)
-    only most (NothingHeld l) w = goes-on (w .1) ∙ rw (w .2, w .3)
-    only most (HeldTooGreat l) w = goes-on (w .1) ∙ rw (w .2, lt-ltb (f y d) _ (w .4), w .3)
+    only most (LinkDown l) w = goes-on (w .1) ∙ rw (w .3, w .2)
+    only most (NothingHeld l) w = goes-on (w .1) ∙ rw (w .3, w .4, w .2)
+    only most (HeldTooGreat l) w = goes-on (w .1) ∙ rw (w .3, lt-ltb (f y d) _ (w .5), w .4, w .2)
     only most (SentNotAbove l) w =
-        let bar = barring-link g f r y d (w .4 .1) in
+        let bar = barring-link g f r y d (w .5 .1) in
         goes-on (w .1)
-        ∙ rw (w .2, le-ltb (f y d) _ (w .3 .limit), w .3 .something, lt-ltb (barringEnd g f r y d) (2 * g .links) (bar .0), bar .1)
+        ∙ rw (w .2, le-ltb (f y d) _ (w .4), w .3, lt-ltb (barringEnd g f r y d) (2 * g .links) (bar .0), bar .1)
     only most (Forwards l) w =
         let e : ℕ = w .0 in
         let met = w .1 .allowed in
-        goes-on (record { notDestination = met .notDestination; hasPath = met .hasPath; chosen = w .1 .chosen; link = w .1 .link })
-        ∙ rw (met .up, le-ltb (f y d) _ (met .held), held-told most (met .hasPath) e (met .held), bars-none g f r y d (met .sent))
+        goes-on (record { notDestination = met .notDestination; hasPath = met .hasPath; chosen = w .1 .chosen })
+        ∙ rw (met .up, le-ltb (f y d) _ (met .held), held-told most (met .hasPath) e (met .held), bars-none g f r y d (met .sent), w .1 .link)
 
 pub verdict-is-so : VerdictIsSo
 verdict-is-so = verdict-says

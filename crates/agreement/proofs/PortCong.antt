@@ -9,13 +9,13 @@ use lib.Dec.{ltb}
 use Rattle.distances.specs.View.{Graph, Costs, InRange, costsOf}
 use Rattle.distances.specs.Table.{cell}
 use Rattle.distances.specs.Distance.{dist}
-use Rattle.distances.proofs.Joined.{present-same}
+use Rattle.distances.proofs.Laws.{dist-le-none}
 use Rattle.distances.proofs.Ranges.{in-range-told, graph-in-range}
 use Rattle.agreement.specs.Offer.{linkOf, opposite, farBridge}
-use Rattle.agreement.specs.Forwarding.{Records, reaches, chosenEnd, isUp, hasNoPath, hasNoLink, holdsNothing, heldTooGreat, sentNotAbove, barringEnd, isBarred, firstOf, verdictFrom, verdict}
+use Rattle.agreement.specs.Forwarding.{Records, reaches, chosenEnd, hasNoLink, holdsNothing, bars, barringEnd, isBarred, firstOf, verdictFrom, verdict}
 use Rattle.agreement.specs.Call.{lentGraph, LentVerdictIsVerdict}
 use Rattle.agreement.proofs.Firsts.{first-cong}
-use Rattle.agreement.proofs.Forwards.{verdict-has-link}
+use Rattle.agreement.proofs.Forwards.{no-other-verdict, verdict-has-link}
 use Rattle.agreement.proofs.Ends.{opposite-below, bridge-in-range}
 
 -- what a port for d looks at is the same
@@ -40,7 +40,6 @@ module _
   unfolding reaches
   reaches-same e he =
       rw (
-        present-same c k (linkOf e) (same .costs (linkOf e) (omega arith)),
         same .costs (linkOf e) (omega arith),
         same .distances (farBridge g e) (bridge-in-range g inside (opposite e) (opposite-below e _ he)),
         same .distances y low,
@@ -51,13 +50,13 @@ module _
   chosen-same = first-cong (2 * g .links) (reaches g c f y d) (reaches g k h y d) reaches-same
 
   barring-same : barringEnd g f r y d ≡ barringEnd g h q y d
-  unfolding barringEnd sentNotAbove isUp
+  unfolding barringEnd bars
   barring-same =
-      first-cong (2 * g .links) (sentNotAbove g f r y d) (sentNotAbove g h q y d)
+      first-cong (2 * g .links) (bars g f r y d) (bars g h q y d)
       (λ e he. rw (same .down e he, same .distances y low, same .sent e he))
 
   verdict-from-same : (e : ℕ) → verdictFrom g f r y d e ≡ verdictFrom g h q y d e
-  unfolding verdictFrom firstOf hasNoPath hasNoLink holdsNothing heldTooGreat isBarred
+  unfolding verdictFrom firstOf hasNoLink holdsNothing isBarred
   verdict-from-same e = go (ltb e (2 * g .links)) refl
     where
       go : (b : Bool) → ltb e (2 * g .links) ≡ b → verdictFrom g f r y d e ≡ verdictFrom g h q y d e
@@ -72,7 +71,11 @@ module _
 
 -- where the table holds the distances the verdict is the view's
 pub lent-verdict : LentVerdictIsVerdict
-lent-verdict v ok holds r y d hy hd = (same, λ is. verdict-has-link g c inside r y d (sym same ∙ is))
+lent-verdict v ok holds r y d hy hd = (
+  same,
+  λ w is. same ∙ no-other-verdict g (inside .differ) c (dist g c) r y d (dist-le-none g c y d) w is,
+  λ is. verdict-has-link g c inside r y d (sym same ∙ is),
+)
   where
     g : Graph
     g = lentGraph v

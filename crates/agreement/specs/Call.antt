@@ -12,6 +12,7 @@ use Rattle.agreement.specs.Offer.{opposite, offer}
 use Rattle.agreement.specs.Record.{freshRecord, updated, sentUpdated, heldUpdated, carried, answer, recorded, sentDelivered, heldDelivered}
 use Rattle.agreement.specs.Limits.{withLimits}
 use Rattle.agreement.specs.Forwarding.{Records, verdict, portOf}
+use Rattle.agreement.specs.Reasons.{Means}
 use Rattle.agreement.specs.Ranges.{viewInRange, isView, recordInRange, endInRange, deliveryInRange, portInRange}
 use Rattle.agreement.specs.declared.EndRecord.{EndRecord}
 use Rattle.agreement.specs.declared.Agreement.{Agreement}
@@ -103,7 +104,7 @@ LentOffersAreOffers =
     d < v .bridges →
     lentOffer v e d ≡ offer (lentGraph v) (costsOf (v .costs)) (dist (lentGraph v) (costsOf (v .costs))) e d
 
--- and the verdict on a port is that by the view's own distances; so a bridge with a path to another has a chosen link
+-- and the verdict on a port is that by the view's own distances, no other verdict is so, and a bridge with a path to another has a chosen link
 abbrev pub LentVerdictIsVerdict : Type 0
 LentVerdictIsVerdict =
     (v : ViewData) →
@@ -114,7 +115,9 @@ LentVerdictIsVerdict =
     d < v .bridges →
     (let g = lentGraph v in
     let c = costsOf (v .costs) in
-    (verdict g c (cell (v .table)) r y d ≡ verdict g c (dist g c) r y d) × (verdict g c (cell (v .table)) r y d ≡ NoLink → ⊥))
+    (verdict g c (cell (v .table)) r y d ≡ verdict g c (dist g c) r y d)
+    × ((w : Verdict) → Means g c (dist g c) r y d w → verdict g c (cell (v .table)) r y d ≡ w)
+    × (verdict g c (cell (v .table)) r y d ≡ NoLink → ⊥))
 
 -- The offer over the link of end e for destination d
 unfoldable pub offerOutcome : ViewData → ℕ → ℕ → Response ℕ
@@ -172,11 +175,12 @@ deliverOutcome v views t n e r m sent held =
     (withLimits (v .bridges) e (heldDelivered t r m (lentOffer v (opposite e)) (cell held e)) held))
     (outcome refused r sent held)
 
--- The verdict on the port of bridge y for destination d, y being on the lent view: flags, records and limits by end
+-- flags, records and limits as they are lent, by end
 abbrev pub lentRecords : List Bool → List EndRecord → List ℕ → List ℕ → Records
 lentRecords down records sent held =
     record { down = λ e. getD down e false; ends = λ e. getD records e freshRecord; sent = cell sent; held = cell held }
 
+-- The verdict on the port of bridge y for destination d, y being on the lent view
 unfoldable pub verdictOutcome : ViewData → ℕ → List Bool → List EndRecord → List ℕ → List ℕ → ℕ → ℕ → Response Verdict
 verdictOutcome v views down records sent held y d =
     cond (portInRange (v .bridges) (v .links) (v .ends) (v .costs) (v .table) views records (length sent) (length held) y d)

@@ -1,14 +1,14 @@
 -- The forwarding choice of a bridge for a destination, made of its ends one after another, the lowest first (document 01,
 -- "Forwarding"; document 02, Changes 1 and 2), and the claim that it comes to the verdict of the forwarding rule. A choice has the bridge's distance in its view and
 -- whether it is the destination; whether some end reaches the distance ("whose cost plus far bridge's distance equals Y's distance"), with what the rule
--- asks of the first such end; and whether the sent limit of some end is not above the distance, with the link of the first. Assumes nothing.
-use Prim.Native.Nat.{ℕ, zero, suc, _+_, _*_}
+-- asks of the first such end; and whether at some end that is up the sent limit is not above the distance, with the link of the first. Assumes nothing.
+use Prim.Native.Nat.{ℕ, zero, suc, _*_}
 use mathlib.Core.Path.{_≡_}
 use mathlib.Core.Bool.{Bool, false, cond, _&&_, _||_, not}
 use lib.Dec.{eqb, leb, ltb}
-use Rattle.distances.specs.View.{Graph, Costs, NONE, maxCost}
+use Rattle.distances.specs.View.{Graph, Costs, maxCost}
 use Rattle.agreement.specs.Offer.{linkOf, farBridge}
-use Rattle.agreement.specs.Forwarding.{Records, isDown, firstOf, verdict, portOf}
+use Rattle.agreement.specs.Forwarding.{Records, isDown, reachesDistance, hasNoPath, heldTooGreat, sentNotAbove, firstOf, verdict, portOf}
 use Rattle.agreement.specs.Call.{Response, says, refused}
 use Rattle.agreement.specs.declared.Port.{Port}
 use Rattle.agreement.specs.declared.Verdict.{Verdict}
@@ -30,43 +30,36 @@ firstChoice distance isDestination =
       barred = false;
     }
 
--- does a link of this cost, 0 being absent, to a far bridge at this distance reach the bridge's distance
-abbrev pub reachesDistance : Choice → ℕ → ℕ → Bool
-reachesDistance old cost far = not (eqb cost 0) && eqb (cost + far) (old .distance)
-
--- is it the first link that does
+-- is a link of this cost to a far bridge at this distance the first that reaches the bridge's distance
 abbrev pub becomesChosen : Choice → ℕ → ℕ → Bool
-becomesChosen old cost far = not (old .found) && reachesDistance old cost far
+becomesChosen old cost far = not (old .found) && reachesDistance cost far (old .distance)
 
--- is its sent limit not above the bridge's distance, and the link up at the bridge's end
-abbrev pub bars : Choice → Bool → ℕ → Bool
-bars old down sent = not down && leb sent (old .distance)
-
--- is it the first such link
+-- is a link the first that is up and whose sent limit is not above the bridge's distance
 abbrev pub becomesBarring : Choice → Bool → ℕ → Bool
-becomesBarring old down sent = not (old .barred) && bars old down sent
+becomesBarring old down sent = not (old .barred) && sentNotAbove down sent (old .distance)
 
 -- with one end more of the bridge: its link, the link's cost and the far bridge's distance in the bridge's view, whether the link is down
--- at the bridge's end, whether a view is held from the neighbour, and the sent and held limits for the destination; "held limit": NONE if none is held
+-- at the bridge's end, whether a view is held from the neighbour, and the sent and held limits for the destination. Of what is held the limit is asked for only
+-- where something is
 unfoldable pub nextChoice : Choice → ℕ → ℕ → ℕ → Bool → Bool → ℕ → ℕ → Choice
 nextChoice old link cost far down holding sent held =
     record {
       distance = old .distance;
-      held = cond (becomesChosen old cost far) (cond holding held NONE) (old .held);
+      held = cond (becomesChosen old cost far) held (old .held);
       link = cond (becomesChosen old cost far) link (old .link);
       barring = cond (becomesBarring old down sent) link (old .barring);
       destination = old .destination;
-      found = old .found || reachesDistance old cost far;
+      found = old .found || reachesDistance cost far (old .distance);
       down = cond (becomesChosen old cost far) down (old .down);
       holding = cond (becomesChosen old cost far) holding (old .holding);
-      barred = old .barred || bars old down sent;
+      barred = old .barred || sentNotAbove down sent (old .distance);
     }
 
 -- the verdict by the ends so far
 unfoldable pub verdictBy : Choice → Verdict
 verdictBy c =
-    firstOf (c .destination) (eqb (c .distance) NONE) (not (c .found)) (c .down) (not (c .holding)) (ltb (c .distance) (c .held)) (c .barred)
-    (c .link) (c .barring)
+    firstOf (c .destination) (hasNoPath (c .distance)) (not (c .found)) (c .down) (not (c .holding)) (heldTooGreat (c .distance) (c .held))
+    (c .barred) (c .link) (c .barring)
 
 -- and the port
 abbrev pub portBy : Choice → Port

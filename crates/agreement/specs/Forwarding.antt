@@ -6,7 +6,6 @@ use mathlib.Core.Path.{_≡_}
 use mathlib.Core.Bool.{Bool, true, false, cond, _&&_, not}
 use lib.Dec.{eqb, leb, ltb}
 use Rattle.distances.specs.View.{Graph, Costs, NONE}
-use Rattle.distances.specs.Distance.{present}
 use Rattle.agreement.specs.Tests.{firstBelow}
 use Rattle.agreement.specs.Offer.{linkOf, farBridge}
 use Rattle.agreement.specs.Record.{heldLimit}
@@ -37,25 +36,29 @@ UpAt r e = isDown r e ≡ false
 abbrev pub DownAt : Records → ℕ → Type 0
 DownAt r e = isDown r e ≡ true
 
--- the bridge has end e; its link is present, and its cost plus the far bridge's distance equals the bridge's distance
+-- a link of this cost is present, 0 being absent, and its "cost plus far bridge's distance equals Y's distance"
+abbrev pub reachesDistance : ℕ → ℕ → ℕ → Bool
+reachesDistance cost far distance = not (eqb cost 0) && eqb (cost + far) distance
+
+-- the bridge has end e, and its link reaches the bridge's distance
 unfoldable pub reaches : Graph → Costs → (ℕ → ℕ → ℕ) → ℕ → ℕ → ℕ → Bool
-reaches g c f y d e = eqb (g .bridgeAt e) y && (present c (linkOf e) && eqb (c (linkOf e) + f (farBridge g e) d) (f y d))
+reaches g c f y d e = eqb (g .bridgeAt e) y && reachesDistance (c (linkOf e)) (f (farBridge g e) d) (f y d)
 
 -- the end of the "chosen link", or 2 × links where no link reaches the distance
 unfoldable pub chosenEnd : Graph → Costs → (ℕ → ℕ → ℕ) → ℕ → ℕ → ℕ
 chosenEnd g c f y d = firstBelow (2 * g .links) (reaches g c f y d)
 
--- ---- what holds the port shut, a test for each condition in document 02's order (Change 2); e is the chosen link's end
+-- ---- what holds the port shut, a test for each condition in document 02's order (Change 2)
 
 -- "is the destination"
 unfoldable pub isDestination : ℕ → ℕ → Bool
 isDestination y d = eqb y d
 
 -- "no path": the distance is NONE
-unfoldable pub hasNoPath : (ℕ → ℕ → ℕ) → ℕ → ℕ → Bool
-hasNoPath f y d = eqb (f y d) NONE
+abbrev pub hasNoPath : ℕ → Bool
+hasNoPath distance = eqb distance NONE
 
--- no link reaches the distance; where neither of the two above applies this is never so of a view's own distances
+-- no link reaches the distance, e being the chosen link's end; where neither of the two above applies this is never so of a view's own distances
 unfoldable pub hasNoLink : Graph → ℕ → Bool
 hasNoLink g e = not (ltb e (2 * g .links))
 
@@ -66,17 +69,22 @@ unfoldable pub holdsNothing : Records → ℕ → Bool
 holdsNothing r e = not (r .ends e .holding)
 
 -- "held limit too great"
-unfoldable pub heldTooGreat : (ℕ → ℕ → ℕ) → Records → ℕ → ℕ → ℕ → Bool
-heldTooGreat f r y d e = ltb (f y d) (heldLimit (r .ends e) (r .held e) d)
+abbrev pub heldTooGreat : ℕ → ℕ → Bool
+heldTooGreat distance limit = ltb distance limit
 
--- "sent limit not above the distance", at an end of the bridge that is up
-unfoldable pub sentNotAbove : Graph → (ℕ → ℕ → ℕ) → Records → ℕ → ℕ → ℕ → Bool
-sentNotAbove g f r y d k = eqb (g .bridgeAt k) y && (isUp r k && leb (r .sent k d) (f y d))
+-- "sent limit not above the distance", at an end that is up
+abbrev pub sentNotAbove : Bool → ℕ → ℕ → Bool
+sentNotAbove down limit distance = not down && leb limit distance
+
+-- the bridge has end k, and its sent limit there is such a one
+unfoldable pub bars : Graph → (ℕ → ℕ → ℕ) → Records → ℕ → ℕ → ℕ → Bool
+bars g f r y d k = eqb (g .bridgeAt k) y && sentNotAbove (isDown r k) (r .sent k d) (f y d)
 
 -- the lowest such end, or 2 × links where there is none
 unfoldable pub barringEnd : Graph → (ℕ → ℕ → ℕ) → Records → ℕ → ℕ → ℕ
-barringEnd g f r y d = firstBelow (2 * g .links) (sentNotAbove g f r y d)
+barringEnd g f r y d = firstBelow (2 * g .links) (bars g f r y d)
 
+-- there is such an end
 unfoldable pub isBarred : Graph → (ℕ → ℕ → ℕ) → Records → ℕ → ℕ → Bool
 isBarred g f r y d = ltb (barringEnd g f r y d) (2 * g .links)
 
@@ -93,11 +101,13 @@ firstOf destination noPath noLink down nothing tooGreat barred chosen barring =
     (cond tooGreat (HeldTooGreat chosen)
     (cond barred (SentNotAbove barring) (Forwards chosen)))))))
 
+-- by the chosen link's end e, 2 × links where no link reaches the distance
 unfoldable pub verdictFrom : Graph → (ℕ → ℕ → ℕ) → Records → ℕ → ℕ → ℕ → Verdict
 verdictFrom g f r y d e =
-    firstOf (isDestination y d) (hasNoPath f y d) (hasNoLink g e) (isDown r e) (holdsNothing r e) (heldTooGreat f r y d e) (isBarred g f r y d)
-    (linkOf e) (linkOf (barringEnd g f r y d))
+    firstOf (isDestination y d) (hasNoPath (f y d)) (hasNoLink g e) (isDown r e) (holdsNothing r e)
+    (heldTooGreat (f y d) (heldLimit (r .ends e) (r .held e) d)) (isBarred g f r y d) (linkOf e) (linkOf (barringEnd g f r y d))
 
+-- of bridge y for destination d
 unfoldable pub verdict : Graph → Costs → (ℕ → ℕ → ℕ) → Records → ℕ → ℕ → Verdict
 verdict g c f r y d = verdictFrom g f r y d (chosenEnd g c f y d)
 

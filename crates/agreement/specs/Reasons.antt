@@ -14,17 +14,11 @@ use Rattle.agreement.specs.Rule as rule
 use Rattle.agreement.specs.declared.Verdict.{Verdict}
 use Rattle.agreement.specs.declared.Verdict.the-variants.{IsDestination, NoPath, NoLink, LinkDown, NothingHeld, HeldTooGreat, SentNotAbove, Forwards}
 
--- neither "is the destination" nor "no path" applies, and the chosen link is l, by y's end e of it
-pub record Chooses (g : Graph) (c : Costs) (f : ℕ → ℕ → ℕ) (y d l e : ℕ) : Type 0 where
+-- neither "is the destination" nor "no path" applies, and e is y's end of the chosen link
+pub record Chooses (g : Graph) (c : Costs) (f : ℕ → ℕ → ℕ) (y d e : ℕ) : Type 0 where
   pub notDestination : y ≡ d → ⊥
   pub hasPath : f y d ≡ NONE → ⊥
   pub chosen : IsChosen g c f y d e
-  pub link : linkOf e ≡ l
-
--- a view is held at end e, and its "held limit" is not too great
-pub record HoldsEnough (f : ℕ → ℕ → ℕ) (r : Records) (y d e : ℕ) : Type 0 where
-  pub something : r .ends e .holding ≡ true
-  pub limit : heldLimit (r .ends e) (r .held e) d ≤ f y d
 
 -- "sent limit not above the distance" at end k: it "concerns links up at this end"
 pub record Bars (g : Graph) (f : ℕ → ℕ → ℕ) (r : Records) (y d k : ℕ) : Type 0 where
@@ -48,15 +42,16 @@ Means g c f r y d NoPath = (y ≡ d → ⊥) × (f y d ≡ NONE)
 -- no link reaches the distance: of distances that are not the view's
 Means g c f r y d NoLink = (y ≡ d → ⊥) × (f y d ≡ NONE → ⊥) × ((e : ℕ) → e < 2 * g .links → Reaches g c f y d e → ⊥)
 -- "chosen link down at this end"
-Means g c f r y d (LinkDown l) = (e : ℕ) × Chooses g c f y d l e × DownAt r e
+Means g c f r y d (LinkDown l) = (e : ℕ) × Chooses g c f y d e × (linkOf e ≡ l) × DownAt r e
 -- "nothing held"
-Means g c f r y d (NothingHeld l) = (e : ℕ) × Chooses g c f y d l e × UpAt r e × (r .ends e .holding ≡ false)
+Means g c f r y d (NothingHeld l) = (e : ℕ) × Chooses g c f y d e × (linkOf e ≡ l) × UpAt r e × (r .ends e .holding ≡ false)
 -- "held limit too great"
 Means g c f r y d (HeldTooGreat l) =
-    (e : ℕ) × Chooses g c f y d l e × UpAt r e × (r .ends e .holding ≡ true) × (f y d < heldLimit (r .ends e) (r .held e) d)
+    (e : ℕ) × Chooses g c f y d e × (linkOf e ≡ l) × UpAt r e × (r .ends e .holding ≡ true) × (f y d < heldLimit (r .ends e) (r .held e) d)
 -- "sent limit not above the distance"
 Means g c f r y d (SentNotAbove l) =
-    (e : ℕ) × Chooses g c f y d (linkOf e) e × UpAt r e × HoldsEnough f r y d e × ((k : ℕ) × IsLowestBar g f r y d l k)
+    (e : ℕ) × Chooses g c f y d e × UpAt r e × (r .ends e .holding ≡ true) × (heldLimit (r .ends e) (r .held e) d ≤ f y d)
+    × ((k : ℕ) × IsLowestBar g f r y d l k)
 -- "Otherwise it says that the port forwards, and which": by document 01's rule
 Means g c f r y d (Forwards l) = (e : ℕ) × rule.Forwards g c f r y d l e
 
@@ -76,7 +71,7 @@ verdictNumbers (Forwards link) = 0 ∷ link ∷ []
 abbrev pub VerdictIsSo : Type 0
 VerdictIsSo = (g : Graph) (c : Costs) (f : ℕ → ℕ → ℕ) (r : Records) (y d : ℕ) → Means g c f r y d (verdict g c f r y d)
 
--- and no other is. Every distance is at most NONE
+-- and no other is, where the bridge's distance is at most NONE, as every distance is
 abbrev pub NoOtherVerdict : Type 0
 NoOtherVerdict =
     (g : Graph) →

@@ -281,7 +281,7 @@ pub fn deliver_end(
 }
 
 // The verdict on the port of a bridge on the lent view for a destination: which condition holds it shut, or that it forwards. `down` and
-// `records` are by end; the bridge looks at its own.
+// `records` are by end; the bridge looks at its own, and the other records have to be in range.
 pub fn verdict(
     bridges: usize,
     links: usize,

@@ -11,12 +11,9 @@ use distances::sizes::MAX_COST;
 use distances::sizes::MOST_LINKS;
 use distances::sizes::NONE;
 ghost use mathlib.Core.Path.{_≡_};
-ghost use mathlib.Core.Bool.{_&&_, not, cond};
-ghost use Prim.Native.Nat.{_+_};
-ghost use lib.Dec.{eqb};
-ghost use Rattle.distances.specs.View.{NONE};
+ghost use mathlib.Core.Bool.{cond};
 ghost use Rattle.agreement.specs.Call.{verdictResponse};
-ghost use Rattle.agreement.specs.Forwarding.{portOf};
+ghost use Rattle.agreement.specs.Forwarding.{reachesDistance, portOf};
 ghost use Rattle.agreement.specs.Choice.{firstChoice, nextChoice, verdictBy, chosenResponse, nextOutcome, choiceOutcome};
 
 // The links are numbered below this.
@@ -40,17 +37,10 @@ pub fn first_choice(distance: u32, is_destination: bool) -> Choice
 }
 
 fn reaches(distance: u32, cost: u32, far: u32) -> bool
-    ensures { λ r. ⌜ r ≡ (not (eqb cost 0) && eqb (cost + far) distance) ⌝ }
+    ensures { λ r. ⌜ r ≡ reachesDistance cost far distance ⌝ }
 {
     let sum = cost as u64 + far as u64;
     both(cost != 0, sum == distance as u64)
-}
-
-// NONE if no view is held.
-fn held_limit(holding: bool, held: u32) -> u32
-    ensures { λ r. ⌜ r ≡ cond holding held NONE ⌝ }
-{
-    if holding { held } else { NONE }
 }
 
 fn link_if(test: bool, link: u8, otherwise: u8) -> u8
@@ -79,7 +69,7 @@ pub(crate) fn choice_with(
     if both(!old.found, reaches(distance, cost, far)) {
         return Choice {
             distance,
-            held: held_limit(holding, held),
+            held,
             link,
             barring,
             destination: old.destination,

@@ -40,8 +40,8 @@ pub enum Port {
 }
 
 // What the forwarding rule says of a bridge's port for a destination: the first condition that holds the port shut, with the link concerned, or
-// that it forwards, and on which link. `NoLink`, no link of the bridge reaches its distance, is said only where the lent distances are not
-// those of the view.
+// that it forwards, and on which link. `NoLink`: no link reaches the bridge's distance. By all of a bridge's ends that is said only where the lent
+// distances are not those of the view.
 pub enum Verdict {
     IsDestination,
     NoPath,
@@ -54,8 +54,8 @@ pub enum Verdict {
 }
 
 // The forwarding choice of a bridge by some of its ends: the bridge's distance; whether the bridge is the destination; whether some end reaches the
-// distance, and of the first such end its link, whether it is down, whether a view is held there, and the held limit; whether at some end that is up the
-// sent limit is not above the distance, and the link of the first such end.
+// distance, and of the first such end its link, whether it is down, whether a view is held there, and the limit that stands in its row; whether at some
+// end that is up the sent limit is not above the distance, and the link of the first such end.
 pub struct Choice {
     pub distance: u32,
     pub held: u32,

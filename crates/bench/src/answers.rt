@@ -41,7 +41,7 @@ pub fn verdict(
     if !ready::network_in_range(bench, costs, sent.len(), held.len()) {
         return VerdictReply::Refused(17);
     }
-    let refusal = refusals::port_refusal(bench.bridges, bridge, dest);
+    let refusal = refusals::verdict_refusal(bench.bridges, bridge, dest);
     if refusal != 0 {
         return VerdictReply::Refused(refusal);
     }
@@ -165,7 +165,7 @@ pub(crate) fn path_ready(
     ensures { λ r. ⌜ pathResponse r ≡ pathOf (state bench (now (costs .entry)) (now (sent .entry)) (now (held .entry)) []) start dest ⌝ }
     ensures { λ r. ⌜ Tables bench (now (costs .entry)) (now (tables .exit)) (now (known .exit)) ⌝ }
 {
-    let refusal = refusals::port_refusal(bench.bridges, start, dest);
+    let refusal = refusals::verdict_refusal(bench.bridges, start, dest);
     if refusal != 0 {
         return PathReply::Refused(refusal);
     }

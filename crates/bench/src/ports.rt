@@ -67,6 +67,7 @@ fn found_verdict(choice: Choice) -> Verdict
     let found = verdict_by(choice);
     match found {
         VerdictReply::Found(verdict) => verdict,
+        // never, by the requirement: any verdict serves
         VerdictReply::Refused => Verdict::NoLink,
     }
 }

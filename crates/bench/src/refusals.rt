@@ -1,4 +1,4 @@
-// What turns a call down, by document 01's table and document 02's Change 1, once the ranges are checked: its number, 0 where nothing does. Each takes the numbers that
+// What turns a call down, by document 01's table and document 02's Changes 1 and 2, once the ranges are checked: its number, 0 where nothing does. Each takes the numbers that
 // it looks at, of a bench that has them.
 use crate::queue::arrival_end;
 use crate::queue::end_of;
@@ -10,7 +10,7 @@ ghost use mathlib.Core.Bool.{cond, not};
 ghost use mathlib.Core.List.{List, [], _∷_};
 ghost use Prim.Native.Nat.{_≤_, _<_};
 ghost use lib.ListN.{length};
-ghost use Rattle.protocol.specs.Calls.{Check, change, update, send, deliver, lose, port, report, refusal, refuse, noSuchBridge, noSuchLink, notOnLink};
+ghost use Rattle.protocol.specs.Calls.{Check, change, update, send, deliver, lose, verdict, report, refusal, refuse, noSuchBridge, noSuchLink, notOnLink};
 ghost use Rattle.bench.specs.Contracts.{orRefused};
 ghost use Rattle.bench.specs.Private.Changes.{switch};
 ghost use Rattle.bench.specs.Private.Effects.{LinkFits};
@@ -152,9 +152,9 @@ pub(crate) fn report_refusal(bridges: usize, dest: usize) -> u8
     0
 }
 
-// For `verdict`, and so `port`, and for `path`, which has the same checks.
-pub(crate) fn port_refusal(bridges: usize, bridge: usize, dest: usize) -> u8
-    ensures { λ r. ⌜ ((b : Bench) → b .bridges ≡ bridges → r ≡ refuse (networkOf b []) (port bridge dest)) ⌝ }
+// For `verdict` and `port`, and for `path`, which has the same checks.
+pub(crate) fn verdict_refusal(bridges: usize, bridge: usize, dest: usize) -> u8
+    ensures { λ r. ⌜ ((b : Bench) → b .bridges ≡ bridges → r ≡ refuse (networkOf b []) (verdict bridge dest)) ⌝ }
 {
     if bridges <= bridge {
         return 10;

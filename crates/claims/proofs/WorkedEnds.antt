@@ -62,7 +62,8 @@ worked-ends claims =
       noLink = claims .verdict triangle view1 (λ i j. 7) (after [] .records) 1 0 .2;
       lentOffers = claims .lentOffers lent lent-ready holds 3 0 (omega arith) (omega arith);
       lentVerdict = claims .lentVerdict lent lent-ready holds (after callsE6 .records) 1 0 (omega arith) (omega arith) .0;
-      lentLink = claims .lentVerdict lent lent-ready holds (after callsE6 .records) 1 0 (omega arith) (omega arith) .1;
+      lentOnly = λ v is. sym (claims .lentVerdict lent lent-ready holds (after callsE6 .records) 1 0 (omega arith) (omega arith) .1 v is);
+      lentLink = claims .lentVerdict lent lent-ready holds (after callsE6 .records) 1 0 (omega arith) (omega arith) .2;
       plainUpdate = ap (λ (o : Outcome ℕ). cell (o .sent) 3 0) (sym (claims .plainEnds .update lent 2 1 3 freshRecord limits limits refl));
       plainDelivery =
           ap (λ (o : Outcome (Response Answer)). cell (o .held) 2 0) (sym (claims .plainEnds .deliver lent 2 1 1 2 freshRecord message limits limits refl));

@@ -72,8 +72,6 @@ events = Report 0 ∷ Cut 0 0 ∷ Cut 0 0 ∷ Cut 1 0 ∷ []
 pub record WorkedCalls : Type 0 where
   -- E3: the call replies that bridge 2's port is open on link 1, that its path is delivered after two hops, and that its distance is 2
   pub port : outcomeOf (left callsE3) (calls.port 2 0) (λ n. forwardingPort n 2 0) ≡ outcome (says (Open 1)) (left callsE3)
-  -- E6: that at bridge 1 the sent limit on link 1 is not above the distance
-  pub verdict : outcomeOf (left callsE6) (calls.verdict 1 0) (λ n. forwardingVerdict n 1 0) ≡ outcome (says (SentNotAbove 1)) (left callsE6)
   pub path : outcomeOf (left callsE3) (calls.path 2 0) (λ n. path n 2 0) ≡ outcome (says (delivered 2)) (left callsE3)
   pub report : (let rows = reportOf (left callsE3) 0 (replicate 32 5) .rows in (getD rows 4 0 ≡ 2) × (getD rows 5 0 ≡ 1))
   -- by document 01's conditions, on what stands in the caller's numbers; and one message is in flight there
@@ -86,14 +84,16 @@ pub record WorkedCalls : Type 0 where
   -- E6: at bridge 1's end of link 1 the caller's tables have the limits 2, sent, and 4, held
   pub sent : cell (left callsE6 .sent) 2 0 ≡ 2
   pub held : cell (left callsE6 .held) 2 0 ≡ 4
+  -- and of its port the call replies that the sent limit on link 1 is not above the distance
+  pub verdict : outcomeOf (left callsE6) (calls.verdict 1 0) (λ n. forwardingVerdict n 1 0) ≡ outcome (says (SentNotAbove 1)) (left callsE6)
   -- E8: the delivery is accepted, and stale
   pub accepted : refusalOf (readyFor (left callsE7) (calls.deliver 0)) (network (left callsE7)) (calls.deliver 0) ≡ 0
   pub stale : answerAt (network (left callsE7)) 0 ≡ Stale
   -- a cut of a link that is not there changes nothing, and asking neither
   pub refused : leftBy started (change (cut 0 9)) ≡ started
+  pub asking : (leftBy started (calls.port 2 0) ≡ started) × (leftBy started (calls.verdict 2 0) ≡ started) × (leftBy started (calls.report 0) ≡ started) × (leftBy started (calls.path 2 0) ≡ started)
   -- a verdict of a bridge that is not there is refused with 10
   pub lacking : refusalOf (readyFor started (calls.verdict 3 0)) (network started) (calls.verdict 3 0) ≡ 10
-  pub asking : (leftBy started (calls.port 2 0) ≡ started) × (leftBy started (calls.verdict 2 0) ≡ started) × (leftBy started (calls.report 0) ≡ started) × (leftBy started (calls.path 2 0) ≡ started)
   -- E7: bridge 1's frame goes to bridge 2, and so none of bridge 2 goes to bridge 1
   pub noRing : (l : ℕ) → hop (calls.run (fresh (network lentState .plan)) callsE7) 0 2 ≡ crosses l 1 → ⊥
   -- a report is not refused where there is room for its rows

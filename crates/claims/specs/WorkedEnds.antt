@@ -58,8 +58,11 @@ pub record WorkedEnds : Type 0 where
   pub noLink : (e : ℕ) → e < 6 → Reaches triangle view1 (λ i j. 7) 1 0 e → ⊥
   -- bridge 2's offer over link 1 for bridge 0 in view 1 is 4, of a lent view too
   pub lentOffers : lentOffer lent 3 0 ≡ 4
-  -- E6, of view 1 as it is lent: the same of bridge 1's sent limit, and it has a chosen link
+  -- E6, of view 1 as it is lent: the same of bridge 1's sent limit, nothing else is so, and it has a chosen link
   pub lentVerdict : verdict (lentGraph lent) (costsOf (lent .costs)) (cell (lent .table)) (after callsE6 .records) 1 0 ≡ SentNotAbove 1
+  pub lentOnly :
+      (v : Verdict) → Means (lentGraph lent) (costsOf (lent .costs)) (dist (lentGraph lent) (costsOf (lent .costs))) (after callsE6 .records) 1 0 v →
+      v ≡ SentNotAbove 1
   pub lentLink : verdict (lentGraph lent) (costsOf (lent .costs)) (cell (lent .table)) (after callsE6 .records) 1 0 ≡ NoLink → ⊥
   -- by plain numbers: bridge 2's end of link 1, end 3, goes to view 1, and its sent limit falls to that offer; the message arrives at bridge 1's
   -- end of link 1, end 2, and bridge 1, on view 1 with number 1, holds 4

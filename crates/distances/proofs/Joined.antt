@@ -26,10 +26,6 @@ pub cost-present : (c : Costs) (l : ℕ) → (c l ≡ 0 → ⊥) → present c l
 unfolding present
 cost-present c l h = rw (ne-eqb (c l) 0 h)
 
-pub present-same : (c d : Costs) (l : ℕ) → c l ≡ d l → present c l ≡ present d l
-unfolding present
-present-same c d l e = rw e
-
 -- by no link
 pub unjoined-self : (i : ℕ) → unjoined i i ≡ 0
 unfolding unjoined

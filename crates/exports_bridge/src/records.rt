@@ -276,7 +276,7 @@ fn lent_verdict(
     )
 }
 
-// The port of `agreement::calls::port`: the link, or 4,294,967,295 where no port forwards, goes to out[0].
+// The port by the verdict of `agreement::calls::verdict`: the link, or 4,294,967,295 where no port forwards, goes to out[0].
 // `down` has a flag for each of 64 ends, `records` their records.
 #[no_mangle]
 pub extern "C" fn bench_port(

@@ -10,6 +10,7 @@ use Rattle.distances.specs.Table.{rewritten}
 use Rattle.distances.specs.Call.{allBelow}
 use Rattle.agreement.specs.Record.{freshRecord, answerNumbers}
 use Rattle.agreement.specs.Reasons.{verdictNumbers}
+use Rattle.protocol.specs.Net.{Network}
 use Rattle.protocol.specs.Calls.{Call, change, update, cut, restore, send, deliver, repeat, lose, port, verdict, path, answerAt}
 use Rattle.protocol.specs.Ports.{forwardingVerdict, forwardingPort}
 use Rattle.protocol.specs.Paths as paths
@@ -124,20 +125,22 @@ netDeliverReply xs costs sent held messages out p = deliveryReply (deliver p) p 
 unfoldable pub netRepeatReply : List ℕ → List ℕ → List ℕ → List ℕ → List ℕ → List ℕ → ℕ → CallOutcome
 netRepeatReply xs costs sent held messages out p = deliveryReply (repeat p) p xs (state (benchIn xs) costs sent held messages) out
 
+-- a call that only asks: the numbers of its value go to `out`, which has room for them
+abbrev pub askReply : {A : Type 0} → ℕ → (A → List ℕ) → Call → (Network → A) → List ℕ → State → List ℕ → CallOutcome
+askReply size numbers c value xs s out =
+    ifLong (holdsBench xs && leb size (length out)) (out ∷ []) (valueReply numbers out (outcomeOf s c value .reply))
+
 unfoldable pub netPortReply : List ℕ → List ℕ → List ℕ → List ℕ → ℕ → ℕ → List ℕ → CallOutcome
 netPortReply xs costs sent held y d out =
-    ifLong (holdsBench xs && leb 1 (length out)) (out ∷ [])
-    (valueReply portNumbers out (outcomeOf (state (benchIn xs) costs sent held []) (port y d) (λ n. forwardingPort n y d) .reply))
+    askReply 1 portNumbers (port y d) (λ n. forwardingPort n y d) xs (state (benchIn xs) costs sent held []) out
 
 unfoldable pub netVerdictReply : List ℕ → List ℕ → List ℕ → List ℕ → ℕ → ℕ → List ℕ → CallOutcome
 netVerdictReply xs costs sent held y d out =
-    ifLong (holdsBench xs && leb 2 (length out)) (out ∷ [])
-    (valueReply verdictNumbers out (outcomeOf (state (benchIn xs) costs sent held []) (verdict y d) (λ n. forwardingVerdict n y d) .reply))
+    askReply 2 verdictNumbers (verdict y d) (λ n. forwardingVerdict n y d) xs (state (benchIn xs) costs sent held []) out
 
 unfoldable pub netPathReply : List ℕ → List ℕ → List ℕ → List ℕ → ℕ → ℕ → List ℕ → CallOutcome
 netPathReply xs costs sent held y d out =
-    ifLong (holdsBench xs && leb 3 (length out)) (out ∷ [])
-    (valueReply pathNumbers out (outcomeOf (state (benchIn xs) costs sent held []) (path y d) (λ n. paths.path n y d) .reply))
+    askReply 3 pathNumbers (path y d) (λ n. paths.path n y d) xs (state (benchIn xs) costs sent held []) out
 
 unfoldable pub netReportReply : List ℕ → List ℕ → List ℕ → List ℕ → ℕ → List ℕ → CallOutcome
 netReportReply xs costs sent held d rows =

@@ -78,9 +78,9 @@ pointing =
     (change (update 2 1) ∷ send 2 3 ∷ deliver 0 ∷ change (update 2 0) ∷ send 0 0 ∷ deliver 0 ∷ send 1 2 ∷ deliver 0
     ∷ change (cut 1 2) ∷ change (update 1 1) ∷ [])
 
--- the same links with link 3 in view 0 too
-abbrev pub trebled : Plan
-trebled =
+-- the same links with link 3 in both views
+abbrev pub doubledInBoth : Plan
+doubledInBoth =
     record {
       graph = doubled .graph;
       views = 2;
@@ -132,9 +132,10 @@ answered cs p = answerNumber (answerAt (after cs) p)
 -- receiver's is. Next (`pointing`): for destination 0 bridge 1's port is on link 3, to bridge 2, and bridge 2's on link 2, to bridge 1; the path from 1
 -- stops at 2 after 1 hop, for the frame dies on link 2.
 -- Then the verdicts for destination 0 of E2 to E7, bridges 0, 1, 2 in E2 and 1, 2 after it: the destination, nothing held over the chosen link, what is
--- held too great, the sent limit not above the distance, forwards. Next bridge 1's own end of its chosen link is cut, after E3 and at once, where
--- nothing is held either; and fresh it goes to view 1, where nothing is held and a sent limit bars too. Then the only sent limit that bars is on another
--- link than the chosen one; cut at bridge 1's end, it does not bar. Then two bar, and the lower is named; cut at bridge 1's end, the other is. Last, no path
+-- held too great, the sent limit not above the distance, forwards. Next bridge 1's own end of its chosen link is cut: after E3; in the fresh network,
+-- where nothing is held either; and after E4, where what is held is too great. Fresh it goes to view 1, where nothing is held and a sent limit bars too. Then
+-- the only sent limit that bars is on another link than the chosen one; cut at bridge 1's end, it does not bar; with the chosen link cut there, that comes
+-- first. Then two bar, and the lower is named; cut at bridge 1's end, the other is. Last, no path
 abbrev pub allExamples : List Example
 allExamples =
     examples
@@ -179,10 +180,16 @@ allExamples =
     ∷ record { found = why callsE3 1 ++ why callsE3 2 ++ why callsE4 1 ++ why callsE4 2; stated = 0 ∷ 0 ∷ 0 ∷ 1 ∷ 5 ∷ 1 ∷ 0 ∷ 1 ∷ [] }
     ∷ record { found = why callsE5 1 ++ why callsE5 2 ++ why callsE6 1 ++ why callsE6 2; stated = 5 ∷ 1 ∷ 0 ∷ 2 ∷ 6 ∷ 1 ∷ 0 ∷ 2 ∷ [] }
     ∷ record { found = why callsE7 1 ++ why callsE7 2; stated = 0 ∷ 1 ∷ 0 ∷ 2 ∷ [] }
-    ∷ record { found = why callsOwnEnd 1; stated = 3 ∷ 0 ∷ [] }
-    ∷ record { found = why (change (cut 1 0) ∷ []) 1 ++ why (change (update 1 1) ∷ []) 1; stated = 3 ∷ 0 ∷ 4 ∷ 1 ∷ [] }
-    ∷ record { found = whyBarred doubled [] ++ whyBarred doubled (change (cut 1 2) ∷ []); stated = 6 ∷ 2 ∷ 0 ∷ 3 ∷ [] }
-    ∷ record { found = whyBarred trebled [] ++ whyBarred trebled (change (cut 1 2) ∷ []); stated = 6 ∷ 2 ∷ 6 ∷ 3 ∷ [] }
+    ∷ record {
+      found = why callsOwnEnd 1 ++ why (change (cut 1 0) ∷ []) 1 ++ why (callsE4 ++ (change (cut 1 1) ∷ [])) 1;
+      stated = 3 ∷ 0 ∷ 3 ∷ 0 ∷ 3 ∷ 1 ∷ [];
+    }
+    ∷ record { found = why (change (update 1 1) ∷ []) 1; stated = 4 ∷ 1 ∷ [] }
+    ∷ record {
+      found = whyBarred doubled [] ++ whyBarred doubled (change (cut 1 2) ∷ []) ++ whyBarred doubled (change (cut 1 3) ∷ []);
+      stated = 6 ∷ 2 ∷ 0 ∷ 3 ∷ 3 ∷ 3 ∷ [];
+    }
+    ∷ record { found = whyBarred doubledInBoth [] ++ whyBarred doubledInBoth (change (cut 1 2) ∷ []); stated = 6 ∷ 2 ∷ 6 ∷ 3 ∷ [] }
     ∷ record { found = verdictNumbers (forwardingVerdict (fresh unlinked) 1 0); stated = 2 ∷ NONE ∷ [] }
     ∷ [])
 

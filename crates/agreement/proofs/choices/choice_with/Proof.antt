@@ -22,18 +22,13 @@ reaches-requires c κs = search needs
 both-requires-3 : tie.Need-both-requires-3
 both-requires-3 c κs = search needs
 
-held-limit-requires : tie.Need-held-limit-requires
-held-limit-requires c κs = search needs
-
 returns : tie.Need-returns
 returns c =
-    next-chosen _ _ _ _ _ _ _ _ (c .before .before .both3 .ensures) (c .before .before .before .reaches .ensures) (c .before .before .before .before .before .either .ensures) (c .before .before .before .before .before .before .link-if .ensures) (c .before .before .before .before .before .before .before .both2 .ensures) (c .before .before .before .before .before .before .before .before .before .both .ensures)
-    (c .before .if1 .taken) (c .held-limit .ensures)
+    next-chosen _ _ _ _ _ _ _ _ (c .before .both3 .ensures) (c .before .before .reaches .ensures) (c .before .before .before .before .either .ensures) (c .before .before .before .before .before .link-if .ensures) (c .before .before .before .before .before .before .both2 .ensures) (c .before .before .before .before .before .before .before .before .both .ensures) (c .if1 .taken)
 
 returns-2 : tie.Need-returns-2
 returns-2 c =
-    next-kept _ _ _ _ _ _ _ _ (c .before .both3 .ensures) (c .before .before .reaches .ensures) (c .before .before .before .before .either .ensures) (c .before .before .before .before .before .link-if .ensures) (c .before .before .before .before .before .before .both2 .ensures) (c .before .before .before .before .before .before .before .before .both .ensures)
-    (c .if1 .left)
+    next-kept _ _ _ _ _ _ _ _ (c .before .both3 .ensures) (c .before .before .reaches .ensures) (c .before .before .before .before .either .ensures) (c .before .before .before .before .before .link-if .ensures) (c .before .before .before .before .before .before .both2 .ensures) (c .before .before .before .before .before .before .before .before .both .ensures) (c .if1 .left)
 
 pub choice-with-spec : {M : Type 1} → statement M
 choice-with-spec =
@@ -45,6 +40,5 @@ choice-with-spec =
     either-requires
     reaches-requires
     both-requires-3
-    held-limit-requires
     returns
     returns-2)

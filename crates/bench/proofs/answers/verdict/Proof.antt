@@ -41,14 +41,14 @@ returns : tie.Need-returns
 unfolding readyFor
 returns c = λ messages. reply-out (StateOf (c .before .before .before .before .before) messages) (verdict (c .before .before .before .before .before .args .bridge) (c .before .before .before .before .before .args .dest)) (λ n. forwardingVerdict n _ _) (sym (c .before .network-in-range .ensures) ∙ not-true _ (c .if1 .taken))
 
-port-refusal-requires : tie.Need-port-refusal-requires
-port-refusal-requires c κs = tt
+verdict-refusal-requires : tie.Need-verdict-refusal-requires
+verdict-refusal-requires c κs = tt
 
 returns-2 : tie.Need-returns-2
 unfolding readyFor refuse checks noSuchBridge
 returns-2 c = λ messages.
     let a = c .before .before .before .before .before .before .before .args in
-    reply-refused (StateOf (c .before .before .before .before .before .before .before) messages) (verdict (a .bridge) (a .dest)) (λ n. forwardingVerdict n (a .bridge) (a .dest)) (sym (c .before .before .before .network-in-range .ensures) ∙ not-false _ (c .before .before .if1 .left)) _ (c .before .port-refusal .ensures (a .bench) refl) (c .if2 .taken)
+    reply-refused (StateOf (c .before .before .before .before .before .before .before) messages) (verdict (a .bridge) (a .dest)) (λ n. forwardingVerdict n (a .bridge) (a .dest)) (sym (c .before .before .before .network-in-range .ensures) ∙ not-false _ (c .before .before .if1 .left)) _ (c .before .verdict-refusal .ensures (a .bench) refl) (c .if2 .taken)
 
 slice-aggregate-end-chains : tie.Need-slice-aggregate-end-chains
 slice-aggregate-end-chains c = sym (placed (c .before .before .before .before .before .before .before .before .before))
@@ -60,7 +60,7 @@ verdict-in-requires : tie.Need-verdict-in-requires
 unfolding refuse checks
 verdict-in-requires c κs =
     let s = (c .before .before .before .before .before .before .before .before .before .before .before .before .before) in
-    let passes = sym (c .before .before .before .before .before .before .before .port-refusal .ensures (c .before .before .before .before .before .before .before .before .before .before .before .before .before .args .bench) refl) ∙ c .before .before .before .before .before .before .if2 .left in
+    let passes = sym (c .before .before .before .before .before .before .before .verdict-refusal .ensures (c .before .before .before .before .before .before .before .before .before .before .before .before .before .args .bench) refl) ∙ c .before .before .before .before .before .before .if2 .left in
     (ports-told _ _ _ _ (sym (c .before .before .before .before .before .before .before .before .before .network-in-range .ensures) ∙ not-false _ (c .before .before .before .before .before .before .before .before .if1 .left)), let two = bridges-listed (networkOf (s .args .bench) []) (s .args .bridge) (s .args .dest) _ passes in (two .0, two .1, tables-none (s .args .bench) _, c .before .before .before .end-chains .ensures))
 
 returns-3 : tie.Need-returns-3
@@ -70,7 +70,7 @@ returns-3 c = λ messages.
     let s = StateOf start messages in
     let a = start .args in
     let ok = sym (c .before .before .before .before .before .before .before .before .before .before .before .before .network-in-range .ensures) ∙ not-false _ (c .before .before .before .before .before .before .before .before .before .before .before .if1 .left) in
-    let none : refuse (network s) (verdict (a .bridge) (a .dest)) ≡ 0 = sym (c .before .before .before .before .before .before .before .before .before .before .port-refusal .ensures (a .bench) refl) ∙ c .before .before .before .before .before .before .before .before .before .if2 .left in
+    let none : refuse (network s) (verdict (a .bridge) (a .dest)) ≡ 0 = sym (c .before .before .before .before .before .before .before .before .before .before .verdict-refusal .ensures (a .bench) refl) ∙ c .before .before .before .before .before .before .before .before .before .if2 .left in
     let two = bridges-listed (network s) (a .bridge) (a .dest) _ none in
     reply-done s (verdict (a .bridge) (a .dest)) (λ n. forwardingVerdict n (a .bridge) (a .dest)) ok none
     (c .before .before .verdict-in .ensures .0 ∙ verdict-is s ok (typed start) (a .bridge) (a .dest) (two .0) (two .1))
@@ -90,7 +90,7 @@ verdict-spec =
     (tie.spec
     network-in-range-requires
     returns
-    port-refusal-requires
+    verdict-refusal-requires
     returns-2
     slice-aggregate-end-chains
     end-chains-requires

@@ -48,10 +48,10 @@ impl Network {
     }
 
     fn ask(&self, bridge: usize, dest: usize) {
-        let mut out = [0; 2];
-        let (bench, costs, sent, held) = (self.bench.as_ptr(), self.costs.as_ptr(), self.sent.as_ptr(), self.held.as_ptr());
-        let refused =
-            unsafe { bench_net_verdict(bench, 420, costs, 1024, sent, 1024, held, 1024, bridge, dest, out.as_mut_ptr(), 2) };
+        let Network { bench, costs, sent, held, .. } = self;
+        let mut out = [0u32; 2];
+        #[rustfmt::skip] // the line of README.md
+        let refused = unsafe { bench_net_verdict(bench.as_ptr(), 420, costs.as_ptr(), 1024, sent.as_ptr(), 1024, held.as_ptr(), 1024, bridge, dest, out.as_mut_ptr(), 2) };
         let words = || WORDS[out[0] as usize];
         match (refused, out[1]) {
             (0, u32::MAX) => println!("{bridge} to {dest}: {}", words()),

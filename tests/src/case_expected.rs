@@ -6,11 +6,13 @@ use crate::flaw::{ask, Flaw, Site};
 use crate::records_numbers::{
     agreement_number, answer_numbers, fields_of, put_fresh_limits, put_limits, records_in, RECORD_FIELDS,
 };
-use crate::verdict::{verdict, verdict_events, verdict_numbers, NO_LINK};
+use crate::verdict::{
+    name_of, shut_by_names, verdict, verdict_events, verdict_numbers, Choice, NO_LINK, OWN_END_DOWN, SENT_ON_OTHER,
+};
 use crate::view::NONE;
 use reference::map::{End, Map, View};
 use reference::network::Network;
-use reference::records::{offer, Answer, Bridge, Held, Message, Records};
+use reference::records::{offer, Answer, Bridge, Message, Records};
 use std::cmp::Ordering;
 
 /// The outcome that is expected, and what happened on the way, to be counted.
@@ -37,7 +39,7 @@ impl Case {
             Call::Update => self.expect_update(flaw, o),
             Call::Carry => self.expect_carry(o),
             Call::Deliver => self.expect_delivery(flaw, o),
-            Call::Port => self.expect_port(flaw, o),
+            Call::Port => return self.expect_port(flaw, outcome),
             Call::Verdict => return self.expect_verdict(flaw, outcome),
         };
         Expected { outcome, events: events.into_iter().map(String::from).collect() }
@@ -198,19 +200,19 @@ impl Case {
         network
     }
 
-    fn expect_port(&self, flaw: Option<Flaw>, o: &mut Outcome) -> Vec<&'static str> {
+    fn expect_port(&self, flaw: Option<Flaw>, mut outcome: Outcome) -> Expected {
         let mut network = self.network(flaw);
         let port = ask(flaw, &mut network, self.dest, |network| network.port(self.bridge, self.dest));
-        o.out[0] = port.map_or(NONE, |end| end.link as u32);
-        let failed = failed_conditions(&network, self.bridge, self.dest);
+        outcome.out[0] = port.map_or(NONE, |end| end.link as u32);
+        let failed = shut_by_names(&network, self.bridge, self.dest);
         assert!(flaw.is_some() || port.is_none() != failed.is_empty(), "{port:?} beside {failed:?}");
         let mut events = match failed[..] {
             [] => self.open_events(&network),
-            [one] => vec![one],
-            _ => vec!["closed by several"],
+            [one] => vec![format!("closed by {one} alone")],
+            _ => vec!["closed by several".into()],
         };
         events.extend(self.far_events(&network, &failed));
-        events
+        Expected { outcome, events }
     }
 
     fn expect_verdict(&self, flaw: Option<Flaw>, mut outcome: Outcome) -> Expected {
@@ -225,62 +227,30 @@ impl Case {
         Expected { outcome, events }
     }
 
-    fn open_events(&self, network: &Network) -> Vec<&'static str> {
+    fn open_events(&self, network: &Network) -> Vec<String> {
         let ends = &network.ends[self.bridge];
         let up = ends.iter().all(|&end| network.is_up(end));
-        vec![
+        let events = [
             if ends.len() > 1 { "open, of several links" } else { "open, of one link" },
             if up { "open with every own end up" } else { "open beside an own end that is down" },
             if self.true_distances { "open by true distances" } else { "open by other distances" },
-        ]
+        ];
+        events.map(String::from).into()
     }
 
     /// What a look at the far ends, which the choice does not take, would turn round.
-    fn far_events(&self, network: &Network, failed: &[&str]) -> Vec<&'static str> {
-        let Some(chosen) = chosen(network, self.bridge, self.dest) else { return Vec::new() };
-        let own = network.distance(self.bridge, self.dest);
-        let is_low = |end: &&End| network.records[end.link][end.side].sent[self.dest] <= own;
-        let far_up = |end: &End| network.is_up(end.far());
-        let low: Vec<&End> = network.ends[self.bridge].iter().filter(|&&end| end != chosen).filter(is_low).collect();
+    fn far_events(&self, network: &Network, failed: &[&str]) -> Vec<String> {
+        let Some(choice) = Choice::of(network, self.bridge, self.dest) else { return Vec::new() };
+        let far_up = |end: End| network.is_up(end.far());
+        let is_alone = |condition: &str| failed == [condition];
+        let low = choice.low.iter().chain(&choice.low_down).filter(|&&end| end != choice.chosen);
+        let low_far_up = low.copied().any(far_up);
         let events = [
-            ("open, the far end down", failed.is_empty() && !far_up(&chosen)),
-            ("open, a low limit where only the far end is up", failed.is_empty() && low.iter().any(|end| far_up(end))),
-            ("closed by OwnEnd alone, the far end up", failed == [OWN_END] && far_up(&chosen)),
-            ("closed by SentOnOther alone, no far end up", failed == [SENT_ON_OTHER] && !low.iter().any(|end| far_up(end))),
+            ("open, the far end down", failed.is_empty() && !far_up(choice.chosen)),
+            ("open, a low limit where only the far end is up", failed.is_empty() && low_far_up),
+            ("closed by own end down alone, the far end up", is_alone(name_of(OWN_END_DOWN)) && far_up(choice.chosen)),
+            ("closed by sent too low on another link alone, no far end up", is_alone(SENT_ON_OTHER) && !low_far_up),
         ];
-        events.into_iter().filter(|event| event.1).map(|event| event.0).collect()
+        events.into_iter().filter(|event| event.1).map(|event| event.0.into()).collect()
     }
-}
-
-/// The bridge's end of its chosen link, if it has one.
-fn chosen(network: &Network, bridge: usize, dest: usize) -> Option<End> {
-    (network.distance(bridge, dest) != NONE).then(|| network.chosen(bridge, dest)).flatten()
-}
-
-pub(crate) const OWN_END: &str = "closed by OwnEnd alone";
-const SENT_ON_OTHER: &str = "closed by SentOnOther alone";
-
-/// Every condition of the forwarding rule that fails for a bridge, to be counted.
-pub(crate) fn failed_conditions(network: &Network, bridge: usize, dest: usize) -> Vec<&'static str> {
-    let own = network.distance(bridge, dest);
-    let chosen = chosen(network, bridge, dest);
-    let mut conditions = vec![
-        ("closed by Destination alone", bridge == dest),
-        ("closed by NoPath alone", own == NONE),
-        ("closed by NoLink alone", own != NONE && chosen.is_none()),
-    ];
-    if let Some(chosen) = chosen {
-        let records = &network.records[chosen.link][chosen.side];
-        let nothing_held = records.held == Held::Nothing;
-        let blocks = |end: &&End| network.is_up(**end) && network.records[end.link][end.side].sent[dest] <= own;
-        let blocking: Vec<&End> = network.ends[bridge].iter().filter(blocks).collect();
-        conditions.extend([
-            (OWN_END, !network.is_up(chosen)),
-            ("closed by NothingHeld alone", nothing_held),
-            ("closed by HeldAbove alone", !nothing_held && records.held_limit(&network.map, chosen, dest) > own),
-            ("closed by SentOnChosen alone", blocking.contains(&&chosen)),
-            (SENT_ON_OTHER, blocking.iter().any(|&&end| end != chosen)),
-        ]);
-    }
-    conditions.into_iter().filter(|condition| condition.1).map(|condition| condition.0).collect()
 }

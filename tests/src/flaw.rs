@@ -36,6 +36,8 @@ pub enum Flaw {
     // of verdicts: verdict.rs puts them in
     PathBeforeDestination,
     HoldingBeforeEnd,
+    HeldBeforeEnd,
+    SentBeforeEnd,
     SentBeforeHolding,
     SentBeforeHeld,
     NoneIsNothingHeld,
@@ -84,8 +86,10 @@ pub const FLAWS: [Flaw; 25] = [
 ];
 
 /// Those that verdicts alone notice, by distances of the costs.
-pub const OF_VERDICTS: [Flaw; 7] = [
+pub const OF_VERDICTS: [Flaw; 9] = [
     Flaw::HoldingBeforeEnd,
+    Flaw::HeldBeforeEnd,
+    Flaw::SentBeforeEnd,
     Flaw::SentBeforeHolding,
     Flaw::SentBeforeHeld,
     Flaw::NoneIsNothingHeld,

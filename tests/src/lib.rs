@@ -27,4 +27,12 @@ pub mod reading_call;
 pub mod records_numbers;
 pub mod slice_call;
 pub mod verdict;
+pub mod verdict_lists;
 pub mod view;
+
+use std::path::{Path, PathBuf};
+
+/// The repository's folder.
+pub fn root() -> PathBuf {
+    Path::new(env!("CARGO_MANIFEST_DIR")).join("..")
+}

@@ -1,8 +1,7 @@
 //! What is counted of calls on layer 3 and their outcomes.
 
-use crate::case_expected::{failed_conditions, OWN_END};
 use crate::model::{Call, Reply};
-use crate::verdict::{name_of, verdict_events};
+use crate::verdict::{name_of, shut_by_names, verdict_events, OWN_END_DOWN};
 use reference::forwarding::PathEnd;
 use reference::map::End;
 use reference::network::Network;
@@ -137,7 +136,7 @@ fn of_port(network: &Network, bridge: usize, dest: usize, open: bool) -> Option<
     match network.hop(bridge, dest) {
         Some(_) => Some("frame crosses"),
         None if open => Some("frame dies"),
-        None => (failed_conditions(network, bridge, dest) == [OWN_END]).then_some("own end down"),
+        None => Some(name_of(OWN_END_DOWN)).filter(|&down| shut_by_names(network, bridge, dest) == [down]),
     }
 }
 

@@ -353,7 +353,7 @@ impl Run {
 }
 
 /// The bridge across a link.
-fn across(map: &Map, link: usize, bridge: usize) -> usize {
+pub fn across(map: &Map, link: usize, bridge: usize) -> usize {
     let [first, second] = pair(map, link);
     if bridge == first {
         second

@@ -37,32 +37,32 @@ pub fn verdict_numbers((case, link): Verdict) -> [u32; VERDICT] {
 }
 
 /// What bears on a port whose bridge has a chosen link.
-struct Choice {
+pub(crate) struct Choice {
     /// The bridge's distance.
     own: u32,
-    chosen: End,
+    pub(crate) chosen: End,
     is_up: bool,
     /// The held limit at the chosen link, if a view is held there.
     held: Option<u32>,
-    /// The bridge's links whose sent limit is not above the distance, from the lowest: those up at the bridge's end, and those down.
-    low: Vec<usize>,
-    low_down: Vec<usize>,
+    /// The bridge's ends whose sent limit is not above the distance, from the lowest link: those that are up, and those that are down.
+    pub(crate) low: Vec<End>,
+    pub(crate) low_down: Vec<End>,
 }
 
 impl Choice {
-    fn of(network: &Network, bridge: usize, dest: usize) -> Option<Choice> {
+    pub(crate) fn of(network: &Network, bridge: usize, dest: usize) -> Option<Choice> {
         let own = network.distance(bridge, dest);
         let chosen = Some(own).filter(|&own| own != NONE).and_then(|_| network.chosen(bridge, dest))?;
         let records = &network.records[chosen.link][chosen.side];
-        let is_low = |end: &&End| network.records[end.link][end.side].sent[dest] <= own;
-        let (up, down): (Vec<&End>, Vec<&End>) = network.ends[bridge].iter().filter(is_low).partition(|end| network.is_up(**end));
+        let is_low = |end: &End| network.records[end.link][end.side].sent[dest] <= own;
+        let (low, low_down) = network.ends[bridge].iter().copied().filter(is_low).partition(|&end| network.is_up(end));
         Some(Choice {
             own,
             chosen,
             is_up: network.is_up(chosen),
             held: (records.held != Held::Nothing).then(|| records.held_limit(&network.map, chosen, dest)),
-            low: up.iter().map(|end| end.link).collect(),
-            low_down: down.iter().map(|end| end.link).collect(),
+            low,
+            low_down,
         })
     }
 
@@ -80,11 +80,11 @@ impl Choice {
 
     /// The link whose sent limit is named.
     fn blamed(&self, flaw: Option<Flaw>) -> Option<usize> {
-        let &lowest = self.low.first()?;
+        let lowest = self.low.first()?.link;
         Some(match flaw {
-            Some(Flaw::BlamesHighest) => self.low[self.low.len() - 1],
+            Some(Flaw::BlamesHighest) => self.low[self.low.len() - 1].link,
             Some(Flaw::BlamesChosen) => self.chosen.link,
-            Some(Flaw::BlamesDownEnds) => self.low_down.first().map_or(lowest, |&down| down.min(lowest)),
+            Some(Flaw::BlamesDownEnds) => self.low_down.first().map_or(lowest, |down| down.link.min(lowest)),
             _ => lowest,
         })
     }
@@ -109,6 +109,8 @@ fn place(flaw: Option<Flaw>, case: u8) -> u8 {
     let exchanged = match flaw {
         Some(Flaw::PathBeforeDestination) => [DESTINATION, NO_PATH],
         Some(Flaw::HoldingBeforeEnd) => [OWN_END_DOWN, NOTHING_HELD],
+        Some(Flaw::HeldBeforeEnd) => [OWN_END_DOWN, HELD_TOO_GREAT],
+        Some(Flaw::SentBeforeEnd) => [OWN_END_DOWN, SENT_TOO_LOW],
         Some(Flaw::SentBeforeHolding) => [NOTHING_HELD, SENT_TOO_LOW],
         Some(Flaw::SentBeforeHeld) => [HELD_TOO_GREAT, SENT_TOO_LOW],
         _ => return case,
@@ -129,6 +131,13 @@ pub fn verdict(flaw: Option<Flaw>, network: &Network, bridge: usize, dest: usize
 
 // ---- counts
 
+/// What the conditions that apply are called in counts of ports, which tell a low sent limit on the chosen link from one on another.
+pub(crate) fn shut_by_names(network: &Network, bridge: usize, dest: usize) -> Vec<&'static str> {
+    let sent = Choice::of(network, bridge, dest).map_or(Vec::new(), |choice| choice.names_of_sent());
+    let others = shut_by(None, network, bridge, dest).into_iter().filter(|&(case, _)| case != SENT_TOO_LOW);
+    others.map(|(case, _)| name_of(case)).chain(sent).collect()
+}
+
 /// What is counted of a verdict: its case, the other conditions that apply as well, and what else tells a wrong rule from the right one.
 pub fn verdict_events(network: &Network, bridge: usize, dest: usize) -> Vec<String> {
     let shut = shut_by(None, network, bridge, dest);
@@ -140,7 +149,15 @@ pub fn verdict_events(network: &Network, bridge: usize, dest: usize) -> Vec<Stri
     [vec![event], more].concat()
 }
 
+pub(crate) const SENT_ON_OTHER: &str = "sent too low on another link";
+
 impl Choice {
+    fn names_of_sent(&self) -> Vec<&'static str> {
+        let on_chosen = self.low.contains(&self.chosen).then_some("sent too low on the chosen link");
+        let on_other = self.low.iter().any(|&end| end != self.chosen).then_some(SENT_ON_OTHER);
+        on_chosen.into_iter().chain(on_other).collect()
+    }
+
     fn features(&self, case: u8) -> Vec<&'static str> {
         let features = match case {
             FORWARDS => vec![
@@ -155,13 +172,13 @@ impl Choice {
     }
 
     fn features_of_sent(&self) -> Vec<(&'static str, bool)> {
-        let (blamed, chosen) = (self.low[0], self.chosen.link);
+        let (blamed, chosen) = (self.low[0].link, self.chosen.link);
         vec![
             ("at the chosen link", blamed == chosen),
             ("at a lower link", blamed < chosen),
             ("at a higher link", blamed > chosen),
             ("at several links", self.low.len() > 1),
-            ("past a lower link that is down at this end", self.low_down.iter().any(|&down| down < blamed)),
+            ("past a lower link that is down at this end", self.low_down.iter().any(|down| down.link < blamed)),
         ]
     }
 }

@@ -5,7 +5,8 @@
 mod run;
 
 use bench_tests::plan_bytes::{field, LONGEST};
-use run::{outcome, printed, root};
+use bench_tests::root;
+use run::{outcome, printed};
 use std::io::Write;
 use std::os::fd::OwnedFd;
 use std::os::unix::net::UnixStream;

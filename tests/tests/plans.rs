@@ -10,7 +10,8 @@ mod spoil;
 
 use bench_tests::plan_bytes::LONGEST;
 use bench_tests::random::Random;
-use run::{outcome, printed, root, run};
+use bench_tests::root;
+use run::{outcome, printed, run};
 use std::collections::BTreeMap;
 use std::fs;
 use std::path::{Path, PathBuf};

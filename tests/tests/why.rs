@@ -4,15 +4,12 @@
 use bench_tests::model::Call;
 use bench_tests::network_random::map_of;
 use bench_tests::network_run::Run;
-use bench_tests::plan_bytes::first_event;
+use bench_tests::plan_bytes::{field, first_event};
 use bench_tests::random::Random;
+use bench_tests::root;
 use bench_tests::verdict::Verdict;
-use std::path::{Path, PathBuf};
+use std::path::Path;
 use std::process::Command;
-
-fn root() -> PathBuf {
-    Path::new(env!("CARGO_MANIFEST_DIR")).join("..")
-}
 
 /// Compiles a program by the command and runs it.
 fn printed(compiler: &mut Command, program: &Path) -> String {
@@ -23,8 +20,12 @@ fn printed(compiler: &mut Command, program: &Path) -> String {
     String::from_utf8(ran.stdout).expect("it prints text")
 }
 
+fn text_of(file: &str) -> String {
+    std::fs::read_to_string(root().join(file)).unwrap_or_else(|error| panic!("{file}: {error}"))
+}
+
 fn expected() -> String {
-    std::fs::read_to_string(root().join("examples/why.out")).expect("examples/why.out is there")
+    text_of("examples/why.out")
 }
 
 fn folder() -> &'static Path {
@@ -47,21 +48,34 @@ fn in_rust() {
     assert_eq!(printed(&mut rustc, &folder().join("why_rust")), expected());
 }
 
-/// README.md shows what they print.
+/// README.md shows what they print, and their call word for word.
 #[test]
 fn in_the_readme() {
-    let readme = std::fs::read_to_string(root().join("README.md")).expect("README.md is there");
+    let readme = text_of("README.md");
     let shown: String = expected().lines().map(|line| format!("    {line}\n")).collect();
     assert!(readme.contains(&shown));
+    let [c, rust] = ["bench_net_verdict(bench, 420,", "bench_net_verdict(bench.as_ptr(), 420,"];
+    for (program, call) in [("examples/why.c", c), ("examples/why.rs", rust)] {
+        let line = readme.lines().find(|line| line.contains(call)).expect("README.md has the call").trim();
+        assert!(text_of(program).lines().any(|own| own.trim() == line), "{program} has not {line}");
+    }
 }
 
-/// The network of plans/one_connector.plan, and how many bytes set it up.
-const SETUP: usize = 62;
+/// The network of plans/one_connector.plan: its bridges, links and views.
+const BRIDGES: u8 = 4;
+const LINKS: [[u8; 2]; 4] = [[0, 1], [0, 2], [2, 1], [1, 3]];
+const VIEWS: [[u32; 4]; 2] = [[10, 20, 20, 10], [0, 20, 20, 10]];
 
 fn one_connector() -> Run {
-    let views = [vec![10, 20, 20, 10], vec![0, 20, 20, 10]];
-    let map = map_of(4, &[[0, 1], [0, 2], [2, 1], [1, 3]], &views);
+    let map = map_of(BRIDGES.into(), &LINKS, &VIEWS.map(Vec::from));
     Run::fresh(&mut Random::new(11), &map).expect("a fresh network")
+}
+
+/// The bytes that set it up.
+fn setup() -> Vec<u8> {
+    let links = LINKS.map(|ends| field(2, &ends)).concat();
+    let views = VIEWS.map(|costs| field(3, &costs.map(u32::to_be_bytes).concat())).concat();
+    [field(1, &[BRIDGES]), links, views].concat()
 }
 
 /// The events of the plan, and at each report what is named of every bridge for its destination.
@@ -82,6 +96,7 @@ fn named_at_reports(run: &mut Run, mut events: &[u8]) -> Vec<Vec<Verdict>> {
 #[test]
 fn in_a_plan() {
     let plan = std::fs::read(root().join("plans/one_connector.plan")).expect("the plan is there");
+    let events = plan.strip_prefix(&setup()[..]).expect("the plan begins with this network");
     let destination = (1, None);
     let by = |case, link| (case, Some(link));
     let settled = vec![destination, by(0, 0), by(0, 1), by(0, 3)];
@@ -96,5 +111,5 @@ fn in_a_plan() {
         vec![destination, by(0, 0), by(0, 1), by(5, 3)],
         settled,
     ];
-    assert_eq!(named_at_reports(&mut one_connector(), &plan[SETUP..]), expected);
+    assert_eq!(named_at_reports(&mut one_connector(), events), expected);
 }

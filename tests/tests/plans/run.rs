@@ -1,7 +1,8 @@
 //! Running a program of the repository in bounded time.
 
+use bench_tests::root;
 use std::io::{self, ErrorKind, Read, Write};
-use std::path::{Path, PathBuf};
+use std::path::Path;
 use std::process::{Child, Command, ExitStatus, Output, Stdio};
 use std::sync::mpsc::{self, Receiver};
 use std::thread;
@@ -9,10 +10,6 @@ use std::time::{Duration, Instant};
 
 /// Far more than any plan takes.
 const PATIENCE: Duration = Duration::from_secs(30);
-
-pub fn root() -> PathBuf {
-    Path::new(env!("CARGO_MANIFEST_DIR")).join("..")
-}
 
 /// Does this on a thread of its own, which hands on the value.
 fn aside<T: Send + 'static>(work: impl FnOnce() -> T + Send + 'static) -> Receiver<T> {

@@ -1,8 +1,8 @@
-//! What README.md says to do about each condition that holds a port shut is done in random networks, by the compiled calls of layer 3: it
-//! leads to a later condition, and in the end the port forwards.
+//! What README.md says to do about conditions 3 to 6, which hold a port shut, is done in random networks, by the compiled calls of layer 3:
+//! it leads to a later condition (a cut for a sent limit may lead to 3), and followed row by row the port forwards in the end.
 
 use bench_tests::count::Met;
-use bench_tests::model::Call;
+use bench_tests::model::{Call, Reply};
 use bench_tests::network_event::name;
 use bench_tests::network_random::map_of;
 use bench_tests::network_run::{across, Run};
@@ -10,6 +10,7 @@ use bench_tests::random::Random;
 use bench_tests::verdict::{name_of, Verdict, FORWARDS, HELD_TOO_GREAT, NOTHING_HELD, OWN_END_DOWN, SENT_TOO_LOW};
 use bench_tests::verdict_lists::{all_named, in_list, LISTS};
 use reference::distances::NONE;
+use reference::forwarding::PathEnd;
 use reference::network::MOST_IN_FLIGHT;
 
 /// What README.md's table has steps for, where the bridge stays on its view; in the order in which it is named.
@@ -26,6 +27,13 @@ struct Planner {
 impl Planner {
     fn named(&mut self) -> Result<Verdict, String> {
         self.run.verdict(self.bridge, self.dest)
+    }
+
+    fn path(&mut self) -> Result<PathEnd, String> {
+        match self.run.ask(Call::Path(self.bridge, self.dest))? {
+            Ok(Reply::Path(path)) => Ok(path),
+            other => Err(format!("a path replied {other:?}")),
+        }
     }
 
     fn view_of(&self, bridge: usize) -> usize {
@@ -119,7 +127,8 @@ impl Planner {
     fn follow(&mut self, named: Verdict) -> Result<Verdict, String> {
         let (case, Some(link)) = named else { return Err(format!("{named:?} has no link")) };
         self.steps(case, link)?;
-        let next = self.next(named, "followed", |next| next.0 == FORWARDS || next > named)?;
+        let next =
+            self.next(named, "followed", |next| next.0 == FORWARDS || next.0 > case || (case == SENT_TOO_LOW && next > named))?;
         let row = name_of(case);
         self.met.note_times(format!("{row}, forwards"), (next.0 == FORWARDS).into());
         self.met.note(row);
@@ -142,7 +151,7 @@ impl Planner {
         let rows = self.rows()?;
         self.met.note(if rows.len() > 1 { "several rows" } else { "one row" });
         let is_short = rows.len() <= 2 + self.run.network().ends[self.bridge].len();
-        let crosses = self.run.network().hop(self.bridge, self.dest).is_some();
+        let crosses = self.path()?.hops > 0;
         if is_short && (crosses || rows.iter().all(|row| row.0 == SENT_TOO_LOW)) {
             Ok(())
         } else {
@@ -158,7 +167,7 @@ impl Planner {
         self.make_across(Call::Cut(neighbour, link))
     }
 
-    /// Every link but this one is up at both ends; all its ends.
+    /// Restores every link but this one at both ends; the ends of those links.
     fn restore_others(&mut self, link: usize) -> Result<Vec<(usize, usize)>, String> {
         let others = self.run.network().ends.concat().into_iter().filter(|end| end.link != link);
         let others: Vec<(usize, usize)> = others.map(|end| (self.run.map().bridge_at(end), end.link)).collect();
@@ -171,7 +180,7 @@ impl Planner {
     }
 
     /// The chosen link stays down at this bridge's end, and its far end is cut too. If there is a view without it in which the bridge has a
-    /// path, all bridges go to that, and two rounds follow over the other links. Then the bridge forwards, and its frames arrive.
+    /// path, every other link is restored, all bridges go to that view, and two rounds follow over those links. Then the bridge forwards, and its frames arrive.
     fn leave(&mut self) -> Result<(), String> {
         let named = self.named()?;
         let (OWN_END_DOWN, Some(link)) = named else { return Err(format!("{named:?} is no end that is down")) };
@@ -182,7 +191,7 @@ impl Planner {
         let others = self.restore_others(link)?;
         (0..map.bridge_count()).try_for_each(|bridge| self.make(Call::Update(bridge, view)))?;
         others.repeat(2).into_iter().try_for_each(|(bridge, link)| self.tell(bridge, link))?;
-        let arrives = self.run.network().path(self.bridge, self.dest).last == self.dest;
+        let arrives = self.path()?.last == self.dest;
         self.met.note("left");
         self.next(named, "left", |next| next.0 == FORWARDS && arrives).map(|_| ())
     }
@@ -257,7 +266,7 @@ fn a_cut_leads_away_from_a_sent_limit() {
 /// As many rows as there can be. Bridge 1 has link 1 to bridge 2 and link 2 to bridge 3, and each of these a link to bridge 0. It goes by
 /// link 1 in view 0, by link 2 in view 1, and by link 1 again in view 2, where its distance of 6 is above what it offered over either.
 #[test]
-fn every_row_once() {
+fn as_many_rows_as_there_can_be() {
     let map = map_of(4, &[[0, 2], [2, 1], [1, 3], [3, 0]], &[vec![1, 1, 1, 9], vec![9, 1, 1, 1], vec![5, 1, 1, 9]]);
     let mut run = Run::fresh(&mut Random::new(7), &map).expect("a fresh network");
     run.make(Call::Update(1, 1));

@@ -15,7 +15,6 @@ use Rattle.agreement.specs.Forwarding.{
   reachesDistance,
   reaches,
   chosenEnd,
-  isDestination,
   hasNoLink,
   holdsNothing,
   sentNotAbove,
@@ -172,7 +171,7 @@ module _ (g : Graph) (c : Costs) (f : ℕ → ℕ → ℕ) (r : Records) (y d : 
   by-ends (suc n) = rw (by-ends n) (end-more n)
 
   by-verdict : verdictBy (byEnds (2 * g .links)) ≡ verdict g c f r y d
-  unfolding verdictBy verdict verdictFrom firstOf chosenEnd isDestination hasNoLink holdsNothing barringEnd isBarred
+  unfolding verdictBy verdict verdictFrom firstOf chosenEnd hasNoLink holdsNothing barringEnd isBarred
   by-verdict = go (ltb e (2 * g .links)) (ltb k (2 * g .links)) refl refl
     where
       e : ℕ

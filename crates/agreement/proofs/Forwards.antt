@@ -205,7 +205,7 @@ module _ (g : Graph) (c : Costs) (f : ℕ → ℕ → ℕ) (r : Records) (y d : 
       ltb (f y d) limit ≡ t →
       isBarred g f r y d ≡ s →
       Means g c f r y d (firstOf a b m w n t s (linkOf chosen) (linkOf (barringEnd g f r y d)))
-  unfolding firstOf isDestination hasNoLink holdsNothing isBarred
+  unfolding firstOf hasNoLink holdsNothing isBarred
   is-so true b m w n t s p₁ p₂ p₃ p₄ p₅ p₆ p₇ = eqb-true y d p₁
   is-so false true m w n t s p₁ p₂ p₃ p₄ p₅ p₆ p₇ = (eqb-false y d p₁, eqb-true (f y d) NONE p₂)
   is-so false false true w n t s p₁ p₂ p₃ p₄ p₅ p₆ p₇ =
@@ -260,7 +260,7 @@ module _ (g : Graph) (c : Costs) (f : ℕ → ℕ → ℕ) (r : Records) (y d : 
         verdict g c f r y d
         ≡ firstOf false false false (r .down e) (holdsNothing r e) (heldTooGreat (f y d) (heldLimit (r .ends e) (r .held e) d)) (isBarred g f r y d)
         (linkOf e) (linkOf (barringEnd g f r y d))
-    unfolding verdict verdictFrom isDestination hasNoLink
+    unfolding verdict verdictFrom hasNoLink
     goes-on {e} by =
         rw (
           chosen-unique g c f y d differ e (by .chosen),
@@ -278,7 +278,7 @@ module _ (g : Graph) (c : Costs) (f : ℕ → ℕ → ℕ) (r : Records) (y d : 
         go false p h = absurd (some (omega arith))
 
     only : f y d ≤ NONE → (v : Verdict) → Means g c f r y d v → verdict g c f r y d ≡ v
-    unfolding verdict verdictFrom firstOf isDestination hasNoLink holdsNothing isBarred
+    unfolding verdict verdictFrom firstOf hasNoLink holdsNothing isBarred
     only most IsDestination w = rw (eq-eqb y d w)
     only most NoPath w = rw (ne-eqb y d (w .0), eq-eqb (f y d) NONE (w .1))
     only most NoLink w =

@@ -8,7 +8,7 @@ use mathlib.Core.Bool.{Bool, false, cond, _&&_, _||_, not}
 use lib.Dec.{eqb, leb, ltb}
 use Rattle.distances.specs.View.{Graph, Costs, maxCost}
 use Rattle.agreement.specs.Offer.{linkOf, farBridge}
-use Rattle.agreement.specs.Forwarding.{Records, isDown, reachesDistance, hasNoPath, heldTooGreat, sentNotAbove, firstOf, verdict, portOf}
+use Rattle.agreement.specs.Forwarding.{Records, isDown, reachesDistance, isDestination, hasNoPath, heldTooGreat, sentNotAbove, firstOf, verdict, portOf}
 use Rattle.agreement.specs.Call.{Response, says, refused}
 use Rattle.agreement.specs.declared.Port.{Port}
 use Rattle.agreement.specs.declared.Verdict.{Verdict}
@@ -17,13 +17,13 @@ use Rattle.agreement.specs.declared.Chosen.{Chosen}
 
 -- before any end
 unfoldable pub firstChoice : ℕ → Bool → Choice
-firstChoice distance isDestination =
+firstChoice distance destination =
     record {
       distance = distance;
       held = 0;
       link = 0;
       barring = 0;
-      destination = isDestination;
+      destination = destination;
       found = false;
       down = false;
       holding = false;
@@ -39,8 +39,8 @@ abbrev pub becomesBarring : Choice → Bool → ℕ → Bool
 becomesBarring old down sent = not (old .barred) && sentNotAbove down sent (old .distance)
 
 -- with one end more of the bridge: its link, the link's cost and the far bridge's distance in the bridge's view, whether the link is down
--- at the bridge's end, whether a view is held from the neighbour, and the sent and held limits for the destination. Of what is held the limit is asked for only
--- where something is
+-- at the bridge's end, whether a view is held from the neighbour, and the sent and held limits for the destination. `held` is kept as it is
+-- handed in: `verdictBy` looks at it only where a view is held, so that document 01's "NONE if none is held" need not be written into it
 unfoldable pub nextChoice : Choice → ℕ → ℕ → ℕ → Bool → Bool → ℕ → ℕ → Choice
 nextChoice old link cost far down holding sent held =
     record {
@@ -85,7 +85,7 @@ choiceWith g c f r d e old =
 
 -- the choice of bridge y for destination d by its ends below n: f are the distances and c the costs of y's view
 unfoldable pub choiceBelow : Graph → Costs → (ℕ → ℕ → ℕ) → Records → ℕ → ℕ → ℕ → Choice
-choiceBelow g c f r y d zero = firstChoice (f y d) (eqb y d)
+choiceBelow g c f r y d zero = firstChoice (f y d) (isDestination y d)
 choiceBelow g c f r y d (suc e) =
     cond (eqb (g .bridgeAt e) y) (choiceWith g c f r d e (choiceBelow g c f r y d e)) (choiceBelow g c f r y d e)
 

@@ -51,14 +51,14 @@ chosenEnd g c f y d = firstBelow (2 * g .links) (reaches g c f y d)
 -- ---- what holds the port shut, a test for each condition in document 02's order (Change 2)
 
 -- "is the destination"
-unfoldable pub isDestination : ℕ → ℕ → Bool
+abbrev pub isDestination : ℕ → ℕ → Bool
 isDestination y d = eqb y d
 
 -- "no path": the distance is NONE
 abbrev pub hasNoPath : ℕ → Bool
 hasNoPath distance = eqb distance NONE
 
--- no link reaches the distance, e being the chosen link's end; where neither of the two above applies this is never so of a view's own distances
+-- no link reaches the distance, e being `chosenEnd`; where neither of the two above applies this is never so of a view's own distances
 unfoldable pub hasNoLink : Graph → ℕ → Bool
 hasNoLink g e = not (ltb e (2 * g .links))
 

@@ -54,8 +54,8 @@ pub enum Verdict {
 }
 
 // The forwarding choice of a bridge by some of its ends: the bridge's distance; whether the bridge is the destination; whether some end reaches the
-// distance, and of the first such end its link, whether it is down, whether a view is held there, and the limit that stands in its row; whether at some
-// end that is up the sent limit is not above the distance, and the link of the first such end.
+// distance, and of the first such end its link, whether it is down, whether a view is held there, and the held limit as it was handed in, which counts
+// only where a view is held; whether at some end that is up the sent limit is not above the distance, and the link of the first such end.
 pub struct Choice {
     pub distance: u32,
     pub held: u32,

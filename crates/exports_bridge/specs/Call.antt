@@ -1,6 +1,6 @@
 -- What each exported call of layer 2 does, for every input: its reply and every list that it may write. Each is the call of the same
--- name in `agreement`, the port that by the verdict, with its values as numbers; lists too short for these, and numbers that do not fit
--- their field, are refused first. Assumes nothing.
+-- name in `agreement`, with its values as numbers; the port is `portOf` of the verdict, as it is there. Lists too short for these, and
+-- numbers that do not fit their field, are refused first. Assumes nothing.
 use Prim.Native.Nat.{ℕ}
 use mathlib.Core.Bool.{cond, _&&_}
 use mathlib.Core.List.{List, [], _∷_}

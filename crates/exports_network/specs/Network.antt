@@ -125,7 +125,7 @@ netDeliverReply xs costs sent held messages out p = deliveryReply (deliver p) p 
 unfoldable pub netRepeatReply : List ℕ → List ℕ → List ℕ → List ℕ → List ℕ → List ℕ → ℕ → CallOutcome
 netRepeatReply xs costs sent held messages out p = deliveryReply (repeat p) p xs (state (benchIn xs) costs sent held messages) out
 
--- a call that only asks: the numbers of its value go to `out`, which has room for them
+-- a call that only asks: its value's numbers, `size` of them, go to `out`; 17 first where the list holds no bench or `out` is shorter
 abbrev pub askReply : {A : Type 0} → ℕ → (A → List ℕ) → Call → (Network → A) → List ℕ → State → List ℕ → CallOutcome
 askReply size numbers c value xs s out =
     ifLong (holdsBench xs && leb size (length out)) (out ∷ []) (valueReply numbers out (outcomeOf s c value .reply))

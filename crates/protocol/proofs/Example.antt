@@ -12,7 +12,7 @@ use Rattle.distances.proofs.Known.{below-three, triangle-in-range, view1-in-ran
 use Rattle.agreement.specs.Tests.{firstBelow}
 use Rattle.agreement.specs.Offer.{offer}
 use Rattle.agreement.specs.Record.{updated, sentUpdated, heldUpdated, isStale, isAgreed, answer, recorded, isClearing, sentDelivered, heldDelivered}
-use Rattle.agreement.specs.Forwarding.{reaches, chosenEnd, isUp, isDestination, hasNoLink, holdsNothing, bars, barringEnd, isBarred, firstOf, verdictFrom, verdict}
+use Rattle.agreement.specs.Forwarding.{reaches, chosenEnd, isUp, hasNoLink, holdsNothing, bars, barringEnd, isBarred, firstOf, verdictFrom, verdict}
 use Rattle.protocol.specs.Net.{PlanInRange, fresh}
 use Rattle.protocol.specs.Calls.{refusal, noSuchBridge, noSuchView, noSuchLink, noNumberLeft, notOnLink, endDown, noRoom, noMessage, already, changeChecks, checks, refuse, accepted, moved, updatedTo, withEnd, endOf, messageOf, sentOver, without, receivedAt, afterDelivery, afterChange, act, step, run}
 use Rattle.protocol.specs.Ports.{ownDistance, forwardingVerdict, forwardingPort, across, isLive, hopBy, hop}
@@ -25,7 +25,7 @@ use Rattle.protocol.specs.SettlingMet.{before, opening, closing, first, 
 
 -- all that computes below
 unfoldable pub computing : Bool
-unfolding costsIn before opening closing first second start present joins crossing unjoined joinedBelow relaxed relaxedBelow dist every allBelow firstBelow offer updated sentUpdated heldUpdated isStale isAgreed answer recorded isClearing sentDelivered heldDelivered reaches chosenEnd isUp isDestination hasNoLink holdsNothing bars barringEnd isBarred firstOf verdictFrom verdict fresh refusal noSuchBridge noSuchView noSuchLink noNumberLeft notOnLink endDown noRoom noMessage already changeChecks checks refuse accepted moved updatedTo withEnd endOf messageOf sentOver without receivedAt afterDelivery afterChange act step run ownDistance forwardingVerdict forwardingPort across isLive hopBy hop follow onward path followLinks onwardLinks linksCrossed updateEffect deliveryEffect acceptedEffect endEffect viewsAfter viewsRun leastOver offerHeld movedUp messageStatus statusBy orLater isDelivered isSendFrom isSentAndDelivered hasRound isChange hasNoChange
+unfolding costsIn before opening closing first second start present joins crossing unjoined joinedBelow relaxed relaxedBelow dist every allBelow firstBelow offer updated sentUpdated heldUpdated isStale isAgreed answer recorded isClearing sentDelivered heldDelivered reaches chosenEnd isUp hasNoLink holdsNothing bars barringEnd isBarred firstOf verdictFrom verdict fresh refusal noSuchBridge noSuchView noSuchLink noNumberLeft notOnLink endDown noRoom noMessage already changeChecks checks refuse accepted moved updatedTo withEnd endOf messageOf sentOver without receivedAt afterDelivery afterChange act step run ownDistance forwardingVerdict forwardingPort across isLive hopBy hop follow onward path followLinks onwardLinks linksCrossed updateEffect deliveryEffect acceptedEffect endEffect viewsAfter viewsRun leastOver offerHeld movedUp messageStatus statusBy orLater isDelivered isSendFrom isSentAndDelivered hasRound isChange hasNoChange
 computing = true
 
 -- the plan is in the ranges

@@ -27,7 +27,7 @@ PathFits (PathReply.Refused k) = Unit {0}
 PathFits (PathReply.Delivered h) = h < 4294967296
 PathFits (PathReply.Stops last h) = (last < 4294967296) × (h < 4294967296)
 
--- the verdict of a reply; of a network in range none is refused, and any verdict serves for that
+-- the verdict of a reply; an empty one is a refusal, which a network in range never gets, and any verdict may stand for it
 unfoldable pub found : List Verdict → Verdict
 found [] = NoLink
 found (v ∷ vs) = v

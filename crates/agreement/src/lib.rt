@@ -1,6 +1,7 @@
 // Layer 2: one bridge's agreement records and its forwarding choice. A call of `calls` is handed a view as `distances` has it: the graph,
 // the view's costs, and the lent table that holds its distances; and the lent limit tables, a row of 16 limits for each end. Those of
 // `between` and `choices` take the plain numbers of one end.
+#![tactic(auto)]
 pub mod between;
 pub mod calls;
 pub mod choices;

@@ -26,7 +26,7 @@ same-eq (x ∷ xs) (y ∷ ys) t =
     cc (eqb-true x y h.0, same-eq xs ys h.1)
 
 -- each entry of a table that passes holds
-pub each_holds : {es : List Example} (e : Example) → Memᴰ e es → all_pass es ≡ true → e.found ≡ e.stated
+pub each_holds : (e : Example) {es : List Example} → Memᴰ e es → all_pass es ≡ true → e.found ≡ e.stated
 unfolding all_pass every
 each_holds e (Memᴰ.head {x} {xs} q) t =
     subst (λ (z : Example). z.found ≡ z.stated) (sym q) (same-eq x.found x.stated (both_true (same x.found x.stated) (all_pass xs) t).0)

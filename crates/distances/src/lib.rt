@@ -1,4 +1,6 @@
 // Layer 1: the distances of all pairs of bridges in one view, in a table that the caller lends.
+#![tactic(auto)]
+
 pub mod ready;
 mod relax;
 pub mod sizes;

@@ -1,6 +1,7 @@
 // Records, agreements, answers, flags, ports and verdicts as numbers in lent slices. Views have 8 bits and other numbers 16; any number but 0
 // stands for true. A list holds a record or an agreement where each number fits its field, and there the remainders change nothing. Past the
 // end of a list a number is read as 0, and nothing is written.
+#![tactic(auto)]
 ghost use Rattle.std.specs.Prelude.{◌≡◌, cond, [], ◌∷◌, get_or, set};
 ghost use Rattle.std.proofs.lemmas.List.Edits.{sets};
 ghost use Rattle.agreement.specs.Record.{answer_numbers};

@@ -1,5 +1,6 @@
 // A plan read from a descriptor and carried out from its first field to its end. What it prints goes to standard output after each field or
 // list of events, from a buffer of fixed size, so it never stands in memory whole.
+#![tactic(auto)]
 ghost use Rattle.std.specs.Prelude.{◌≡◌, false, [], suc, ◌≤◌, ◌<◌, length};
 ghost use Rattle.play.specs.Output.{Handed, Played, ReadBehind, StandsAt};
 ghost use Rattle.runner.specs.Plans.{first_runner, first_buffers, prints};

@@ -1,5 +1,6 @@
 // Reads a plan from standard input and prints its reports, its paths and its last line. Where the plan cannot be read or the output
 // not be written, a line on standard error says so; a program here has no exit status of its own.
+#![tactic(auto)]
 use libc::{STDERR_FILENO, STDIN_FILENO};
 use play::Reply;
 

@@ -1,6 +1,7 @@
 // Carries out each plan of its data folder and prints its name and its output. The program is held to the file stdout, and that
 // file to the known outputs in plans/.
 // A plan that cannot be opened, read or printed is named on standard error with the reason, and its output is missing.
+#![tactic(auto)]
 use play::Reply;
 
 fn replay(name: &[u8]) {

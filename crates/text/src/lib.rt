@@ -1,4 +1,5 @@
 // The lines that the program prints, into bytes that the caller lends.
+#![tactic(auto)]
 mod decimal;
 pub mod lines;
 mod words;

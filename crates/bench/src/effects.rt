@@ -4,7 +4,7 @@ use agreement::{Answer, EndRecord};
 
 // What becomes of the bench: nothing; another count of messages in flight; an end goes down or up; an end's record, with the count of messages;
 // a bridge goes to a view.
-#[derive(Drop)]
+#[derive(Clone, Copy)]
 pub(crate) enum Effect {
     Same,
     Messages(usize),
@@ -14,21 +14,21 @@ pub(crate) enum Effect {
 }
 
 // A send or a loss: how many messages are then in flight.
-#[derive(Drop)]
+#[derive(Clone, Copy)]
 pub(crate) enum QueueChange {
     Refused(u8),
     Length(usize),
 }
 
 // A delivery or a repeat: what it answers, the end that takes the message, and that end's record.
-#[derive(Drop)]
+#[derive(Clone, Copy)]
 pub(crate) enum Reception {
     Refused(u8),
     Accepted(Answer, usize, EndRecord),
 }
 
 // An update: the bridge is on the view already, or goes to it.
-#[derive(Drop)]
+#[derive(Clone, Copy)]
 pub(crate) enum Updating {
     Refused(u8),
     Stays,
@@ -36,14 +36,14 @@ pub(crate) enum Updating {
 }
 
 // A cut or a restore: the end that goes down or up.
-#[derive(Drop)]
+#[derive(Clone, Copy)]
 pub(crate) enum Switching {
     Refused(u8),
     End(usize),
 }
 
 // One event of a list.
-#[derive(Drop)]
+#[derive(Clone, Copy)]
 pub(crate) struct EventResult {
     pub(crate) disposition: Disposition,
     pub(crate) effect: Effect,
@@ -52,7 +52,7 @@ pub(crate) struct EventResult {
 }
 
 // An end as it stands ahead of a call: the view and the number of its bridge, and its own record.
-#[derive(Drop)]
+#[derive(Clone, Copy)]
 pub(crate) struct EndState {
     pub(crate) end: usize,
     pub(crate) view: u8,

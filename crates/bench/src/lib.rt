@@ -22,7 +22,7 @@ mod updates;
 
 // Link l joins ends[2 l] and ends[2 l + 1]; `messages` is how many are in flight; `view` and `number` are each bridge's view and agreement
 // number; `records` and `down` are each end's record and whether it is down.
-#[derive(Drop)]
+#[derive(Clone, Copy)]
 pub struct Bench {
     pub bridges: usize,
     pub links: usize,
@@ -36,7 +36,7 @@ pub struct Bench {
 }
 
 // An event of a plan is one call, with its numbers.
-#[derive(Drop)]
+#[derive(Clone, Copy)]
 pub enum Event {
     Update(u8, u8),
     Send(u8, u8),
@@ -50,31 +50,31 @@ pub enum Event {
 }
 
 // Refused holds document 01's number, which is not 0.
-#[derive(Drop)]
+#[derive(Clone, Copy)]
 pub enum Reply {
     Refused(u8),
     Done,
 }
 
-#[derive(Drop)]
+#[derive(Clone, Copy)]
 pub enum Reaction {
     Refused(u8),
     Answered(Answer),
 }
 
-#[derive(Drop)]
+#[derive(Clone, Copy)]
 pub enum Forwarding {
     Refused(u8),
     Found(Port),
 }
 
-#[derive(Drop)]
+#[derive(Clone, Copy)]
 pub enum VerdictReply {
     Refused(u8),
     Found(Verdict),
 }
 
-#[derive(Drop)]
+#[derive(Clone, Copy)]
 pub enum PathReply {
     Refused(u8),
     Delivered(usize),
@@ -82,27 +82,27 @@ pub enum PathReply {
 }
 
 // Where a frame goes from a bridge: it crosses no link, or it crosses one to another bridge.
-#[derive(Drop)]
+#[derive(Clone, Copy)]
 pub enum Hop {
     Stays,
     Crosses(usize, usize),
 }
 
 // The bench after a call, beside the reply.
-#[derive(Drop)]
+#[derive(Clone, Copy)]
 pub struct Changed {
     pub reply: Reply,
     pub bench: Bench,
 }
 
-#[derive(Drop)]
+#[derive(Clone, Copy)]
 pub struct DeliveryResult {
     pub reply: Reaction,
     pub bench: Bench,
 }
 
 // Why a list of events ended: all were made; document 01's number for the next one, or 17 for the list itself; the next one's answer has no room.
-#[derive(Drop)]
+#[derive(Clone, Copy)]
 pub enum Disposition {
     Complete,
     Refused(u8),
@@ -110,7 +110,7 @@ pub enum Disposition {
 }
 
 // After a list of events: how many were made, and how many numbers they answered with.
-#[derive(Drop)]
+#[derive(Clone, Copy)]
 pub struct BatchResult {
     pub disposition: Disposition,
     pub bench: Bench,

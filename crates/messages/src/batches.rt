@@ -13,7 +13,7 @@ use bench::sizes::{MESSAGE, MESSAGES, MOST_EVENTS, MOST_MESSAGES};
 use bench::{BatchResult, Bench, Event};
 
 // A list that was run, beside the messages that are then in flight.
-#[derive(Drop)]
+#[derive(Clone, Copy)]
 pub struct BatchAndMessages {
     pub batch: BatchResult,
     pub messages: [Message; MOST_MESSAGES],

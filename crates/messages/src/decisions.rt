@@ -21,14 +21,14 @@ pub(crate) fn room(len: usize) -> usize
 }
 
 // A changed bench, and the places from `from` up to `past` of the slice that change.
-#[derive(Drop)]
+#[derive(Clone, Copy)]
 pub struct Decision {
     pub changed: Changed,
     pub from: usize,
     pub past: usize,
 }
 
-#[derive(Drop)]
+#[derive(Clone, Copy)]
 pub struct Decided {
     pub delivery: DeliveryResult,
     pub from: usize,

@@ -10,7 +10,7 @@ mod places;
 pub mod plain;
 
 // As wide as the bench's five numbers of a message, so that the slice and its numbers hold the same.
-#[derive(Drop)]
+#[derive(Clone, Copy)]
 pub struct Message {
     pub link: u32,
     pub direction: u32,

@@ -11,13 +11,13 @@ use crate::{Message, calls};
 use bench::sizes::{MESSAGES, MOST_MESSAGES};
 use bench::{Bench, Changed, DeliveryResult};
 
-#[derive(Drop)]
+#[derive(Clone, Copy)]
 pub struct ChangedNumbers {
     pub changed: Changed,
     pub numbers: [u32; MESSAGES],
 }
 
-#[derive(Drop)]
+#[derive(Clone, Copy)]
 pub struct DeliveredNumbers {
     pub delivery: DeliveryResult,
     pub numbers: [u32; MESSAGES],

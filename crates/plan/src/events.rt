@@ -16,7 +16,7 @@ use bench::{Bench, Event};
 use distances::ready::both;
 
 // The next event, the bytes that it takes and the numbers that it answers with; no bytes where a list goes no further.
-#[derive(Drop)]
+#[derive(Clone, Copy)]
 pub(crate) struct NextEvent {
     pub(crate) event: Event,
     pub(crate) used: usize,

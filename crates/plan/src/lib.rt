@@ -11,7 +11,7 @@ mod tags;
 mod values;
 
 // How far a plan has come. Stage 0: nothing read; 1: the bridge count; 2: a view; 3: an event.
-#[derive(Drop)]
+#[derive(Clone, Copy)]
 pub struct Progress {
     pub stage: usize,
     pub bridges: usize,
@@ -20,7 +20,7 @@ pub struct Progress {
 }
 
 // A setup or an event. A view's costs stand in the plan after the field's header.
-#[derive(Drop)]
+#[derive(Clone, Copy)]
 pub enum Field {
     Bridges(u8),
     Link(u8, u8),
@@ -29,14 +29,14 @@ pub enum Field {
 }
 
 // A field and the bytes that it takes; or the plan ends here, with document 01's number, 0 for its proper end.
-#[derive(Drop)]
+#[derive(Clone, Copy)]
 pub enum Read {
     Field(Field, usize),
     Stop(u8),
 }
 
 // What `read_costs` did: refused with document 01's number, or stored the costs.
-#[derive(Drop)]
+#[derive(Clone, Copy)]
 pub enum Storing {
     Refused(u8),
     Stored,

@@ -7,7 +7,7 @@ use crate::sizes::COST_BYTES;
 use distances::ready::both;
 
 // Where in the plan a field may come: first of all, after the bridge count and before views or events, or after a view.
-#[derive(Drop)]
+#[derive(Clone, Copy)]
 pub(crate) enum Place {
     First,
     BeforeViews,
@@ -16,13 +16,13 @@ pub(crate) enum Place {
 }
 
 // The length of its value: so many bytes, or a cost for each link.
-#[derive(Drop)]
+#[derive(Clone, Copy)]
 pub(crate) enum Length {
     Bytes(u8),
     CostPerLink,
 }
 
-#[derive(Drop)]
+#[derive(Clone, Copy)]
 pub(crate) struct Rule(pub(crate) Place, pub(crate) Length);
 
 const LAST_TAG: usize = 12;

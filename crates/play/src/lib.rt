@@ -24,7 +24,7 @@ const TOO_LONG_AT: u32 = LONGEST_PLAN as u32;
 
 // What became of a plan: all that it prints was handed to standard output, so many bytes; or a write failed, and so many had been handed
 // on before it; or the plan could not be read, and nothing was handed on.
-#[derive(Drop)]
+#[derive(Clone, Copy)]
 pub enum Reply {
     Printed(usize),
     Stopped(usize),
@@ -32,7 +32,7 @@ pub enum Reply {
 }
 
 // What a descriptor gave: so many of the lent bytes are the plan's; or a read failed.
-#[derive(Drop)]
+#[derive(Clone, Copy)]
 enum Input {
     Read(usize),
     Failed,

@@ -13,7 +13,7 @@ pub mod steps;
 mod stops;
 
 // How far a plan has come: its stage as the reader counts it, the events carried out, the offset of the next field.
-#[derive(Drop)]
+#[derive(Clone, Copy)]
 pub struct Runner {
     pub bench: Bench,
     pub stage: usize,
@@ -23,7 +23,7 @@ pub struct Runner {
 
 // After a step or several: the messages in flight, whether the plan goes on, the bytes of it that were used, the bytes that are to be printed, and
 // document 01's number, 0 where nothing is refused.
-#[derive(Drop)]
+#[derive(Clone, Copy)]
 pub struct StepResult {
     pub runner: Runner,
     pub messages: [Message; MOST_MESSAGES],

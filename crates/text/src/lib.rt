@@ -9,7 +9,7 @@ pub const LONGEST: usize = 544;
 
 // How many bytes were written, from the first on; refused where fewer than `LONGEST` bytes are lent, more than 16 bridges are reported, or a report has
 // fewer than two numbers for each bridge.
-#[derive(Drop)]
+#[derive(Clone, Copy)]
 pub enum Written {
     Refused,
     Bytes(usize),

@@ -1,0 +1,14 @@
+-- `ready::each_in_range` meets its contract. The loop's invariant: `ok` says whether every record below `e` passes. Assumes nothing.
+use Prim.Native.Nat.{◌≤◌, ◌-◌, ◌*◌}
+use mathlib.Core.Path.{◌≡◌}
+use lib.ListN.{get_or}
+use Rattle.distances.specs.Call.{all_below}
+use Rattle.agreement.specs.Ranges.{record_in_range}
+use Rattle.agreement.specs.Record.{fresh_record}
+use Rattle.agreement.proofs.ready.each_in_range.Given as goal
+
+abbrev pub invariant-loop-e : goal.invariant-loop-e
+invariant-loop-e l = (l.e ≤ 2 * l.links) × (l.ok ≡ all_below l.e (λ k. record_in_range l.views (get_or l.records k fresh_record)))
+
+abbrev pub decreases-loop-e : goal.decreases-loop-e
+decreases-loop-e l = 2 * l.links - l.e

@@ -11,7 +11,7 @@ use lib.Seq.{length-take-le, get_or-append-add, get_or-take, get_or-drop}
 use lib.Dec.{eqb, ltb}
 use Rattle.distances.specs.View.{NONE}
 use Rattle.distances.specs.Table.{cell, rewritten, is_in_row}
-use Rattle.distances.proofs.Booleans.{both_true, cond-by}
+use Rattle.distances.proofs.Booleans.{both_true}
 use Rattle.distances.proofs.Tables.{cell-is, is_in_row-is, rewritten-length, rewritten-at, rewritten-is, rewritten-none, rewritten-set, row_of, column-of}
 use Rattle.distances.proofs.Steps.{ltb-more}
 use Rattle.agreement.specs.declared.Agreement.{Agreement}

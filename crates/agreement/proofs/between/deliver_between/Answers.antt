@@ -20,7 +20,8 @@ rewrite_limits-requires c =
     let accepted : (let a = c.args in
     between_in_range (between a.bridges a.near a.far a.cost a.table.now) a.sent.now a.held.now a.end
     && delivery_in_range a.views a.view a.old a.message.view) ≡ true = checked ∙ c.if-both.true in
-    omega (arith, between-told _ _ _ _ (both_true _ _ accepted).0)
+    let a = c.args in
+    omega (arith, between-told (between a.bridges a.near a.far a.cost a.table.now) a.end a.sent.now a.held.now (both_true _ _ accepted).0)
 
 pub rewrite_limits-requires-then-both : goal.rewrite_limits-requires-then-both
 unfolding between_in_range
@@ -31,7 +32,8 @@ rewrite_limits-requires-then-both c =
     let accepted : (let a = c.args in
     between_in_range (between a.bridges a.near a.far a.cost a.table.now) a.sent.now a.held.now a.end
     && delivery_in_range a.views a.view a.old a.message.view) ≡ true = checked ∙ c.if-both.true in
-    omega (arith, between-told _ _ _ _ (both_true _ _ accepted).0)
+    let a = c.args in
+    omega (arith, between-told (between a.bridges a.near a.far a.cost a.table.now) a.end a.sent.now a.held.now (both_true _ _ accepted).0)
 
 pub returns-then-both : goal.returns-then-both
 unfolding between_in_range

@@ -22,7 +22,8 @@ rewrite_limits-requires c =
     let accepted : (let a = c.args in
     between_in_range (between a.bridges a.near a.far a.cost a.table.now) a.sent.now a.held.now a.end
     && (is_view a.views a.view && record_in_range a.views a.old)) ≡ true = checked ∙ c.if-both.true in
-    omega (arith, between-told _ _ _ _ (both_true _ _ accepted).0)
+    let a = c.args in
+    omega (arith, between-told (between a.bridges a.near a.far a.cost a.table.now) a.end a.sent.now a.held.now (both_true _ _ accepted).0)
 
 pub rewrite_limits-requires-then-both : goal.rewrite_limits-requires-then-both
 unfolding between_in_range
@@ -35,7 +36,8 @@ rewrite_limits-requires-then-both c =
     let accepted : (let a = c.args in
     between_in_range (between a.bridges a.near a.far a.cost a.table.now) a.sent.now a.held.now a.end
     && (is_view a.views a.view && record_in_range a.views a.old)) ≡ true = checked ∙ c.if-both.true in
-    omega (arith, between-told _ _ _ _ (both_true _ _ accepted).0)
+    let a = c.args in
+    omega (arith, between-told (between a.bridges a.near a.far a.cost a.table.now) a.end a.sent.now a.held.now (both_true _ _ accepted).0)
 
 pub returns-then-both : goal.returns-then-both
 unfolding between_in_range

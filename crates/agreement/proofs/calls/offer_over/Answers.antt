@@ -10,7 +10,8 @@ use Rattle.agreement.proofs.calls.offer_over.Goals as goal
 pub offer_at-requires : goal.offer_at-requires
 offer_at-requires c =
     let accepted : (end_in_range c.args.bridges c.args.links c.args.ends.now c.args.costs.now c.args.table.now 1024 1024 c.args.end ≡ true) = sym c.end_in_range.ensures ∙ c.if-end_in_range.true in
-    let ok = accepted in (end-ready _ _ _ _ _ _ _ _ ok, ((end-told _ _ _ _ _ _ _ _ ok).0, c.if-dest-bridges.true))
+    let ok = accepted in
+    record { view_ready = end-ready _ _ _ _ _ _ _ _ ok; end_bound = ((end-told _ _ _ _ _ _ _ _ ok).0, c.if-dest-bridges.true) }
 
 pub returns-then-dest-bridges : goal.returns-then-dest-bridges
 unfolding offer_outcome

@@ -6,7 +6,9 @@ use Rattle.agreement.proofs.Outcomes.{fresh-accepted, fresh-refused}
 use Rattle.agreement.proofs.calls.start_end.Goals as goal
 
 pub rewrite_end-requires : goal.rewrite_end-requires
-rewrite_end-requires c = end-accepted _ _ _ _ _ _ _ _ (sym c.end_in_range.ensures ∙ c.if-end_in_range.true)
+rewrite_end-requires c =
+    let h = end-accepted _ _ _ _ _ _ _ _ (sym c.end_in_range.ensures ∙ c.if-end_in_range.true) in
+    record { view_ready = h.0; end_bound = h.1 }
 
 pub returns-then-end_in_range : goal.returns-then-end_in_range
 returns-then-end_in_range c =

@@ -30,7 +30,9 @@ told bridges links ends costs table views records sent held y d ok =
     )
 
 pub verdict_of-requires : goal.verdict_of-requires
-verdict_of-requires c = told _ _ _ _ _ _ _ _ _ _ _ (sym c.port_in_range.ensures ∙ c.if-port_in_range.true)
+verdict_of-requires c =
+    let h = told _ _ _ _ _ _ _ _ _ _ _ (sym c.port_in_range.ensures ∙ c.if-port_in_range.true) in
+    record { view_ready = h.0; in_bounds = h.1 }
 
 pub returns-then-port_in_range : goal.returns-then-port_in_range
 returns-then-port_in_range c =

@@ -1,7 +1,6 @@
-use Prim.Native.Nat.{◌<◌, ◌-◌, ◌*◌}
+use Prim.Native.Nat.{◌<◌, ◌*◌}
 use native.Mathlib.Omega.{arith}
 use mathlib.Core.Path.{◌≡◌, refl, sym, ap, ◌∙◌}
-use mathlib.Core.Logic.{⊎_elim}
 use lib.ListN.{length}
 use Rattle.distances.proofs.Tables.{cell-is}
 use Rattle.agreement.specs.Record.{fresh_record}
@@ -10,6 +9,7 @@ use Rattle.agreement.proofs.Basics.{get_d_default}
 use Rattle.agreement.proofs.Entry.{BothEnds, both-ends-ready}
 use Rattle.agreement.proofs.ChoiceLaws.{choice-none, choice-here, choice-away, choice-is-verdict}
 use Rattle.agreement.proofs.ports.verdict_of.Goals as goal
+use Rattle.agreement.proofs.ports.verdict_of.Goals.{then-at-bridge, else-at-bridge}
 
 pub loop-e-init : goal.loop-e-init
 loop-e-init c = (omega arith, c.first_choice-choice.ensures ∙ choice-none _ _ _ _ _ _ (sym (cell-is _ _ _)))
@@ -51,24 +51,24 @@ loop-e-preserved c =
     let e = c.loop-e.e in
     let inv = c.loop-e.invariant in
     let h : e < length a.records = omega arith in
-    ⊎_elim
-    (λ w. (
-      omega arith,
-      w.8
-          ∙ choice-here _ _ _ _ _ _ e inv.1 w.0.taken
-          (record {
-            is_link = refl;
-            is_cost = refl;
-            is_far = rw (w.1.ensures, cell-is);
-            is_down = refl;
-            is_holding = ap (λ (z : EndRecord). z.holding) (get_d_default a.records e _ fresh_record h);
-            is_sent = sym (cell-is _ _ _);
-            is_held = sym (cell-is _ _ _);
-          })
-          w.7.ensures,
-    ))
-    (λ w. (omega arith, w.1 ∙ inv.1 ∙ choice-away _ _ _ _ _ _ e w.0.left))
-    c.if-at-bridge.branch
+    elim c.if-at-bridge.branch [
+      | then-at-bridge w ↦ (
+        omega arith,
+        w.choice-is
+            ∙ choice-here _ _ _ _ _ _ e inv.1 w.if-at-bridge.true
+            (record {
+              is_link = refl;
+              is_cost = refl;
+              is_far = rw (w.opposite_end-other.ensures, cell-is);
+              is_down = refl;
+              is_holding = ap (λ (z : EndRecord). z.holding) (get_d_default a.records e _ fresh_record h);
+              is_sent = sym (cell-is _ _ _);
+              is_held = sym (cell-is _ _ _);
+            })
+            w.choice_with-choice.ensures,
+      )
+      | else-at-bridge w ↦ (omega arith, w.choice-is ∙ inv.1 ∙ choice-away _ _ _ _ _ _ e w.if-at-bridge.false)
+    ]
 
 pub returns : goal.returns
 returns c =

@@ -38,7 +38,8 @@ returns c =
     let v = view_data c.args.bridges c.args.links c.args.ends.now c.args.costs.now c.args.table.now in
     let e = c.args.end in
     let o = c.opposite_end-other.result in
-    let other = c.opposite_end-other.ensures in (
-      c.rewrite_limits.ensures ∙ rw (lent-offers v e e o (e / 2) refl other refl),
-      c.rewrite_limits-2.ensures ∙ rw (lent-offers v (opposite e) o e (e / 2) other (omega arith) (omega arith)),
-    )
+    let other = c.opposite_end-other.ensures in
+    record {
+      sent_after = c.rewrite_limits.ensures ∙ rw (lent-offers v e e o (e / 2) refl other refl);
+      held_after = c.rewrite_limits-2.ensures ∙ rw (lent-offers v (opposite e) o e (e / 2) other (omega arith) (omega arith));
+    }

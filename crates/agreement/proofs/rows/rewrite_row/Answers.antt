@@ -1,9 +1,7 @@
-use Prim.Native.Nat.{◌-◌}
 use native.Mathlib.Omega.{arith}
 use mathlib.Core.Path.{◌≡◌, refl, ◌∙◌}
 use lib.ListN.{length-set}
 use Rattle.distances.proofs.Tables.{cell-is}
-use Rattle.agreement.specs.Limits.{limit_of}
 use Rattle.agreement.proofs.Limits.{front-none, front-more}
 use Rattle.agreement.proofs.rows.rewrite_row.Goals as goal
 

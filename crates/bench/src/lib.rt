@@ -2,6 +2,7 @@
 // (view t, link l at 32 t + l), two limit tables (a row of 16 for each end), and the messages (five numbers for each). The views'
 // distances follow from the costs: a call computes those that it uses.
 #![tactic(auto)]
+
 use agreement::{Answer, EndRecord, Port, Verdict};
 
 pub mod answers;

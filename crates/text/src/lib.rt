@@ -1,5 +1,6 @@
 // The lines that the program prints, into bytes that the caller lends.
 #![tactic(auto)]
+
 mod decimal;
 pub mod lines;
 mod words;

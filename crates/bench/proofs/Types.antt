@@ -5,6 +5,7 @@ use mathlib.Core.List.{List, [], ◌∷◌, map}
 use mir.Syntax.{w16}
 use mir.Val.{Val}
 use denote.Array.{each}
+use denote.Builtin.{u16}
 use denote.Laws.{Is}
 use denote.Shadow.{shadow}
 use borrow.Author.Rules.{length_unmapped, elem_fits_field}
@@ -17,10 +18,17 @@ use Rattle.bench.specs.contracts.Bench as B
 use Rattle.bench.proofs.ChangeSteps.{length-mapped}
 use Rattle.bench.proofs.Represents.{Typed}
 
+-- each of the numbers of 16 bits
+numbers-fit : (xs : List ℕ) (us : List Val) (y : ℕ) → shadow (each (u16).Denot (u16).own_val xs us) → get_or xs y 0 < 65536
+numbers-fit [] us y p = omega arith
+numbers-fit (x ∷ xs) [] y p = absurd p
+numbers-fit (x ∷ xs) (u ∷ us) zero p = p.0.1
+numbers-fit (x ∷ xs) (u ∷ us) (suc y) p = numbers-fit xs us y p.1
+
 -- each record's two numbers
 records-fit :
     (xs : List EndRecord) (us : List Val) (e : ℕ) →
-    shadow (each (R.the_field).row.Denot (R.the_field).row.own_val (map (R.the_field).into xs) us) →
+    shadow (each (R.the_row).Denot (R.the_row).own_val xs us) →
     ((get_or xs e fresh_record).received < 65536) × ((get_or xs e fresh_record).discarded < 65536)
 records-fit [] us e p = (omega arith, omega arith)
 records-fit (x ∷ xs) [] e p = absurd p
@@ -31,11 +39,11 @@ pub typed-by : (b : Bench) (v : Val) → Is B.the_row b (v ∷ []) → Typed b
 typed-by b v is =
     let fields = is.1.1.1.1.1.1.1 in
     record {
-      views = length_unmapped ℕ b.view 16 fields.0.1.0.1;
-      numbers = length_unmapped ℕ b.number 16 fields.1.0.1.0.1;
-      records = length-mapped _ _ _ b.records 64 fields.1.1.0.1.0.1;
-      flags = length_unmapped _ b.down 64 fields.1.1.1.0.1.0.1;
-      number = λ y h. (elem_fits_field w16 w16 b.number _ y fields.1.0.1.1 tt).fits;
+      views = fields.0.1.0.1;
+      numbers = fields.1.0.1.0.1;
+      records = fields.1.1.0.1.0.1;
+      flags = fields.1.1.1.0.1.0.1;
+      number = λ y h. numbers-fit b.number _ y fields.1.0.1.1;
       received = λ e h. (records-fit b.records _ e fields.1.1.0.1.1).0;
       discarded = λ e h. (records-fit b.records _ e fields.1.1.0.1.1).1;
     }

@@ -1,0 +1,68 @@
+-- `changes::update_ready` meets its contract. What is not turned down moves its bridge, unless the bridge is on the view. Assumes nothing.
+use Prim.Native.Nat.{◌<◌}
+use mir.Val.{Fits}
+use mir.Syntax.{w16}
+use native.Mathlib.Omega.{arith}
+use mathlib.Core.List.{[]}
+use mathlib.Core.Path.{◌≡◌, refl, ap, sym, ◌∙◌}
+use borrow.Author.Rules.{rules}
+use lib.ListN.{get_or}
+use native.Mathlib.Nat.{lt_of_lt_of_le}
+use Rattle.bench.specs.State.{State}
+use Rattle.bench.specs.Private.Views.{network_of}
+use Rattle.bench.specs.declared.Bench.{Bench}
+use Rattle.bench.proofs.ChangeEntry.{update-told, number-left}
+use Rattle.bench.proofs.UpdateSteps.{turns_down, changes-nothing, moves-it}
+use Rattle.protocol.specs.Calls.{change, update, refuse}
+use Rattle.bench.proofs.changes.update_ready.Goals as goal
+
+-- the table's number, for a state with this bench
+number_of : (c : tie.After-update-refusal) (s : State) → s.bench ≡ c.before.before.before.before.before.before.args.bench → c.update-refusal.result ≡ refuse (network_of s.bench []) (change (update c.before.before.before.before.before.before.args.bridge c.before.before.before.before.before.before.args.view))
+number_of c s here =
+    c.update-refusal.ensures s.bench (ap (λ (b : Bench). b.bridges) here) (ap (λ (b : Bench). b.views) here) (ap (λ (b : Bench). b.view) here)
+    (ap (λ (b : Bench). b.number) here)
+
+pub update_refusal-refusal-requires : goal.update_refusal-refusal-requires
+update_refusal-refusal-requires c = c.requires.0.few_bridges
+
+pub returns-then-refusal-ne0 : goal.returns-then-refusal-ne0
+returns-then-refusal-ne0 c = record { view_value = λ s here ok. turns_down s _ _ _ ok (number_of (goal.at.returns-then-refusal-ne0 c).After-update_refusal-refusal s here) c.if-refusal-ne0.true; updating_fits = (omega arith, c.requires.1) }
+
+pub returns-then-present-view : goal.returns-then-present-view
+returns-then-present-view c = record { view_value = λ s here ok. changes-nothing s _ _ _ ok (number_of (goal.at.returns-then-present-view c).After-update_refusal-refusal s here) c.if-refusal-ne0.false (ap (λ (b : Bench). get_or b.view c.args.bridge 0) here ∙ c.if-present-view.true); updating_fits = (tt, c.requires.1) }
+
+pub need_view-requires : goal.need_view-requires
+need_view-requires c =
+    let low : (c.args.bridge < 16) × (c.args.view < 32) = let u = update-told (network_of c.args.bench []) c.args.bridge c.args.view (c.update_refusal-refusal.ensures c.args.bench refl refl refl refl) c.if-refusal-ne0.false in
+    (lt_of_lt_of_le u.bridge c.requires.0.few_bridges, lt_of_lt_of_le u.view c.requires.0.few_views) in
+    (low.1, c.requires.0.costs_long, c.requires.1)
+
+pub shape_of-tables : goal.shape_of-tables
+shape_of-tables c = c.need_view.auto.tables
+
+pub shape_of-known : goal.shape_of-known
+shape_of-known c = c.need_view.auto.known
+
+pub returns : goal.returns
+returns c =
+    let fits : Fits w16 (get_or c.args.bench.number c.args.bridge 0) = search rules in
+    let a = c.args in
+    let u = update-told (network_of a.bench []) a.bridge a.view (c.update_refusal-refusal.ensures a.bench refl refl refl refl) c.if-refusal-ne0.false in (
+      λ s here ok. moves-it s _ _ _ ok (number_of (goal.at.returns c).After-update_refusal-refusal s here) c.if-refusal-ne0.false
+          (λ there. c.if-present-view.false (sym (ap (λ (b : Bench). get_or b.view a.bridge 0) here) ∙ there)),
+      (
+        record {
+          bridge = u.bridge;
+          view = u.view;
+          number = number-left (network_of a.bench []) a.bridge a.view u fits.fits c.if-present-view.false;
+          filled = c.need_view.ensures.tables_of.1;
+        },
+        c.need_view.ensures.tables_of.0,
+      ),
+    )
+
+pub bounds-at-bridge : goal.bounds-at-bridge
+bounds-at-bridge c =
+    let low : (c.args.bridge < 16) × (c.args.view < 32) = let u = update-told (network_of c.args.bench []) c.args.bridge c.args.view (c.update_refusal-refusal.ensures c.args.bench refl refl refl refl) c.if-refusal-ne0.false in
+    (lt_of_lt_of_le u.bridge c.requires.0.few_bridges, lt_of_lt_of_le u.view c.requires.0.few_views) in
+    low.0

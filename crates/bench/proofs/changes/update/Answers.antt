@@ -17,6 +17,7 @@ use Rattle.bench.specs.Outcomes.{ready_for, outcome, outcome_of}
 use Rattle.bench.specs.Private.Changes.{ChangeOutcome}
 use Rattle.bench.specs.Private.Effects.{updating_to, updating_response}
 use Rattle.bench.proofs.CallSteps.{with_rewritten}
+use Rattle.bench.proofs.Types.{typed-by}
 use Rattle.bench.proofs.OutcomeLaws.{range-refused}
 use Rattle.bench.proofs.CallOutcomes.{update-outcome}
 use Rattle.bench.specs.declared.Bench.{Bench}
@@ -25,18 +26,6 @@ use Rattle.bench.proofs.changes.update.Goals as goal
 -- what is handed over, beside any messages
 abbrev Given : (bench : Bench) (costs : List ℕ) (sent : List ℕ) (held : List ℕ) → List ℕ → State
 Given bench costs sent held messages = state bench costs sent held messages
-
--- what the update comes to
-comes :
-    (c : tie.After-update-ready) (messages : List ℕ) →
-    let a = c.before.before.before.before.before.before.before.before.args in
-    let s : State = Given c.before.before.before.before.before.before.before.before messages in
-    outcome (updating_response c.update-ready.result) (with_rewritten s (updating_to c.update-ready.result s a.bridge a.view))
-    ≡ outcome_of s (change (update a.bridge a.view)) (λ n. tt)
-comes c messages =
-    let s = Given c.before.before.before.before.before.before.before.before messages in
-    update-outcome s (inside c.before.before.before) (typed c.before.before.before.before.before.before.before.before) _ _ c.update-ready.result _
-    (c.update-ready.ensures.0 s refl (inside c.before.before.before)) c.update-ready.ensures.1.0
 
 pub returns-then-not-network_in_range : goal.returns-then-not-network_in_range
 unfolding ready_for
@@ -72,18 +61,28 @@ moved-requires c =
     let inside : network_in_range (Given c.args.bench c.args.costs.now c.args.sent.now c.args.held.now []) ≡ true = sym c.network_in_range.ensures ∙ c.if-not-network_in_range.false in
     let can = rw c.in-Moves.is at c.update_ready-updating.ensures.updating_fits.0 in
     let tables = c.update_ready-updating.ensures.updating_fits.1 in
-    let ready = network-told _ _ _ _ inside in (
-      (inside, can.bridge, can.view, le_of_eq (sym tables.long), can.number),
-      (tables-filled c.args.bench _ _ _ tables c.args.view (lt_of_lt_of_le can.view ready.few_views) can.filled, c.end_chains-chain.ensures),
-    )
+    let ready = network-told _ _ _ _ inside in
+    record {
+      held_value = (inside, can.bridge, can.view, le_of_eq (sym tables.long), can.number);
+      filled = (tables-filled c.args.bench _ _ _ tables c.args.view (lt_of_lt_of_le can.view ready.few_views) can.filled, c.end_chains-chain.ensures);
+    }
 
 pub returns-in-Refused : goal.returns-in-Refused
 returns-in-Refused c =
     λ messages.
-    rw (c.refused-in-Refused.ensures.0, c.refused-in-Refused.ensures.1) (rw c.in-Refused.is at (comes (goal.at.returns-in-Refused c).After-update_ready-updating messages))
+    let inside : network_in_range (Given c.args.bench c.args.costs.now c.args.sent.now c.args.held.now []) ≡ true = sym c.network_in_range.ensures ∙ c.if-not-network_in_range.false in
+    let s = Given c.args.bench c.args.costs.now c.args.sent.now c.args.held.now messages in
+    let comes : outcome (updating_response c.update_ready-updating.result) (with_rewritten s (updating_to c.update_ready-updating.result s c.args.bridge c.args.view)) ≡ outcome_of s (change (update c.args.bridge c.args.view)) (λ n. tt) =
+    update-outcome s inside (typed-by _ _ c.well_formed.0) _ _ c.update_ready-updating.result _ (c.update_ready-updating.ensures.view_value s refl inside) c.update_ready-updating.ensures.updating_fits.0 in
+    rw (c.refused-in-Refused.ensures.0, c.refused-in-Refused.ensures.1) (rw c.in-Refused.is at comes)
 
 pub returns-in-Stays : goal.returns-in-Stays
-returns-in-Stays c = λ messages. rw c.in-Stays.is at (comes (goal.at.returns-in-Stays c).After-update_ready-updating messages)
+returns-in-Stays c = λ messages.
+    let inside : network_in_range (Given c.args.bench c.args.costs.now c.args.sent.now c.args.held.now []) ≡ true = sym c.network_in_range.ensures ∙ c.if-not-network_in_range.false in
+    let s = Given c.args.bench c.args.costs.now c.args.sent.now c.args.held.now messages in
+    let comes : outcome (updating_response c.update_ready-updating.result) (with_rewritten s (updating_to c.update_ready-updating.result s c.args.bridge c.args.view)) ≡ outcome_of s (change (update c.args.bridge c.args.view)) (λ n. tt) =
+    update-outcome s inside (typed-by _ _ c.well_formed.0) _ _ c.update_ready-updating.result _ (c.update_ready-updating.ensures.view_value s refl inside) c.update_ready-updating.ensures.updating_fits.0 in
+    rw c.in-Stays.is at comes
 
 pub shape_of-sent : goal.shape_of-sent
 shape_of-sent c = c.moved.auto.sent
@@ -94,5 +93,9 @@ shape_of-held c = c.moved.auto.held
 pub returns-in-Moves : goal.returns-in-Moves
 returns-in-Moves c =
     λ messages.
+    let inside : network_in_range (Given c.args.bench c.args.costs.now c.args.sent.now c.args.held.now []) ≡ true = sym c.network_in_range.ensures ∙ c.if-not-network_in_range.false in
+    let s = Given c.args.bench c.args.costs.now c.args.sent.now c.args.held.now messages in
+    let comes : outcome (updating_response c.update_ready-updating.result) (with_rewritten s (updating_to c.update_ready-updating.result s c.args.bridge c.args.view)) ≡ outcome_of s (change (update c.args.bridge c.args.view)) (λ n. tt) =
+    update-outcome s inside (typed-by _ _ c.well_formed.0) _ _ c.update_ready-updating.result _ (c.update_ready-updating.ensures.view_value s refl inside) c.update_ready-updating.ensures.updating_fits.0 in
     ap (λ (o : ChangeOutcome). outcome (says tt) (with_rewritten (Given c.args.bench c.args.costs.now c.args.sent.now c.args.held.now messages) o)) c.moved.ensures
-    ∙ (rw c.in-Moves.is at (comes (goal.at.returns-in-Moves c).After-update_ready-updating messages))
+    ∙ (rw c.in-Moves.is at comes)

@@ -1,5 +1,5 @@
 -- `changes::update_ready` meets its contract. What is not turned down moves its bridge, unless the bridge is on the view. Assumes nothing.
-use Prim.Native.Nat.{◌<◌}
+use Prim.Native.Nat.{ℕ, ◌<◌}
 use mir.Val.{Fits}
 use mir.Syntax.{w16}
 use native.Mathlib.Omega.{arith}
@@ -17,19 +17,22 @@ use Rattle.protocol.specs.Calls.{change, update, refuse}
 use Rattle.bench.proofs.changes.update_ready.Goals as goal
 
 -- the table's number, for a state with this bench
-number_of : (c : tie.After-update-refusal) (s : State) → s.bench ≡ c.before.before.before.before.before.before.args.bench → c.update-refusal.result ≡ refuse (network_of s.bench []) (change (update c.before.before.before.before.before.before.args.bridge c.before.before.before.before.before.before.args.view))
-number_of c s here =
-    c.update-refusal.ensures s.bench (ap (λ (b : Bench). b.bridges) here) (ap (λ (b : Bench). b.views) here) (ap (λ (b : Bench). b.view) here)
+number_of :
+    (b : Bench) (result bridge view : ℕ) →
+    ((b' : Bench) → b'.bridges ≡ b.bridges → b'.views ≡ b.views → b'.view ≡ b.view → b'.number ≡ b.number → result ≡ refuse (network_of b' []) (change (update bridge view))) →
+    (s : State) → s.bench ≡ b → result ≡ refuse (network_of s.bench []) (change (update bridge view))
+number_of b result bridge view told s here =
+    told s.bench (ap (λ (b : Bench). b.bridges) here) (ap (λ (b : Bench). b.views) here) (ap (λ (b : Bench). b.view) here)
     (ap (λ (b : Bench). b.number) here)
 
 pub update_refusal-refusal-requires : goal.update_refusal-refusal-requires
 update_refusal-refusal-requires c = c.requires.0.few_bridges
 
 pub returns-then-refusal-ne0 : goal.returns-then-refusal-ne0
-returns-then-refusal-ne0 c = record { view_value = λ s here ok. turns_down s _ _ _ ok (number_of (goal.at.returns-then-refusal-ne0 c).After-update_refusal-refusal s here) c.if-refusal-ne0.true; updating_fits = (omega arith, c.requires.1) }
+returns-then-refusal-ne0 c = record { view_value = λ s here ok. turns_down s _ _ _ ok (number_of _ _ _ _ c.update_refusal-refusal.ensures s here) c.if-refusal-ne0.true; updating_fits = (omega arith, c.requires.1) }
 
 pub returns-then-present-view : goal.returns-then-present-view
-returns-then-present-view c = record { view_value = λ s here ok. changes-nothing s _ _ _ ok (number_of (goal.at.returns-then-present-view c).After-update_refusal-refusal s here) c.if-refusal-ne0.false (ap (λ (b : Bench). get_or b.view c.args.bridge 0) here ∙ c.if-present-view.true); updating_fits = (tt, c.requires.1) }
+returns-then-present-view c = record { view_value = λ s here ok. changes-nothing s _ _ _ ok (number_of _ _ _ _ c.update_refusal-refusal.ensures s here) c.if-refusal-ne0.false (ap (λ (b : Bench). get_or b.view c.args.bridge 0) here ∙ c.if-present-view.true); updating_fits = (tt, c.requires.1) }
 
 pub need_view-requires : goal.need_view-requires
 need_view-requires c =
@@ -47,10 +50,11 @@ pub returns : goal.returns
 returns c =
     let fits : Fits w16 (get_or c.args.bench.number c.args.bridge 0) = search rules in
     let a = c.args in
-    let u = update-told (network_of a.bench []) a.bridge a.view (c.update_refusal-refusal.ensures a.bench refl refl refl refl) c.if-refusal-ne0.false in (
-      λ s here ok. moves-it s _ _ _ ok (number_of (goal.at.returns c).After-update_refusal-refusal s here) c.if-refusal-ne0.false
-          (λ there. c.if-present-view.false (sym (ap (λ (b : Bench). get_or b.view a.bridge 0) here) ∙ there)),
-      (
+    let u = update-told (network_of a.bench []) a.bridge a.view (c.update_refusal-refusal.ensures a.bench refl refl refl refl) c.if-refusal-ne0.false in
+    record {
+      view_value = λ s here ok. moves-it s _ _ _ ok (number_of _ _ _ _ c.update_refusal-refusal.ensures s here) c.if-refusal-ne0.false
+          (λ there. c.if-present-view.false (sym (ap (λ (b : Bench). get_or b.view a.bridge 0) here) ∙ there));
+      updating_fits = (
         record {
           bridge = u.bridge;
           view = u.view;
@@ -58,8 +62,8 @@ returns c =
           filled = c.need_view.ensures.tables_of.1;
         },
         c.need_view.ensures.tables_of.0,
-      ),
-    )
+      );
+    }
 
 pub bounds-at-bridge : goal.bounds-at-bridge
 bounds-at-bridge c =

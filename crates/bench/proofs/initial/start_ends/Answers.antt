@@ -25,8 +25,8 @@ loop-e-preserved c =
     let inv = c.loop-e.invariant in
     let kept = c.start_end.auto in (
       next_low c.loop-e-test.true,
-      kept.1.1.1.1.1.1.0 ∙ inv.1,
-      kept.1.1.1.1.1.1.1.0 ∙ inv.2,
+      kept.sent ∙ inv.1,
+      kept.held ∙ inv.2,
       started-more _ _ _ inv.3 c.start_end.ensures,
     )
 

@@ -102,8 +102,8 @@ loop-e-preserved c =
       x.most,
       x.its,
       length-set c.loop-e.records _ _ ∙ inv.2,
-      kept.1.1.1.1.1.1.1.1.1.0 ∙ inv.3,
-      kept.1.1.1.1.1.1.1.1.1.1.0 ∙ inv.4,
+      kept.sent ∙ inv.3,
+      kept.held ∙ inv.4,
       moved-next _ _ _ _ _ _ inv.5 (rw inv.2 low) (rw (inv.3, inv.4) (c.requires.by_index _ c.loop-e-test.true)) own c.opposite_end-other.ensures c.update_between-moved.ensures x,
     )
 

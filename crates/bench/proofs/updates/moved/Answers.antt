@@ -4,7 +4,7 @@ use native.Mathlib.Nat.{le-add_right, lt_of_lt_of_le}
 use Rattle.bench.specs.Private.Steps.{Ready}
 use Rattle.bench.proofs.QueueRanges.{network-told}
 use Rattle.bench.proofs.ChoiceReads.{costs-fit, block-fits}
-use Rattle.bench.proofs.ViewReads.{view-byte, row-past, row_scaled, block-past, block-scaled, number_fits, number-next}
+use Rattle.bench.proofs.ViewReads.{view-byte, row-past, row_scaled, row-there, block-past, block-scaled, block-there, number_fits, number-next}
 use Rattle.bench.proofs.ChangeSteps.{moved_all}
 use Rattle.bench.proofs.ChainSteps.{parts-in-range}
 use Rattle.bench.proofs.updates.moved.Goals as goal
@@ -48,6 +48,15 @@ offset_bounds-costs-row c =
 pub slice_bounds-move_ends-count : goal.slice_bounds-move_ends-count
 slice_bounds-move_ends-count c = le-add_right _ 32
 
+pub slice_bounds-move_ends-start : goal.slice_bounds-move_ends-start
+slice_bounds-move_ends-start c = le-add_right _ 32
+
+pub slice_bounds-move_ends-end : goal.slice_bounds-move_ends-end
+slice_bounds-move_ends-end c =
+    let ready : Ready c.args.bench c.args.costs.now = network-told _ _ _ _ c.requires.held_value.0 in
+    let view-low : c.args.view < 32 = lt_of_lt_of_le c.requires.held_value.2 ready.few_views in
+    row-there view-low ready.costs_long
+
 pub offset_bounds-tables-block : goal.offset_bounds-tables-block
 offset_bounds-tables-block c =
     let ready : Ready c.args.bench c.args.costs.now = network-told _ _ _ _ c.requires.held_value.0 in
@@ -57,12 +66,24 @@ offset_bounds-tables-block c =
 pub slice_bounds-move_ends-count-2 : goal.slice_bounds-move_ends-count-2
 slice_bounds-move_ends-count-2 c = le-add_right _ 256
 
+pub slice_bounds-move_ends-start-2 : goal.slice_bounds-move_ends-start-2
+slice_bounds-move_ends-start-2 c = le-add_right _ 256
+
+pub slice_bounds-move_ends-end-2 : goal.slice_bounds-move_ends-end-2
+slice_bounds-move_ends-end-2 c =
+    let ready : Ready c.args.bench c.args.costs.now = network-told _ _ _ _ c.requires.held_value.0 in
+    let view-low : c.args.view < 32 = lt_of_lt_of_le c.requires.held_value.2 ready.few_views in
+    block-there view-low c.requires.held_value.3
+
 pub move_ends-records-requires : goal.move_ends-records-requires
 move_ends-records-requires c =
     let ready : Ready c.args.bench c.args.costs.now = network-told _ _ _ _ c.requires.held_value.0 in
     let bridge-low : c.args.bridge < 16 = lt_of_lt_of_le c.requires.held_value.1 ready.few_bridges in
     let a = c.args in
-    ((ready.few_links, bridge-low, c.requires.filled.1), parts-in-range a.bench a.costs.now a.tables.now a.view _ _ c.requires.held_value.0 c.requires.held_value.2 c.requires.filled.0)
+    record {
+      links_bound = (ready.few_links, bridge-low, c.requires.filled.1);
+      by_index = parts-in-range a.bench a.costs.now a.tables.now a.view _ _ c.requires.held_value.0 c.requires.held_value.2 c.requires.filled.0;
+    }
 
 pub bounds-next-bridge : goal.bounds-next-bridge
 bounds-next-bridge c =

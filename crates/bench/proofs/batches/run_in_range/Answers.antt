@@ -30,7 +30,7 @@ use Rattle.bench.proofs.ChangeSteps.{length-mapped}
 use borrow.Author.Rules.{rules}
 use mir.Syntax.{w64}
 use mir.Val.{Fits}
-use native.Mathlib.Nat.{lt_of_lt_of_le, le_of_eq}
+use native.Mathlib.Nat.{lt_of_lt_of_le, le_of_eq, le_refl}
 use Rattle.bench.specs.declared.Event.{Event}
 use Rattle.bench.proofs.batches.run_in_range.Goals as goal
 
@@ -107,6 +107,12 @@ offset_bounds-answers-answered c = answers-scaled (goal.at.offset_bounds-answers
 
 pub slice_bounds-carry_out-count : goal.slice_bounds-carry_out-count
 slice_bounds-carry_out-count c = rw c.loop-how.invariant.0.long c.loop-how.invariant.0.within
+
+pub slice_bounds-carry_out-start : goal.slice_bounds-carry_out-start
+slice_bounds-carry_out-start c = rw c.loop-how.invariant.0.long c.loop-how.invariant.0.within
+
+pub slice_bounds-carry_out-end-in-loop-how-3 : goal.slice_bounds-carry_out-end-in-loop-how-3
+slice_bounds-carry_out-end-in-loop-how-3 c = le_refl _
 
 pub carry_out-done-requires : goal.carry_out-done-requires
 carry_out-done-requires c =
@@ -363,10 +369,7 @@ moved-current-requires c =
     let can = rw c.in-Moves.is at c.carry_out-done.ensures.can_apply.0 in
     let tables = c.carry_out-done.ensures.can_apply.1 in
     let inside = (both_true (network_in_range (At (goal.at.moved-current-requires c).Start l.current l.sent l.held l.flight)) _ l.invariant.1).0 in
-    let ready = network-told _ _ _ _ inside in (
-      (rw (c.carry_out-done.auto.sent, c.carry_out-done.auto.held) inside, can.bridge, can.view, le_of_eq (sym tables.long), can.number),
-      (tables-filled l.current _ _ _ tables _ (lt_of_lt_of_le can.view ready.few_views) can.filled, l.invariant.6),
-    )
+    let ready = network-told _ _ _ _ inside in record { held_value = (rw (c.carry_out-done.auto.sent, c.carry_out-done.auto.held) inside, can.bridge, can.view, le_of_eq (sym tables.long), can.number); filled = (tables-filled l.current _ _ _ tables _ (lt_of_lt_of_le can.view ready.few_views) can.filled, l.invariant.6) }
 
 pub shape_of-sent : goal.shape_of-sent
 shape_of-sent c = c.loop-how.invariant.3

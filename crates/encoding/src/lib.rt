@@ -2,6 +2,7 @@
 // stands for true. A list holds a record or an agreement where each number fits its field, and there the remainders change nothing. Past the
 // end of a list a number is read as 0, and nothing is written.
 #![tactic(auto)]
+
 ghost use Rattle.std.specs.Prelude.{◌≡◌, cond, [], ◌∷◌, get_or, set};
 ghost use Rattle.std.proofs.lemmas.List.Edits.{sets};
 ghost use Rattle.agreement.specs.Record.{answer_numbers};

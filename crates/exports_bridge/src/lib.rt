@@ -1,5 +1,6 @@
 // What Rust and C may call of layers 1 and 2: the public calls, each reply as document 01's number.
 #![tactic(auto)]
+
 pub mod records;
 
 ghost use Rattle.std.specs.Prelude.{◌≡◌};

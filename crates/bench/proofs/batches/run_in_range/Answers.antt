@@ -33,36 +33,33 @@ use mir.Val.{Fits}
 use native.Mathlib.Nat.{lt_of_lt_of_le, le_of_eq, le_refl}
 use Rattle.bench.specs.declared.Event.{Event}
 use Rattle.bench.proofs.batches.run_in_range.Goals as goal
-
--- a start of the loop
-abbrev Begun : Type 0
-Begun = tie.Start invariant-loop decreases-loop
+use Rattle.bench.proofs.batches.run_in_range.Goals.{After-both, After-carry_out-done, In-loop-how, Start}
 
 -- the events, as many as are counted
-abbrev listed : Begun → List Event
-listed s = take s.args.count s.args.t6
+abbrev listed : Start → List Event
+listed s = take s.args.count s.args.events
 
-counted : (s : Begun) → length (listed s) ≡ s.args.count
+counted : (s : Start) → length (listed s) ≡ s.args.count
 counted s =
-    let all : length s.args.t6 ≡ 2048 = search (rules, length-mapped) in
-    length-take-le s.args.count s.args.t6 (rw all s.pre.1)
+    let all : length s.args.events ≡ 2048 = search (rules, length-mapped) in
+    length-take-le s.args.count s.args.events (rw all s.pre.1)
 
-placed : (s : Begun) → length s.args.bench.ends ≡ 64
+placed : (s : Start) → length s.args.bench.ends ≡ 64
 placed s = search rules
 
 -- the state, with what the loop changes
-abbrev At : Begun → Bench → List ℕ → List ℕ → List ℕ → State
+abbrev At : Start → Bench → List ℕ → List ℕ → List ℕ → State
 At s current sent held flight = state current s.args.costs.now sent held flight
 
 -- what the whole list comes to
-abbrev Whole : Begun → Batch
+abbrev Whole : Start → Batch
 Whole s = batch_from (length s.args.answers.now) (At s s.args.bench s.args.sent.now s.args.held.now s.args.flight.now) (listed s)
 
 -- a number of answers fits, and so does their size
-answers-fit : (s : Begun) {n : ℕ} → n ≤ length s.args.answers.now → Fits w64 n
+answers-fit : (s : Start) {n : ℕ} → n ≤ length s.args.answers.now → Fits w64 n
 answers-fit s h = omega (arith, s.good)
 
-answers-scaled : (s : Begun) {n : ℕ} → n ≤ length s.args.answers.now → Fits w64 (n * 4)
+answers-scaled : (s : Start) {n : ℕ} → n ≤ length s.args.answers.now → Fits w64 (n * 4)
 answers-scaled s h = omega (arith, s.good)
 
 made-fits : {made count : ℕ} → made ≤ count → count ≤ 2048 → Fits w64 made
@@ -77,24 +74,45 @@ goes e taken = let h = both_true _ _ (sym e ∙ taken) in (h.0, ltb-true _ _ h.1
 past : {b going : Bool} {made count : ℕ} → b ≡ (going && ltb made count) → b ≡ false → going ≡ true → count ≤ made
 past {made} {count} e over on = ltb-false made count (rw on at (sym e ∙ over))
 
+-- a turn is made while the list goes on and has an event more
+going : (t : In-loop-how) → (t.loop-how.going ≡ true) × (t.loop-how.made < t.args.count)
+going t =
+    goes {going = t.loop-how.going} {made = t.loop-how.made} {count = t.args.count} t.both.ensures
+    t.loop-how-test.true
+
+-- the state before the event's effect is stored
+abbrev Then : (t : After-carry_out-done) → State
+Then t = At t.before.before.before.before.before.before.before.before.before.before.before.before.before.before.before.before.before.before.before.before.before.before.before t.loop-how.current t.carry_out-done.new.1.1.1.1.1.1.0 t.carry_out-done.new.1.1.1.1.1.1.1.0 t.carry_out-done.new.1.1.1.1.1.1.1.1.0
+
+-- what it leaves
+turn : (t : After-carry_out-done) →
+    Underway (Whole t.before.before.before.before.before.before.before.before.before.before.before.before.before.before.before.before.before.before.before.before.before.before.before) (listed t.before.before.before.before.before.before.before.before.before.before.before.before.before.before.before.before.before.before.before.before.before.before.before) t.args.answers.now
+    (applied_to t.carry_out-done.result.effect (Then t))
+    (t.loop-how.made + t.carry_out-done.result.made)
+    (t.loop-how.answered + t.carry_out-done.result.answered)
+    (take t.loop-how.answered t.loop-how.answers ++ t.carry_out-done.new.1.1.1.1.1.1.1.1.1.1.0)
+    (eqb t.carry_out-done.result.made 1)
+    t.carry_out-done.result.disposition
+turn t =
+    let t.before.before.before.before.before.before.before.before.before.before.before.before.before.before.before.before.before.before.before.before.before.before.before : Start = t.before.before.before.before.before.before.before.before.before.before.before.before.before.before.before.before.before.before.before.before.before.before.before in
+    let l = t.loop-how in
+    let go = going t.before.before.before.before.before.before.before.before.before.before.before.before.before in
+    turned (Whole t.before.before.before.before.before.before.before.before.before.before.before.before.before.before.before.before.before.before.before.before.before.before.before) (listed t.before.before.before.before.before.before.before.before.before.before.before.before.before.before.before.before.before.before.before.before.before.before.before) t.args.answers.now (At t.before.before.before.before.before.before.before.before.before.before.before.before.before.before.before.before.before.before.before.before.before.before.before l.current l.sent l.held l.flight) l.made l.answered l.answers l.how (rw go.0 at l.invariant.0) _ _
+    (sym (get_or-take t.args.count t.args.events l.made _ go.1)) (rw (counted t.before.before.before.before.before.before.before.before.before.before.before.before.before.before.before.before.before.before.before.before.before.before.before) go.1) _ _ (behind-all l.answers l.answered) t.carry_out-done.auto.answers
+    t.carry_out-done.ensures.batch_left
+
 -- as many records as the type says
-recorded : (s : Begun) → length s.args.bench.records ≡ 64
+recorded : (s : Start) → length s.args.bench.records ≡ 64
 recorded s = search (rules, length-mapped)
 
 pub loop-how-init : goal.loop-how-init
 loop-how-init c = (begins _ _ _, c.requires.0, tables-none c.args.bench _, refl, refl, refl, c.end_chains-chain.ensures, refl, recorded (goal.at.loop-how-init c).Start)
 
 pub offset_bounds-events-made : goal.offset_bounds-events-made
-offset_bounds-events-made c =
-    let going : (c.loop-how.going ≡ true) × (c.loop-how.made < c.args.count) = goes {going = c.loop-how.going} {made = c.loop-how.made} {count = c.args.count} c.both.ensures
-    c.loop-how-test.true in
-    event-scaled going.1 c.requires.1
+offset_bounds-events-made c = event-scaled (going (goal.at.offset_bounds-events-made c).In-loop-how).1 c.requires.1
 
 pub bounds-events-made : goal.bounds-events-made
-bounds-events-made c =
-    let going : (c.loop-how.going ≡ true) × (c.loop-how.made < c.args.count) = goes {going = c.loop-how.going} {made = c.loop-how.made} {count = c.args.count} c.both.ensures
-    c.loop-how-test.true in
-    lt_of_lt_of_le going.1 c.requires.1
+bounds-events-made c = lt_of_lt_of_le (going (goal.at.bounds-events-made c).In-loop-how).1 c.requires.1
 
 pub slice_bounds-carry_out-end : goal.slice_bounds-carry_out-end
 slice_bounds-carry_out-end c = sym c.loop-how.invariant.2.long
@@ -120,69 +138,19 @@ carry_out-done-requires c =
     (c.loop-how.invariant.1, ((few c.loop-how.current c.args.costs.now (told now c.loop-how.invariant.1).lasting).0, c.loop-how.invariant.2, c.loop-how.invariant.6, c.event_end-end.ensures.1 c.loop-how.current refl refl c.loop-how.invariant.7 _ (get_d_default c.loop-how.current.records c.event_end-end.result _ fresh_record (rw c.loop-how.invariant.8 c.event_end-end.ensures.0))))
 
 pub overflow_add-answered : goal.overflow_add-answered
-overflow_add-answered c =
-    let going : (c.loop-how.going ≡ true) × (c.loop-how.made < c.args.count) = goes {going = c.loop-how.going} {made = c.loop-how.made} {count = c.args.count} c.both.ensures
-    c.loop-how-test.true in
-    let turn : let s : Begun = «Start» in
-    Underway (Whole s) (listed s) s.args.answers.now
-    (applied_to c.carry_out-done.result.effect ((At «Start» c.loop-how.current c.carry_out-done.new.1.1.1.1.1.1.0 c.carry_out-done.new.1.1.1.1.1.1.1.0 c.carry_out-done.new.1.1.1.1.1.1.1.1.0)))
-    (c.loop-how.made + c.carry_out-done.result.made)
-    (c.loop-how.answered + c.carry_out-done.result.answered)
-    (take c.loop-how.answered c.loop-how.answers ++ c.carry_out-done.new.1.1.1.1.1.1.1.1.1.1.0)
-    (eqb c.carry_out-done.result.made 1)
-    c.carry_out-done.result.disposition = let s : Begun = «Start» in
-    let l = c.loop-how in
-    let go = going in
-    turned (Whole s) (listed s) s.args.answers.now (At s l.current l.sent l.held l.flight) l.made l.answered l.answers l.how (rw go.0 at l.invariant.0) _ _
-    (sym (get_or-take s.args.count s.args.t6 l.made _ go.1)) (rw (counted s) go.1) _ _ (behind-all l.answers l.answered) c.carry_out-done.auto.answers
-    c.carry_out-done.ensures.batch_left in
-    answers-fit (goal.at.overflow_add-answered c).Start turn.within
+overflow_add-answered c = answers-fit (goal.at.overflow_add-answered c).Start (turn (goal.at.overflow_add-answered c).After-carry_out-done).within
 
 pub overflow_add-made : goal.overflow_add-made
-overflow_add-made c =
-    let going : (c.loop-how.going ≡ true) × (c.loop-how.made < c.args.count) = goes {going = c.loop-how.going} {made = c.loop-how.made} {count = c.args.count} c.both.ensures
-    c.loop-how-test.true in
-    let turn : let s : Begun = «Start» in
-    Underway (Whole s) (listed s) s.args.answers.now
-    (applied_to c.carry_out-done.result.effect ((At «Start» c.loop-how.current c.carry_out-done.new.1.1.1.1.1.1.0 c.carry_out-done.new.1.1.1.1.1.1.1.0 c.carry_out-done.new.1.1.1.1.1.1.1.1.0)))
-    (c.loop-how.made + c.carry_out-done.result.made)
-    (c.loop-how.answered + c.carry_out-done.result.answered)
-    (take c.loop-how.answered c.loop-how.answers ++ c.carry_out-done.new.1.1.1.1.1.1.1.1.1.1.0)
-    (eqb c.carry_out-done.result.made 1)
-    c.carry_out-done.result.disposition = let s : Begun = «Start» in
-    let l = c.loop-how in
-    let go = going in
-    turned (Whole s) (listed s) s.args.answers.now (At s l.current l.sent l.held l.flight) l.made l.answered l.answers l.how (rw go.0 at l.invariant.0) _ _
-    (sym (get_or-take s.args.count s.args.t6 l.made _ go.1)) (rw (counted s) go.1) _ _ (behind-all l.answers l.answered) c.carry_out-done.auto.answers
-    c.carry_out-done.ensures.batch_left in
-    made-fits turn.few (rw (counted (goal.at.overflow_add-made c).Start) c.requires.1)
+overflow_add-made c = made-fits (turn (goal.at.overflow_add-made c).After-carry_out-done).few (rw (counted (goal.at.overflow_add-made c).Start) c.requires.1)
 
 pub loop-how-smaller-in-Same : goal.loop-how-smaller-in-Same
-loop-how-smaller-in-Same c =
-    let going : (c.loop-how.going ≡ true) × (c.loop-how.made < c.args.count) = goes {going = c.loop-how.going} {made = c.loop-how.made} {count = c.args.count} c.both.ensures
-    c.loop-how-test.true in
-    rw going.0 (shrinks c.args.count c.loop-how.made c.carry_out-done.result.made going.1)
+loop-how-smaller-in-Same c = rw (going (goal.at.loop-how-smaller-in-Same c).After-both).0 (shrinks c.args.count c.loop-how.made c.carry_out-done.result.made (going (goal.at.loop-how-smaller-in-Same c).After-both).1)
 
 pub loop-how-preserved-in-Same : goal.loop-how-preserved-in-Same
 loop-how-preserved-in-Same c =
-    let going : (c.loop-how.going ≡ true) × (c.loop-how.made < c.args.count) = goes {going = c.loop-how.going} {made = c.loop-how.made} {count = c.args.count} c.both.ensures
-    c.loop-how-test.true in
-    let turn : let s : Begun = «Start» in
-    Underway (Whole s) (listed s) s.args.answers.now
-    (applied_to c.carry_out-done.result.effect ((At «Start» c.loop-how.current c.carry_out-done.new.1.1.1.1.1.1.0 c.carry_out-done.new.1.1.1.1.1.1.1.0 c.carry_out-done.new.1.1.1.1.1.1.1.1.0)))
-    (c.loop-how.made + c.carry_out-done.result.made)
-    (c.loop-how.answered + c.carry_out-done.result.answered)
-    (take c.loop-how.answered c.loop-how.answers ++ c.carry_out-done.new.1.1.1.1.1.1.1.1.1.1.0)
-    (eqb c.carry_out-done.result.made 1)
-    c.carry_out-done.result.disposition = let s : Begun = «Start» in
-    let l = c.loop-how in
-    let go = going in
-    turned (Whole s) (listed s) s.args.answers.now (At s l.current l.sent l.held l.flight) l.made l.answered l.answers l.how (rw go.0 at l.invariant.0) _ _
-    (sym (get_or-take s.args.count s.args.t6 l.made _ go.1)) (rw (counted s) go.1) _ _ (behind-all l.answers l.answered) c.carry_out-done.auto.answers
-    c.carry_out-done.ensures.batch_left in
     let l = c.loop-how in
     let done = c.carry_out-done in (
-      rw (none-behind l.answers _ l.answered) (rw c.in-Same.is at turn),
+      rw (none-behind l.answers _ l.answered) (rw c.in-Same.is at (turn (goal.at.loop-how-preserved-in-Same c).After-carry_out-done)),
       rw c.in-Same.is at done.ensures.0.ready,
       done.ensures.1.1,
       done.auto.1.1.1.1.1.1.0 ∙ l.invariant.3,
@@ -194,31 +162,13 @@ loop-how-preserved-in-Same c =
     )
 
 pub loop-how-smaller-in-Messages : goal.loop-how-smaller-in-Messages
-loop-how-smaller-in-Messages c =
-    let going : (c.loop-how.going ≡ true) × (c.loop-how.made < c.args.count) = goes {going = c.loop-how.going} {made = c.loop-how.made} {count = c.args.count} c.both.ensures
-    c.loop-how-test.true in
-    rw going.0 (shrinks c.args.count c.loop-how.made c.carry_out-done.result.made going.1)
+loop-how-smaller-in-Messages c = rw (going (goal.at.loop-how-smaller-in-Messages c).After-both).0 (shrinks c.args.count c.loop-how.made c.carry_out-done.result.made (going (goal.at.loop-how-smaller-in-Messages c).After-both).1)
 
 pub loop-how-preserved-in-Messages : goal.loop-how-preserved-in-Messages
 loop-how-preserved-in-Messages c =
-    let going : (c.loop-how.going ≡ true) × (c.loop-how.made < c.args.count) = goes {going = c.loop-how.going} {made = c.loop-how.made} {count = c.args.count} c.both.ensures
-    c.loop-how-test.true in
-    let turn : let s : Begun = «Start» in
-    Underway (Whole s) (listed s) s.args.answers.now
-    (applied_to c.carry_out-done.result.effect ((At «Start» c.loop-how.current c.carry_out-done.new.1.1.1.1.1.1.0 c.carry_out-done.new.1.1.1.1.1.1.1.0 c.carry_out-done.new.1.1.1.1.1.1.1.1.0)))
-    (c.loop-how.made + c.carry_out-done.result.made)
-    (c.loop-how.answered + c.carry_out-done.result.answered)
-    (take c.loop-how.answered c.loop-how.answers ++ c.carry_out-done.new.1.1.1.1.1.1.1.1.1.1.0)
-    (eqb c.carry_out-done.result.made 1)
-    c.carry_out-done.result.disposition = let s : Begun = «Start» in
-    let l = c.loop-how in
-    let go = going in
-    turned (Whole s) (listed s) s.args.answers.now (At s l.current l.sent l.held l.flight) l.made l.answered l.answers l.how (rw go.0 at l.invariant.0) _ _
-    (sym (get_or-take s.args.count s.args.t6 l.made _ go.1)) (rw (counted s) go.1) _ _ (behind-all l.answers l.answered) c.carry_out-done.auto.answers
-    c.carry_out-done.ensures.batch_left in
     let l = c.loop-how in
     let done = c.carry_out-done in (
-      rw (none-behind l.answers _ l.answered) (rw c.in-Messages.is at turn),
+      rw (none-behind l.answers _ l.answered) (rw c.in-Messages.is at (turn (goal.at.loop-how-preserved-in-Messages c).After-carry_out-done)),
       rw c.in-Messages.is at done.ensures.0.ready,
       done.ensures.1.1,
       done.auto.1.1.1.1.1.1.0 ∙ l.invariant.3,
@@ -230,31 +180,13 @@ loop-how-preserved-in-Messages c =
     )
 
 pub loop-how-smaller-in-End : goal.loop-how-smaller-in-End
-loop-how-smaller-in-End c =
-    let going : (c.loop-how.going ≡ true) × (c.loop-how.made < c.args.count) = goes {going = c.loop-how.going} {made = c.loop-how.made} {count = c.args.count} c.both.ensures
-    c.loop-how-test.true in
-    rw going.0 (shrinks c.args.count c.loop-how.made c.carry_out-done.result.made going.1)
+loop-how-smaller-in-End c = rw (going (goal.at.loop-how-smaller-in-End c).After-both).0 (shrinks c.args.count c.loop-how.made c.carry_out-done.result.made (going (goal.at.loop-how-smaller-in-End c).After-both).1)
 
 pub loop-how-preserved-in-End : goal.loop-how-preserved-in-End
 loop-how-preserved-in-End c =
-    let going : (c.loop-how.going ≡ true) × (c.loop-how.made < c.args.count) = goes {going = c.loop-how.going} {made = c.loop-how.made} {count = c.args.count} c.both.ensures
-    c.loop-how-test.true in
-    let turn : let s : Begun = «Start» in
-    Underway (Whole s) (listed s) s.args.answers.now
-    (applied_to c.carry_out-done.result.effect ((At «Start» c.loop-how.current c.carry_out-done.new.1.1.1.1.1.1.0 c.carry_out-done.new.1.1.1.1.1.1.1.0 c.carry_out-done.new.1.1.1.1.1.1.1.1.0)))
-    (c.loop-how.made + c.carry_out-done.result.made)
-    (c.loop-how.answered + c.carry_out-done.result.answered)
-    (take c.loop-how.answered c.loop-how.answers ++ c.carry_out-done.new.1.1.1.1.1.1.1.1.1.1.0)
-    (eqb c.carry_out-done.result.made 1)
-    c.carry_out-done.result.disposition = let s : Begun = «Start» in
-    let l = c.loop-how in
-    let go = going in
-    turned (Whole s) (listed s) s.args.answers.now (At s l.current l.sent l.held l.flight) l.made l.answered l.answers l.how (rw go.0 at l.invariant.0) _ _
-    (sym (get_or-take s.args.count s.args.t6 l.made _ go.1)) (rw (counted s) go.1) _ _ (behind-all l.answers l.answered) c.carry_out-done.auto.answers
-    c.carry_out-done.ensures.batch_left in
     let l = c.loop-how in
     let done = c.carry_out-done in (
-      rw (none-behind l.answers _ l.answered) (rw c.in-End.is at turn),
+      rw (none-behind l.answers _ l.answered) (rw c.in-End.is at (turn (goal.at.loop-how-preserved-in-End c).After-carry_out-done)),
       rw c.in-End.is at done.ensures.0.ready,
       done.ensures.1.1,
       done.auto.1.1.1.1.1.1.0 ∙ l.invariant.3,
@@ -266,31 +198,13 @@ loop-how-preserved-in-End c =
     )
 
 pub loop-how-smaller-in-Received : goal.loop-how-smaller-in-Received
-loop-how-smaller-in-Received c =
-    let going : (c.loop-how.going ≡ true) × (c.loop-how.made < c.args.count) = goes {going = c.loop-how.going} {made = c.loop-how.made} {count = c.args.count} c.both.ensures
-    c.loop-how-test.true in
-    rw going.0 (shrinks c.args.count c.loop-how.made c.carry_out-done.result.made going.1)
+loop-how-smaller-in-Received c = rw (going (goal.at.loop-how-smaller-in-Received c).After-both).0 (shrinks c.args.count c.loop-how.made c.carry_out-done.result.made (going (goal.at.loop-how-smaller-in-Received c).After-both).1)
 
 pub loop-how-preserved-in-Received : goal.loop-how-preserved-in-Received
 loop-how-preserved-in-Received c =
-    let going : (c.loop-how.going ≡ true) × (c.loop-how.made < c.args.count) = goes {going = c.loop-how.going} {made = c.loop-how.made} {count = c.args.count} c.both.ensures
-    c.loop-how-test.true in
-    let turn : let s : Begun = «Start» in
-    Underway (Whole s) (listed s) s.args.answers.now
-    (applied_to c.carry_out-done.result.effect ((At «Start» c.loop-how.current c.carry_out-done.new.1.1.1.1.1.1.0 c.carry_out-done.new.1.1.1.1.1.1.1.0 c.carry_out-done.new.1.1.1.1.1.1.1.1.0)))
-    (c.loop-how.made + c.carry_out-done.result.made)
-    (c.loop-how.answered + c.carry_out-done.result.answered)
-    (take c.loop-how.answered c.loop-how.answers ++ c.carry_out-done.new.1.1.1.1.1.1.1.1.1.1.0)
-    (eqb c.carry_out-done.result.made 1)
-    c.carry_out-done.result.disposition = let s : Begun = «Start» in
-    let l = c.loop-how in
-    let go = going in
-    turned (Whole s) (listed s) s.args.answers.now (At s l.current l.sent l.held l.flight) l.made l.answered l.answers l.how (rw go.0 at l.invariant.0) _ _
-    (sym (get_or-take s.args.count s.args.t6 l.made _ go.1)) (rw (counted s) go.1) _ _ (behind-all l.answers l.answered) c.carry_out-done.auto.answers
-    c.carry_out-done.ensures.batch_left in
     let l = c.loop-how in
     let done = c.carry_out-done in (
-      rw (none-behind l.answers _ l.answered) (rw c.in-Received.is at turn),
+      rw (none-behind l.answers _ l.answered) (rw c.in-Received.is at (turn (goal.at.loop-how-preserved-in-Received c).After-carry_out-done)),
       rw c.in-Received.is at done.ensures.0.ready,
       done.ensures.1.1,
       done.auto.1.1.1.1.1.1.0 ∙ l.invariant.3,
@@ -302,32 +216,14 @@ loop-how-preserved-in-Received c =
     )
 
 pub loop-how-smaller : goal.loop-how-smaller
-loop-how-smaller c =
-    let going : (c.loop-how.going ≡ true) × (c.loop-how.made < c.args.count) = goes {going = c.loop-how.going} {made = c.loop-how.made} {count = c.args.count} c.both.ensures
-    c.loop-how-test.true in
-    rw going.0 (shrinks c.args.count c.loop-how.made c.carry_out-done.result.made going.1)
+loop-how-smaller c = rw (going (goal.at.loop-how-smaller c).After-both).0 (shrinks c.args.count c.loop-how.made c.carry_out-done.result.made (going (goal.at.loop-how-smaller c).After-both).1)
 
 pub loop-how-preserved : goal.loop-how-preserved
 loop-how-preserved c =
-    let going : (c.loop-how.going ≡ true) × (c.loop-how.made < c.args.count) = goes {going = c.loop-how.going} {made = c.loop-how.made} {count = c.args.count} c.both.ensures
-    c.loop-how-test.true in
-    let turn : let s : Begun = «Start» in
-    Underway (Whole s) (listed s) s.args.answers.now
-    (applied_to c.carry_out-done.result.effect ((At «Start» c.loop-how.current c.carry_out-done.new.1.1.1.1.1.1.0 c.carry_out-done.new.1.1.1.1.1.1.1.0 c.carry_out-done.new.1.1.1.1.1.1.1.1.0)))
-    (c.loop-how.made + c.carry_out-done.result.made)
-    (c.loop-how.answered + c.carry_out-done.result.answered)
-    (take c.loop-how.answered c.loop-how.answers ++ c.carry_out-done.new.1.1.1.1.1.1.1.1.1.1.0)
-    (eqb c.carry_out-done.result.made 1)
-    c.carry_out-done.result.disposition = let s : Begun = «Start» in
-    let l = c.loop-how in
-    let go = going in
-    turned (Whole s) (listed s) s.args.answers.now (At s l.current l.sent l.held l.flight) l.made l.answered l.answers l.how (rw go.0 at l.invariant.0) _ _
-    (sym (get_or-take s.args.count s.args.t6 l.made _ go.1)) (rw (counted s) go.1) _ _ (behind-all l.answers l.answered) c.carry_out-done.auto.answers
-    c.carry_out-done.ensures.batch_left in
     let l = c.loop-how in
     let done = c.carry_out-done in
-    let now = ap (state_of ((At (goal.at.loop-how-preserved c).Start c.loop-how.current c.carry_out-done.new.1.1.1.1.1.1.0 c.carry_out-done.new.1.1.1.1.1.1.1.0 c.carry_out-done.new.1.1.1.1.1.1.1.1.0))) c.moved-current.ensures in (
-      rw (none-behind l.answers _ l.answered) (stands now (rw c.in-Moves.is at turn)),
+    let now = ap (state_of (Then (goal.at.loop-how-preserved c).After-carry_out-done)) c.moved-current.ensures in (
+      rw (none-behind l.answers _ l.answered) (stands now (rw c.in-Moves.is at (turn (goal.at.loop-how-preserved c).After-carry_out-done))),
       ap (λ (z : State). state_in_range z) now ∙ (rw c.in-Moves.is at done.ensures.0.ready),
       tables-same l.current c.moved-current.result _ _ _ (sym (ap (λ (o : ChangeOutcome). o.bench.bridges) c.moved-current.ensures)) (sym (ap (λ (o : ChangeOutcome). o.bench.links) c.moved-current.ensures))
           (sym (ap (λ (o : ChangeOutcome). o.bench.ends) c.moved-current.ensures)) done.ensures.1.1,

@@ -18,7 +18,7 @@ pub walk-requires : goal.walk-requires
 unfolding checks refuse
 walk-requires c =
     let two = bridges-listed (network_of c.args.bench []) c.args.start c.args.dest _ (sym (c.verdict_refusal-refusal.ensures c.args.bench refl) ∙ c.if-refusal-ne0.false) in
-    (ports-told _ _ _ _ c.requires.held_value, (two.0, two.1, c.requires.tables.0, c.requires.tables.1))
+    record { ports_ready = ports-told _ _ _ _ c.requires.held_value; start_lt_bridges = (two.0, two.1, c.requires.tables.0, c.requires.tables.1) }
 
 pub returns : goal.returns
 unfolding checks no_such_bridge path_of refuse

@@ -40,10 +40,11 @@ returns-then-refusal-ne0 c =
 pub report_rows-requires : goal.report_rows-requires
 unfolding checks refuse
 report_rows-requires c =
-    let passes = sym (c.report_refusal-refusal.ensures c.args.bench refl) ∙ c.if-refusal-ne0.false in (
-      ports-told _ _ _ _ (sym c.network_in_range.ensures ∙ c.if-not-network_in_range.false),
-      (bridge-listed (network_of c.args.bench []) c.args.dest _ passes, omega (arith, c.if-size-lt-REPORT.false, (ports-told c.args.bench c.args.costs.now c.args.sent.now c.args.held.now (sym c.network_in_range.ensures ∙ c.if-not-network_in_range.false)).ready.few_bridges), tables-none c.args.bench _),
-    )
+    let passes = sym (c.report_refusal-refusal.ensures c.args.bench refl) ∙ c.if-refusal-ne0.false in
+    record {
+      ports_ready = ports-told _ _ _ _ (sym c.network_in_range.ensures ∙ c.if-not-network_in_range.false);
+      dest_lt_bridges = (bridge-listed (network_of c.args.bench []) c.args.dest _ passes, omega (arith, c.if-size-lt-REPORT.false, (ports-told c.args.bench c.args.costs.now c.args.sent.now c.args.held.now (sym c.network_in_range.ensures ∙ c.if-not-network_in_range.false)).ready.few_bridges), tables-none c.args.bench _);
+    }
 
 pub shape_of-rows : goal.shape_of-rows
 shape_of-rows c = c.report_rows.auto.rows

@@ -48,7 +48,11 @@ pub verdict_in-requires : goal.verdict_in-requires
 unfolding checks refuse
 verdict_in-requires c =
     let passes = sym (c.verdict_refusal-refusal.ensures c.args.bench refl) ∙ c.if-refusal-ne0.false in
-    (ports-told _ _ _ _ (sym c.network_in_range.ensures ∙ c.if-not-network_in_range.false), let two = bridges-listed (network_of c.args.bench []) c.args.bridge c.args.dest _ passes in (two.0, two.1, tables-none c.args.bench _, c.end_chains-chain.ensures))
+    let two = bridges-listed (network_of c.args.bench []) c.args.bridge c.args.dest _ passes in
+    record {
+      ports_ready = ports-told _ _ _ _ (sym c.network_in_range.ensures ∙ c.if-not-network_in_range.false);
+      bridge_lt_bridges = (two.0, two.1, tables-none c.args.bench _, c.end_chains-chain.ensures);
+    }
 
 pub returns : goal.returns
 unfolding checks no_such_bridge ready_for refuse verdict_in

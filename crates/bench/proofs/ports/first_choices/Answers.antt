@@ -7,14 +7,13 @@ use lib.ListN.{get_or, length-set}
 use native.Mathlib.Nat.{lt_of_lt_of_le, le_antisymm, lt_trans}
 use lib.Dec.{lit<}
 use Rattle.bench.specs.State.{state}
-use Rattle.bench.proofs.ChangeSteps.{length-mapped}
 use Rattle.bench.proofs.ChoiceSteps.{choice-first, choices-begun}
 use Rattle.bench.proofs.ChoiceReads.{view-fits, block-fits, row_fits, distances-fit, distance-fits, distance-scaled, distance-there, choice-fits}
 use Rattle.bench.proofs.LoopSteps.{next_fits, next_low, fewer-left}
 use Rattle.bench.proofs.ports.first_choices.Goals as goal
 
 pub loop-y-init : goal.loop-y-init
-loop-y-init c = (omega arith, search (rules, length-mapped), λ costs sent held all k low none. absurd (omega arith))
+loop-y-init c = (omega arith, search rules, λ costs sent held all k low none. absurd (omega arith))
 
 pub bounds-bench-y : goal.bounds-bench-y
 bounds-bench-y c =

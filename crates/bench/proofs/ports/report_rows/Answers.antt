@@ -14,7 +14,7 @@ pub all_choices-choices-requires : goal.all_choices-choices-requires
 all_choices-choices-requires c =
     let kept = c.need_views.ensures in
     let low = view-low c.requires.ports_ready in
-    (c.requires.ports_ready, (c.requires.dest_lt_bridges.0, le_of_eq (sym kept.0.long), all-filled c.args.bench _ _ _ kept.0 low kept.1))
+    record { ports_ready = c.requires.ports_ready; dest_lt_bridges = (c.requires.dest_lt_bridges.0, le_of_eq (sym kept.tables.long), all-filled c.args.bench _ _ _ kept.tables low kept.by_index) }
 
 pub need_views-requires : goal.need_views-requires
 need_views-requires c = (c.requires.ports_ready.ready, c.requires.dest_lt_bridges.2)
@@ -38,8 +38,8 @@ report_row-requires c =
     let low : c.loop-y.y < 16 = lt_of_lt_of_le c.loop-y-test.true c.requires.ports_ready.ready.few_bridges in
     let p = c.requires in (
       low,
-      rw (c.all_choices-choices.ensures c.loop-y.y c.loop-y-test.true _) (choice-low _ _ _ _ (ends_low (le_refl _) p.0.ready.few_links)),
-      rw c.loop-y.invariant.1 (rows-there c.loop-y-test.true p.1.1),
+      rw (c.all_choices-choices.ensures c.loop-y.y c.loop-y-test.true _) (choice-low _ _ _ _ (ends_low (le_refl _) p.ports_ready.ready.few_links)),
+      rw c.loop-y.invariant.1 (rows-there c.loop-y-test.true p.dest_lt_bridges.1),
     )
 
 pub overflow_add-y : goal.overflow_add-y
@@ -57,8 +57,8 @@ loop-y-preserved c =
     let old = c.loop-y.invariant in
     let y = c.loop-y.y in
     let low = c.loop-y-test.true in (
-      turn.ensures ∙ rw old.0 (choice-row _ p.0.in_range _ y low p.1.0 _ _ (c.all_choices-choices.ensures y low _) ∙ reported-more _ _ _ _),
-      turn.auto.0 ∙ old.1,
+      turn.ensures ∙ rw old.0 (choice-row _ p.ports_ready.in_range _ y low p.dest_lt_bridges.0 _ _ (c.all_choices-choices.ensures y low _) ∙ reported-more _ _ _ _),
+      turn.auto.rows ∙ old.1,
       next_low low,
     )
 
@@ -68,7 +68,7 @@ shape_of-tables c = c.need_views.ensures.tables.long ∙ sym c.requires.dest_lt_
 pub returns : goal.returns
 returns c =
     let all : c.loop-y.y ≡ c.args.bench.bridges = le_antisymm c.loop-y.invariant.2 c.loop-y-test.false in
-    (c.loop-y.invariant.0 ∙ rw all, c.need_views.ensures.tables)
+    record { rows_after = c.loop-y.invariant.0 ∙ rw all; tables = c.need_views.ensures.tables }
 
 pub shape_of-known : goal.shape_of-known
 shape_of-known c = c.need_views.ensures.tables.flags ∙ sym c.requires.dest_lt_bridges.2.flags

@@ -218,7 +218,7 @@ pub choice_with-choice-requires : goal.choice_with-choice-requires
 choice_with-choice-requires c =
     let low : c.loop-e.e < 64 = end_low c.loop-e-test.true c.requires.ports_ready.ready.few_links in
     let p = c.requires in
-    (link-low low, p.0.costs_most _ (c.loop-e.e / 2) (p.0.ready.are_views _ p.1.0.0) (half-low c.loop-e-test.true))
+    (link-low low, p.ports_ready.costs_most _ (c.loop-e.e / 2) (p.ports_ready.ready.are_views _ p.bridge_lt_bridges.0) (half-low c.loop-e-test.true))
 
 pub bounds-chain-e : goal.bounds-chain-e
 bounds-chain-e c =
@@ -260,4 +260,4 @@ pub returns : goal.returns
 returns c =
     let p = c.requires in
     let e : c.loop-e.e ≡ 2 * c.args.bench.links = le_antisymm c.loop-e.invariant.0 c.loop-e-test.false in
-    c.found_verdict.ensures ∙ rw (c.loop-e.invariant.2, e) (choice-verdict _ p.0.in_range _ _ p.1.0.0 p.1.0.1)
+    c.found_verdict.ensures ∙ rw (c.loop-e.invariant.2, e) (choice-verdict _ p.ports_ready.in_range _ _ p.bridge_lt_bridges.0 p.bridge_lt_bridges.1)

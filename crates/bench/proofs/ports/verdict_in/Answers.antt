@@ -21,7 +21,11 @@ need_view-requires c = (view-low c.requires.ports_ready c.args.bridge c.requires
 pub verdict_at-requires : goal.verdict_at-requires
 verdict_at-requires c =
     let kept = c.need_view.ensures.tables_of in
-    (c.requires.ports_ready, ((c.requires.bridge_lt_bridges.0, c.requires.bridge_lt_bridges.1, omega (arith, kept.0.long)), (tables-filled c.args.bench _ _ _ kept.0 _ (view-low c.requires.ports_ready c.args.bridge c.requires.bridge_lt_bridges.0) kept.1, c.requires.bridge_lt_bridges.3)))
+    record {
+      ports_ready = c.requires.ports_ready;
+      bridge_lt_bridges = (c.requires.bridge_lt_bridges.0, c.requires.bridge_lt_bridges.1, omega (arith, kept.0.long));
+      filled = (tables-filled c.args.bench _ _ _ kept.0 _ (view-low c.requires.ports_ready c.args.bridge c.requires.bridge_lt_bridges.0) kept.1, c.requires.bridge_lt_bridges.3);
+    }
 
 pub shape_of-tables : goal.shape_of-tables
 shape_of-tables c = c.need_view.auto.tables

@@ -20,12 +20,12 @@ returns-then-last-dest c = record { result_value = ap says (sym (c.loop-hops.inv
 pub hop_at-requires : goal.hop_at-requires
 hop_at-requires c =
     let p = c.requires in
-    (p.0, (c.loop-hops.invariant.1, p.1.1, c.loop-hops.invariant.3, p.1.3))
+    record { ports_ready = p.ports_ready; bridge_lt_bridges = (c.loop-hops.invariant.1, p.start_lt_bridges.1, c.loop-hops.invariant.3, p.start_lt_bridges.3) }
 
 pub returns-in_default : goal.returns-in_default
 returns-in_default c =
     let hop = sym c.hop_at.ensures.result_value ∙ ap protocol_hop c.in_default.is in
-    (ap says (sym (c.loop-hops.invariant.0 ∙ onward_stops _ _ _ _ _ c.if-last-dest.false hop)), c.hop_at.ensures.tables)
+    record { result_value = ap says (sym (c.loop-hops.invariant.0 ∙ onward_stops _ _ _ _ _ c.if-last-dest.false hop)); tables = c.hop_at.ensures.tables }
 
 pub overflow_add-hops : goal.overflow_add-hops
 overflow_add-hops c = omega (arith, c.loop-hops-test.true, c.requires.ports_ready.ready.few_bridges)

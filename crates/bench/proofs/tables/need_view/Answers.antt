@@ -26,10 +26,10 @@ returns c =
     let a = c.args in
     let p = c.requires in
     let new : get_or a.known.now a.view false ≡ false = c.if-known-view.false in
-    rw c.fill_view.ensures (
-      (
+    rw c.fill_view.ensures (record {
+      tables_of = (
         tables_more a.bridges a.links a.ends.now a.costs.now a.tables.now a.known.now p.2 a.view p.0 new,
         known-now a.bridges a.links a.ends.now a.costs.now a.tables.now a.known.now p.2 a.view p.0 new,
-      ),
-      known-still a.bridges a.links a.ends.now a.costs.now a.tables.now a.known.now p.2 a.view p.0 new,
-    )
+      );
+      by_index = known-still a.bridges a.links a.ends.now a.costs.now a.tables.now a.known.now p.2 a.view p.0 new;
+    })

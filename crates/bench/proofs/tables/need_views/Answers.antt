@@ -33,7 +33,7 @@ loop-y-preserved c =
     let kept = c.need_view.ensures in
     let old = c.loop-y.invariant in
     let y : ℕ = c.loop-y.y in
-    (omega (arith, c.loop-y-test.true), kept.0.0, λ k low. ⊎_elim (λ less. kept.1 _ (old.2 k less)) (λ same. rw same kept.0.1) (below_or k y low))
+    (omega (arith, c.loop-y-test.true), kept.tables_of.0, λ k low. ⊎_elim (λ less. kept.by_index _ (old.2 k less)) (λ same. rw same kept.tables_of.1) (below_or k y low))
 
 pub shape_of-tables : goal.shape_of-tables
 shape_of-tables c = omega (arith, c.loop-y.invariant.1.long, c.requires.1.long)

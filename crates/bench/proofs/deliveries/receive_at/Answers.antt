@@ -72,11 +72,11 @@ pub returns : goal.returns
 returns c =
     let a = c.args in
     let arrives = c.requires.place_bound.3 in
-    let kept = c.need_view.ensures.tables_of in (
-      λ b stands same-links ready there.
+    let kept = c.need_view.ensures.tables_of in record {
+      messages_after = λ b stands same-links ready there.
           let takes = place-taken b a.bridges a.links a.views a.ends.now a.costs.now a.sent.now a.held.now a.messages.now a.here a.place stands same-links ready there arrives in
           let filled = place-filled b a.bridges a.links a.views a.ends.now a.costs.now a.sent.now a.held.now a.messages.now a.here a.place stands same-links ready there arrives _ _ kept.0 c.requires.end_bound.1 kept.1 in
           let got = c.receive.ensures b stands takes filled in
-          (place-received b a.bridges a.links a.views a.ends.now a.costs.now a.sent.now a.held.now a.messages.now a.here a.place stands same-links ready there arrives got.0, got.1),
-      kept.0,
-    )
+          (place-received b a.bridges a.links a.views a.ends.now a.costs.now a.sent.now a.held.now a.messages.now a.here a.place stands same-links ready there arrives got.0, got.1);
+      tables_of = kept.0;
+    }

@@ -33,13 +33,13 @@ pub deliver_ready-reception-requires : goal.deliver_ready-reception-requires
 deliver_ready-reception-requires c =
     let inside : state_in_range ((let a = c.args in state a.bench a.costs.now a.sent.now a.held.now a.messages.now)) ≡ true = sym c.delivery_in_range-in_range.ensures ∙ c.if-not-in_range.false in
     let listed : length c.args.bench.records ≡ 64 = search (rules, length-mapped) in
-    let a = c.args in (
-      inside,
-      (
+    let a = c.args in record {
+      messages_value = inside;
+      tables = (
         tables-none a.bench _,
         λ there. get_d_default a.bench.records c.receiving_end-end.result _ fresh_record (rw listed c.receiving_end-end.ensures.0) ∙ ap (λ (e : ℕ). get_or a.bench.records e fresh_record) (c.receiving_end-end.ensures.1 there),
-      ),
-    )
+      );
+    }
 
 pub shape_of-sent : goal.shape_of-sent
 shape_of-sent c = c.deliver_ready-reception.auto.sent

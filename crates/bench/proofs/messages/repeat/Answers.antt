@@ -33,13 +33,13 @@ pub repeat_ready-reception-requires : goal.repeat_ready-reception-requires
 repeat_ready-reception-requires c =
     let inside : state_in_range ((let a = c.args in state a.bench a.costs.now a.sent.now a.held.now a.messages.now)) ≡ true = sym c.delivery_in_range-in_range.ensures ∙ c.if-not-in_range.false in
     let listed : length c.args.bench.records ≡ 64 = search (rules, length-mapped) in
-    let a = c.args in (
-      inside,
-      (
+    let a = c.args in record {
+      messages_value = inside;
+      tables = (
         tables-none a.bench _,
         λ there. get_d_default a.bench.records c.receiving_end-end.result _ fresh_record (rw listed c.receiving_end-end.ensures.0) ∙ ap (λ (e : ℕ). get_or a.bench.records e fresh_record) (c.receiving_end-end.ensures.1 there),
-      ),
-    )
+      );
+    }
 
 pub shape_of-sent : goal.shape_of-sent
 shape_of-sent c = c.repeat_ready-reception.auto.sent
@@ -58,7 +58,9 @@ pub taken-requires : goal.taken-requires
 taken-requires c = c.repeat_ready-reception.ensures.messages_after.1
 
 pub receiving_end-end-requires : goal.receiving_end-end-requires
-receiving_end-end-requires c = let h = told ((let a = c.args in state a.bench a.costs.now a.sent.now a.held.now a.messages.now)) (inside ((goal.at.receiving_end-end-requires c).Else-not-in_range)) in (h.count, h.messages_long, λ there. (arrival-told ((let a = c.args in state a.bench a.costs.now a.sent.now a.held.now a.messages.now)) (inside ((goal.at.receiving_end-end-requires c).Else-not-in_range)) _ there).arrives)
+receiving_end-end-requires c =
+    let inside : state_in_range ((let a = c.args in state a.bench a.costs.now a.sent.now a.held.now a.messages.now)) ≡ true = sym c.delivery_in_range-in_range.ensures ∙ c.if-not-in_range.false in
+    let h = told ((let a = c.args in state a.bench a.costs.now a.sent.now a.held.now a.messages.now)) inside in (h.count, h.messages_long, λ there. (arrival-told ((let a = c.args in state a.bench a.costs.now a.sent.now a.held.now a.messages.now)) inside _ there).arrives)
 
 pub offset_bounds-bench-end : goal.offset_bounds-bench-end
 offset_bounds-bench-end c = record-fits c.receiving_end-end.ensures.0

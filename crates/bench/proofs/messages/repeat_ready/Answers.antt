@@ -2,6 +2,7 @@
 -- Assumes nothing.
 use Prim.Native.Nat.{ℕ, ◌<◌}
 use native.Mathlib.Omega.{arith}
+use mathlib.Core.Bool.{true}
 use mathlib.Core.Path.{◌≡◌, sym, ◌∙◌, refl, ap}
 use borrow.Author.Rules.{rules}
 use lib.ListN.{length}
@@ -9,7 +10,7 @@ use native.Mathlib.Nat.{le_of_eq}
 use Rattle.bench.specs.Private.Effects.{reception_response, reception_bench, Accepts}
 use Rattle.bench.specs.declared.effects.EndState.{EndState}
 use Rattle.bench.proofs.ArrivalSteps.{ArrivalFacts, arrival-told, stands-in}
-use Rattle.bench.specs.State.{state}
+use Rattle.bench.specs.State.{State, state}
 use Rattle.bench.specs.Private.Views.{network_of}
 use Rattle.protocol.specs.Calls.{deliver, refuse}
 use Rattle.bench.specs.Outcomes.{refusal_of}
@@ -23,25 +24,34 @@ use Rattle.bench.proofs.DeliverySteps.{reception-told}
 use Rattle.bench.proofs.messages.repeat_ready.Goals as goal
 
 -- the table's number, in range
-same : (s : tie.Start) (k : ℕ) → k ≡ refuse (network_of s.args.bench s.args.messages.now) (deliver s.args.place) → k ≡ refusal_of (state_in_range (Given s)) (network_of s.args.bench s.args.messages.now) (deliver s.args.place)
-same s k e = e ∙ sym (refusal-ready _ _ _ s.requires.0)
+same :
+    (s : State) (p k : ℕ) →
+    state_in_range s ≡ true →
+    k ≡ refuse (network_of s.bench s.messages) (deliver p) →
+    k ≡ refusal_of (state_in_range s) (network_of s.bench s.messages) (deliver p)
+same s p k ready e = e ∙ sym (refusal-ready _ _ _ ready)
 
 pub deliver_refusal-refusal-requires : goal.deliver_refusal-refusal-requires
-deliver_refusal-refusal-requires c = let h = told ((let a = c.args in state a.bench a.costs.now a.sent.now a.held.now a.messages.now)) c.requires.messages_value in (h.count, h.messages_long, λ low. let m = message-told _ _ _ (h.message c.args.place low) in (omega (arith, few c.args.bench c.args.costs.now h.lasting, m.link), m.direction))
+deliver_refusal-refusal-requires c =
+    let s : State = let a = c.args in state a.bench a.costs.now a.sent.now a.held.now a.messages.now in
+    let h = told s c.requires.messages_value in (h.count, h.messages_long, λ low. let m = message-told _ _ _ (h.message c.args.place low) in (omega (arith, few c.args.bench c.args.costs.now h.lasting, m.link), m.direction))
 
 pub returns-then-refusal-ne0 : goal.returns-then-refusal-ne0
-returns-then-refusal-ne0 c = record { messages_after = (repeat-refused ((let a = c.args in state a.bench a.costs.now a.sent.now a.held.now a.messages.now)) _ _ (same (goal.at.returns-then-refusal-ne0 c).Start _ (c.deliver_refusal-refusal.ensures c.args.bench refl refl)) c.if-refusal-ne0.true refl refl, omega arith); tables_2 = c.requires.tables.0 }
+returns-then-refusal-ne0 c =
+    let s : State = let a = c.args in state a.bench a.costs.now a.sent.now a.held.now a.messages.now in
+    record { messages_after = (repeat-refused s _ _ (same s c.args.place _ c.requires.messages_value (c.deliver_refusal-refusal.ensures c.args.bench refl refl)) c.if-refusal-ne0.true refl refl, omega arith); tables_2 = c.requires.tables.0 }
 
 pub receive_at-requires : goal.receive_at-requires
 receive_at-requires c =
-    let there : c.args.place < c.args.bench.messages = (delivery-told ((let a = c.args in state a.bench a.costs.now a.sent.now a.held.now a.messages.now)) _ _ (same «Start» _ (c.deliver_refusal-refusal.ensures c.args.bench refl refl)) c.if-refusal-ne0.false).listed in
-    let arrives : ArrivalFacts ((let a = c.args in state a.bench a.costs.now a.sent.now a.held.now a.messages.now)) c.args.place = arrival-told ((let a = c.args in state a.bench a.costs.now a.sent.now a.held.now a.messages.now)) c.requires.messages_value _ there in
+    let s : State = let a = c.args in state a.bench a.costs.now a.sent.now a.held.now a.messages.now in
+    let there : c.args.place < c.args.bench.messages = (delivery-told s _ _ (same s c.args.place _ c.requires.messages_value (c.deliver_refusal-refusal.ensures c.args.bench refl refl)) c.if-refusal-ne0.false).listed in
+    let arrives : ArrivalFacts s c.args.place = arrival-told s c.requires.messages_value _ there in
     let placed : length c.args.bench.ends ≡ 64 = search rules in
     let h = arrives in
-    let here = c.arrival_state-here.ensures in (
-      (rw (ap (λ (n : EndState). n.end) here) h.end, rw (ap (λ (n : EndState). n.view) here) h.view, le_of_eq (sym placed), h.costs, c.requires.tables.0),
-      (h.place, h.long, h.fits, ap (λ (n : EndState). n.end) here),
-    )
+    let here = c.arrival_state-here.ensures in record {
+      end_bound = (rw (ap (λ (n : EndState). n.end) here) h.end, rw (ap (λ (n : EndState). n.view) here) h.view, le_of_eq (sym placed), h.costs, c.requires.tables.0);
+      place_bound = (h.place, h.long, h.fits, ap (λ (n : EndState). n.end) here);
+    }
 
 pub shape_of-tables : goal.shape_of-tables
 shape_of-tables c = c.receive_at.auto.tables
@@ -51,9 +61,10 @@ shape_of-known c = c.receive_at.auto.known
 
 pub returns : goal.returns
 returns c =
-    let there : c.args.place < c.args.bench.messages = (delivery-told ((let a = c.args in state a.bench a.costs.now a.sent.now a.held.now a.messages.now)) _ _ (same «Start» _ (c.deliver_refusal-refusal.ensures c.args.bench refl refl)) c.if-refusal-ne0.false).listed in
-    let taken : (delivery_outcome (reception_response c.receive_at.result) (reception_bench c.receive_at.result c.args.bench c.args.bench.messages) c.receive_at.new.1.1.1.1.1.1.1.1.0 c.receive_at.new.1.1.1.1.1.1.1.1.1.0 c.args.messages.now ≡ received ((let a = c.args in state a.bench a.costs.now a.sent.now a.held.now a.messages.now)) c.args.place) × Accepts c.receive_at.result = c.receive_at.ensures.messages_after c.args.bench (stands-in c.args.bench _ c.args.old _ c.arrival_state-here.ensures (c.requires.tables.1 there)) refl c.requires.messages_value there in
-    record { messages_after = (repeat-done ((let a = c.args in state a.bench a.costs.now a.sent.now a.held.now a.messages.now)) _ _ (same (goal.at.returns c).Start _ (c.deliver_refusal-refusal.ensures c.args.bench refl refl)) c.if-refusal-ne0.false taken.0, reception-told c.receive_at.result taken.1); tables_2 = c.receive_at.ensures.tables_of }
+    let s : State = let a = c.args in state a.bench a.costs.now a.sent.now a.held.now a.messages.now in
+    let there : c.args.place < c.args.bench.messages = (delivery-told s _ _ (same s c.args.place _ c.requires.messages_value (c.deliver_refusal-refusal.ensures c.args.bench refl refl)) c.if-refusal-ne0.false).listed in
+    let taken : (delivery_outcome (reception_response c.receive_at.result) (reception_bench c.receive_at.result c.args.bench c.args.bench.messages) c.receive_at.new.sent c.receive_at.new.held c.args.messages.now ≡ received s c.args.place) × Accepts c.receive_at.result = c.receive_at.ensures.messages_after c.args.bench (stands-in c.args.bench _ c.args.old _ c.arrival_state-here.ensures (c.requires.tables.1 there)) refl c.requires.messages_value there in
+    record { messages_after = (repeat-done s _ _ (same s c.args.place _ c.requires.messages_value (c.deliver_refusal-refusal.ensures c.args.bench refl refl)) c.if-refusal-ne0.false taken.0, reception-told c.receive_at.result taken.1); tables_2 = c.receive_at.ensures.tables_of }
 
 pub shape_of-sent : goal.shape_of-sent
 shape_of-sent c = c.receive_at.auto.sent
@@ -68,10 +79,11 @@ slice_bounds-arrival_state-end c =
 
 pub arrival_state-here-requires : goal.arrival_state-here-requires
 arrival_state-here-requires c =
-    let there : c.args.place < c.args.bench.messages = (delivery-told ((let a = c.args in state a.bench a.costs.now a.sent.now a.held.now a.messages.now)) _ _ (same «Start» _ (c.deliver_refusal-refusal.ensures c.args.bench refl refl)) c.if-refusal-ne0.false).listed in
-    let arrives : ArrivalFacts ((let a = c.args in state a.bench a.costs.now a.sent.now a.held.now a.messages.now)) c.args.place = arrival-told ((let a = c.args in state a.bench a.costs.now a.sent.now a.held.now a.messages.now)) c.requires.messages_value _ there in
+    let s : State = let a = c.args in state a.bench a.costs.now a.sent.now a.held.now a.messages.now in
+    let there : c.args.place < c.args.bench.messages = (delivery-told s _ _ (same s c.args.place _ c.requires.messages_value (c.deliver_refusal-refusal.ensures c.args.bench refl refl)) c.if-refusal-ne0.false).listed in
+    let arrives : ArrivalFacts s c.args.place = arrival-told s c.requires.messages_value _ there in
     let placed : length c.args.bench.ends ≡ 64 = search rules in
-    let h = arrives in ((h.place, h.long, h.arrives, le_of_eq (sym placed)), h.bridge)
+    let h = arrives in record { place_bound = (h.place, h.long, h.arrives, le_of_eq (sym placed)); place_bound_2 = h.bridge }
 
 pub slice_bounds-receive_at-end : goal.slice_bounds-receive_at-end
 slice_bounds-receive_at-end c =

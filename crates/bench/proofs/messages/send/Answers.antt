@@ -30,10 +30,10 @@ pub send_ready-requires : goal.send_ready-requires
 send_ready-requires c =
     let inside : (bench_in_range c.args.bench && messages_in_range c.args.bench c.args.messages.now) ≡ true = sym c.flight_in_range.ensures ∙ c.if-not-flight_in_range.false in
     let listed : length c.args.bench.records ≡ 64 = search (rules, length-mapped) in
-    let a = c.args in (
-      inside,
-      λ there. get_d_default a.bench.records c.sending_end-end.result _ fresh_record (rw listed c.sending_end-end.ensures.0) ∙ ap (λ (e : ℕ). get_or a.bench.records e fresh_record) (c.sending_end-end.ensures.1 there a.bench.bridges a.bench.links),
-    )
+    let a = c.args in record {
+      messages_value = inside;
+      has_record = λ there. get_d_default a.bench.records c.sending_end-end.result _ fresh_record (rw listed c.sending_end-end.ensures.0) ∙ ap (λ (e : ℕ). get_or a.bench.records e fresh_record) (c.sending_end-end.ensures.1 there a.bench.bridges a.bench.links);
+    }
 
 pub shape_of-messages : goal.shape_of-messages
 shape_of-messages c = c.send_ready.auto.messages

@@ -18,18 +18,19 @@ use Rattle.bench.proofs.RangesSteps.{sent-stays}
 use Rattle.bench.proofs.EntryOutcomes.{turned_down, goes_on}
 use Rattle.bench.proofs.QueueRanges.{flight-told}
 use Rattle.bench.proofs.QueueCalls.{send-same, SendFacts, send-told, sent-numbers, said_same}
+use Rattle.bench.specs.Ranges.{bench_in_range, messages_in_range}
+use Rattle.bench.specs.declared.Bench.{Bench}
+use mathlib.Core.Bool.{true, ◌&&◌}
 use Rattle.bench.proofs.messages.send_ready.Goals as goal
 
 -- what is handed over is accepted
 told :
-    (s : tie.Start) (k : ℕ) →
-    k ≡ refuse (network_of s.args.bench []) (send s.args.bridge s.args.link) →
+    (b : Bench) (m : List ℕ) (y l k : ℕ) →
+    (bench_in_range b && messages_in_range b m) ≡ true →
+    k ≡ refuse (network_of b []) (send y l) →
     k ≡ 0 →
-    SendFacts s.args.bench s.args.messages.now s.args.bridge s.args.link
-told s k e none =
-    let a = s.args in
-    send-told a.bench a.messages.now a.bridge a.link (flight-told _ _ s.requires.0).0
-    (sym (e ∙ send-same a.bench a.messages.now a.bridge a.link) ∙ none)
+    SendFacts b m y l
+told b m y l k ready e none = send-told b m y l (flight-told _ _ ready).0 (sym (e ∙ send-same b m y l) ∙ none)
 
 pub send_refusal-refusal-requires : goal.send_refusal-refusal-requires
 send_refusal-refusal-requires c = (flight-told _ _ c.requires.messages_value).0.counted.links
@@ -47,22 +48,22 @@ returns-then-refusal-ne0 c =
 pub end_of-end-requires : goal.end_of-end-requires
 end_of-end-requires c =
     let placed : length c.args.bench.ends ≡ 64 = search rules in
-    let accepted = told (goal.at.end_of-end-requires c).Start _ (c.send_refusal-refusal.ensures c.args.bench refl refl refl refl refl) c.if-refusal-ne0.false in (accepted.link, omega (arith, accepted.link, placed))
+    let accepted = told c.args.bench c.args.messages.now c.args.bridge c.args.link _ c.requires.messages_value (c.send_refusal-refusal.ensures c.args.bench refl refl refl refl refl) c.if-refusal-ne0.false in (accepted.link, omega (arith, accepted.link, placed))
 
 pub offset_bounds-number-bridge : goal.offset_bounds-number-bridge
-offset_bounds-number-bridge c = omega (arith, (told (goal.at.offset_bounds-number-bridge c).Start _ (c.send_refusal-refusal.ensures c.args.bench refl refl refl refl refl) c.if-refusal-ne0.false).bridge)
+offset_bounds-number-bridge c = omega (arith, (told c.args.bench c.args.messages.now c.args.bridge c.args.link _ c.requires.messages_value (c.send_refusal-refusal.ensures c.args.bench refl refl refl refl refl) c.if-refusal-ne0.false).bridge)
 
 pub returns-in_default : goal.returns-in_default
 returns-in_default c =
-    let carries : let a = c.args in carrying_response c.carry.result ≡ says (message_of (network_of a.bench a.messages.now) a.bridge a.link).agreement = let accepted = told «Start» _ (c.send_refusal-refusal.ensures c.args.bench refl refl refl refl refl) c.if-refusal-ne0.false in
+    let carries : let a = c.args in carrying_response c.carry.result ≡ says (message_of (network_of a.bench a.messages.now) a.bridge a.link).agreement = let accepted = told c.args.bench c.args.messages.now c.args.bridge c.args.link _ c.requires.messages_value (c.send_refusal-refusal.ensures c.args.bench refl refl refl refl refl) c.if-refusal-ne0.false in
     c.carry.ensures ∙ rw (c.requires.has_record accepted.there) accepted.carries in
     let out : ◌≡◌ {A = ℕ} 17 0 = ap (λ (r : Response Agreement). r.number) (rw c.in_default.is at carries) in absurd (omega arith)
 
 pub overflow_cast-link : goal.overflow_cast-link
-overflow_cast-link c = omega (arith, (told (goal.at.overflow_cast-link c).Start _ (c.send_refusal-refusal.ensures c.args.bench refl refl refl refl refl) c.if-refusal-ne0.false).link)
+overflow_cast-link c = omega (arith, (told c.args.bench c.args.messages.now c.args.bridge c.args.link _ c.requires.messages_value (c.send_refusal-refusal.ensures c.args.bench refl refl refl refl refl) c.if-refusal-ne0.false).link)
 
 pub put-requires : goal.put-requires
-put-requires c = ((told (goal.at.put-requires c).Start _ (c.send_refusal-refusal.ensures c.args.bench refl refl refl refl refl) c.if-refusal-ne0.false).room, (flight-told _ _ c.requires.messages_value).1.long)
+put-requires c = ((told c.args.bench c.args.messages.now c.args.bridge c.args.link _ c.requires.messages_value (c.send_refusal-refusal.ensures c.args.bench refl refl refl refl refl) c.if-refusal-ne0.false).room, (flight-told _ _ c.requires.messages_value).1.long)
 
 pub shape_of-messages : goal.shape_of-messages
 shape_of-messages c = c.put.auto.messages
@@ -70,7 +71,7 @@ shape_of-messages c = c.put.auto.messages
 pub returns : goal.returns
 unfolding send_of
 returns c =
-    let carries : let a = c.args in carrying_response c.carry.result ≡ says (message_of (network_of a.bench a.messages.now) a.bridge a.link).agreement = let accepted = told «Start» _ (c.send_refusal-refusal.ensures c.args.bench refl refl refl refl refl) c.if-refusal-ne0.false in
+    let carries : let a = c.args in carrying_response c.carry.result ≡ says (message_of (network_of a.bench a.messages.now) a.bridge a.link).agreement = let accepted = told c.args.bench c.args.messages.now c.args.bridge c.args.link _ c.requires.messages_value (c.send_refusal-refusal.ensures c.args.bench refl refl refl refl refl) c.if-refusal-ne0.false in
     c.carry.ensures ∙ rw (c.requires.has_record accepted.there) accepted.carries in
     let a = c.args in
     let same = said_same _ _ (rw c.in-Carries.is at carries) in
@@ -86,10 +87,10 @@ returns c =
     )
 
 pub bounds-view-bridge : goal.bounds-view-bridge
-bounds-view-bridge c = (told (goal.at.bounds-view-bridge c).Start _ (c.send_refusal-refusal.ensures c.args.bench refl refl refl refl refl) c.if-refusal-ne0.false).bridge
+bounds-view-bridge c = (told c.args.bench c.args.messages.now c.args.bridge c.args.link _ c.requires.messages_value (c.send_refusal-refusal.ensures c.args.bench refl refl refl refl refl) c.if-refusal-ne0.false).bridge
 
 pub bounds-number-bridge : goal.bounds-number-bridge
-bounds-number-bridge c = (told (goal.at.bounds-number-bridge c).Start _ (c.send_refusal-refusal.ensures c.args.bench refl refl refl refl refl) c.if-refusal-ne0.false).bridge
+bounds-number-bridge c = (told c.args.bench c.args.messages.now c.args.bridge c.args.link _ c.requires.messages_value (c.send_refusal-refusal.ensures c.args.bench refl refl refl refl refl) c.if-refusal-ne0.false).bridge
 
 pub slice_bounds-end_of-end : goal.slice_bounds-end_of-end
 slice_bounds-end_of-end c =
@@ -97,4 +98,4 @@ slice_bounds-end_of-end c =
     sym placed
 
 pub overflow_add-result : goal.overflow_add-result
-overflow_add-result c = omega (arith, (told (goal.at.overflow_add-result c).Start _ (c.send_refusal-refusal.ensures c.args.bench refl refl refl refl refl) c.if-refusal-ne0.false).room)
+overflow_add-result c = omega (arith, (told c.args.bench c.args.messages.now c.args.bridge c.args.link _ c.requires.messages_value (c.send_refusal-refusal.ensures c.args.bench refl refl refl refl refl) c.if-refusal-ne0.false).room)

@@ -19,7 +19,7 @@ use Rattle.agreement.specs.Call.{ViewData, Outcome, outcome, update_outcome, del
 use Rattle.agreement.specs.declared.Agreement.{Agreement}
 use Rattle.agreement.specs.declared.EndRecord.{EndRecord}
 use Rattle.agreement.proofs.Limits.{with_limits-length}
-use Rattle.bench.specs.Private.Changes.{Ends, ends, Ended, ended, moved_end, moved_ends}
+use Rattle.bench.specs.Private.Changes.{Ends, Ended, ended, moved_end, moved_ends}
 use Rattle.bench.specs.Private.Queue.{taken_out}
 use Rattle.bench.proofs.StandingLaws.{Part, below, in_rows, part_same, part-set, part-twice}
 

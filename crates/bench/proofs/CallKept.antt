@@ -12,7 +12,6 @@ use Rattle.agreement.specs.declared.Answer.{Answer}
 use borrow.Author.Tests.{eq-eqb}
 use Rattle.protocol.specs.Net.{sender}
 use Rattle.protocol.specs.Calls.{Call, Check, change, update, send, deliver, repeat, lose, refuse, checks, no_message}
-use Rattle.protocol.specs.Calls as calls
 use Rattle.bench.specs.State.{State, network, message_from}
 use Rattle.bench.specs.Private.Views.{network_of}
 use Rattle.bench.specs.Ranges.{bench_in_range, messages_in_range}

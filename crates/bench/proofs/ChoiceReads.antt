@@ -1,6 +1,6 @@
 -- Where a turn over the ends reads: for an end e, a view v, a bridge z and a destination d no place passes 64 bits, and each stands in its
 -- buffer. Assumes nothing.
-use Prim.Native.Nat.{ℕ, ◌+◌, ◌-◌, ◌*◌, ◌/◌, ◌≤◌, ◌<◌}
+use Prim.Native.Nat.{ℕ, ◌+◌, ◌*◌, ◌/◌, ◌≤◌, ◌<◌}
 use native.Mathlib.Omega.{arith}
 use mathlib.Core.Path.{◌≡◌}
 use mir.Syntax.{w64}

@@ -20,7 +20,7 @@ use Rattle.agreement.proofs.Limits.{with_limits-length, cell_same, cell_other}
 use Rattle.agreement.proofs.RecordLaws.{sent-updated-same, held-updated-same}
 use Rattle.agreement.proofs.InRange.{end-passes}
 use Rattle.agreement.proofs.Outcomes.{update-accepted}
-use Rattle.bench.specs.Private.Changes.{Ends, ends, ended, end_into, moved_end, moved_ends}
+use Rattle.bench.specs.Private.Changes.{Ends, ended, end_into, moved_end, moved_ends}
 
 -- is e an end of bridge y among those below k
 abbrev turned : List ℕ → ℕ → ℕ → ℕ → Bool

@@ -1,21 +1,18 @@
 -- What the code's types tell of a bench: the lengths of its arrays, and numbers of 16 bits. Assumes nothing.
 use Prim.Native.Nat.{ℕ, zero, suc, ◌<◌}
 use native.Mathlib.Omega.{arith}
-use mathlib.Core.List.{List, [], ◌∷◌, map}
-use mir.Syntax.{w16}
+use mathlib.Core.List.{List, [], ◌∷◌}
 use mir.Val.{Val}
 use denote.Array.{each}
 use denote.Builtin.{u16}
 use denote.Laws.{Is}
 use denote.Shadow.{shadow}
-use borrow.Author.Rules.{length_unmapped, elem_fits_field}
 use lib.ListN.{get_or}
 use Rattle.agreement.specs.Record.{fresh_record}
 use Rattle.agreement.specs.declared.EndRecord.{EndRecord}
 use Rattle.agreement.specs.contracts.EndRecord as R
 use Rattle.bench.specs.declared.Bench.{Bench}
 use Rattle.bench.specs.contracts.Bench as B
-use Rattle.bench.proofs.ChangeSteps.{length-mapped}
 use Rattle.bench.proofs.Represents.{Typed}
 
 -- each of the numbers of 16 bits

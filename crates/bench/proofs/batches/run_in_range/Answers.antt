@@ -42,7 +42,7 @@ listed s = take s.args.count s.args.events
 counted : (s : Start) → length (listed s) ≡ s.args.count
 counted s =
     let all : length s.args.events ≡ 2048 = search (rules, length-mapped) in
-    length-take-le s.args.count s.args.events (rw all s.pre.1)
+    length-take-le s.args.count s.args.events (rw all s.requires.1)
 
 placed : (s : Start) → length s.args.bench.ends ≡ 64
 placed s = search rules
@@ -57,10 +57,10 @@ Whole s = batch_from (length s.args.answers.now) (At s s.args.bench s.args.sent.
 
 -- a number of answers fits, and so does their size
 answers-fit : (s : Start) {n : ℕ} → n ≤ length s.args.answers.now → Fits w64 n
-answers-fit s h = omega (arith, s.good)
+answers-fit s h = omega (arith, s.well_formed)
 
 answers-scaled : (s : Start) {n : ℕ} → n ≤ length s.args.answers.now → Fits w64 (n * 4)
-answers-scaled s h = omega (arith, s.good)
+answers-scaled s h = omega (arith, s.well_formed)
 
 made-fits : {made count : ℕ} → made ≤ count → count ≤ 2048 → Fits w64 made
 made-fits h few = omega arith
@@ -82,23 +82,22 @@ going t =
 
 -- the state before the event's effect is stored
 abbrev Then : (t : After-carry_out-done) → State
-Then t = At t.before.before.before.before.before.before.before.before.before.before.before.before.before.before.before.before.before.before.before.before.before.before.before t.loop-how.current t.carry_out-done.new.1.1.1.1.1.1.0 t.carry_out-done.new.1.1.1.1.1.1.1.0 t.carry_out-done.new.1.1.1.1.1.1.1.1.0
+Then t = At t.before.before.before.before.before.before.before.before.before.before.before.before.before.before.before.before.before.before.before.before.before.before.before.before t.loop-how.current t.carry_out-done.new.sent t.carry_out-done.new.held t.carry_out-done.new.flight
 
 -- what it leaves
 turn : (t : After-carry_out-done) →
-    Underway (Whole t.before.before.before.before.before.before.before.before.before.before.before.before.before.before.before.before.before.before.before.before.before.before.before) (listed t.before.before.before.before.before.before.before.before.before.before.before.before.before.before.before.before.before.before.before.before.before.before.before) t.args.answers.now
+    Underway (Whole t.before.before.before.before.before.before.before.before.before.before.before.before.before.before.before.before.before.before.before.before.before.before.before.before) (listed t.before.before.before.before.before.before.before.before.before.before.before.before.before.before.before.before.before.before.before.before.before.before.before.before) t.args.answers.now
     (applied_to t.carry_out-done.result.effect (Then t))
     (t.loop-how.made + t.carry_out-done.result.made)
     (t.loop-how.answered + t.carry_out-done.result.answered)
-    (take t.loop-how.answered t.loop-how.answers ++ t.carry_out-done.new.1.1.1.1.1.1.1.1.1.1.0)
+    (take t.loop-how.answered t.loop-how.answers ++ t.carry_out-done.new.answers)
     (eqb t.carry_out-done.result.made 1)
     t.carry_out-done.result.disposition
 turn t =
-    let t.before.before.before.before.before.before.before.before.before.before.before.before.before.before.before.before.before.before.before.before.before.before.before : Start = t.before.before.before.before.before.before.before.before.before.before.before.before.before.before.before.before.before.before.before.before.before.before.before in
     let l = t.loop-how in
-    let go = going t.before.before.before.before.before.before.before.before.before.before.before.before.before in
-    turned (Whole t.before.before.before.before.before.before.before.before.before.before.before.before.before.before.before.before.before.before.before.before.before.before.before) (listed t.before.before.before.before.before.before.before.before.before.before.before.before.before.before.before.before.before.before.before.before.before.before.before) t.args.answers.now (At t.before.before.before.before.before.before.before.before.before.before.before.before.before.before.before.before.before.before.before.before.before.before.before l.current l.sent l.held l.flight) l.made l.answered l.answers l.how (rw go.0 at l.invariant.0) _ _
-    (sym (get_or-take t.args.count t.args.events l.made _ go.1)) (rw (counted t.before.before.before.before.before.before.before.before.before.before.before.before.before.before.before.before.before.before.before.before.before.before.before) go.1) _ _ (behind-all l.answers l.answered) t.carry_out-done.auto.answers
+    let go = goes {going = t.loop-how.going} {made = t.loop-how.made} {count = t.args.count} t.both.ensures t.loop-how-test.true in
+    turned (Whole t.before.before.before.before.before.before.before.before.before.before.before.before.before.before.before.before.before.before.before.before.before.before.before.before) (listed t.before.before.before.before.before.before.before.before.before.before.before.before.before.before.before.before.before.before.before.before.before.before.before.before) t.args.answers.now (At t.before.before.before.before.before.before.before.before.before.before.before.before.before.before.before.before.before.before.before.before.before.before.before.before l.current l.sent l.held l.flight) l.made l.answered l.answers l.how (rw go.0 at l.invariant.0) _ _
+    (sym (get_or-take t.args.count t.args.events l.made _ go.1)) (rw (counted t.before.before.before.before.before.before.before.before.before.before.before.before.before.before.before.before.before.before.before.before.before.before.before.before) go.1) _ _ (behind-all l.answers l.answered) t.carry_out-done.auto.answers
     t.carry_out-done.ensures.batch_left
 
 -- as many records as the type says
@@ -135,7 +134,15 @@ slice_bounds-carry_out-end-in-loop-how-3 c = le_refl _
 pub carry_out-done-requires : goal.carry_out-done-requires
 carry_out-done-requires c =
     let now = At (goal.at.carry_out-done-requires c).Start c.loop-how.current c.loop-how.sent c.loop-how.held c.loop-how.flight in
-    (c.loop-how.invariant.1, ((few c.loop-how.current c.args.costs.now (told now c.loop-how.invariant.1).lasting).0, c.loop-how.invariant.2, c.loop-how.invariant.6, c.event_end-end.ensures.1 c.loop-how.current refl refl c.loop-how.invariant.7 _ (get_d_default c.loop-how.current.records c.event_end-end.result _ fresh_record (rw c.loop-how.invariant.8 c.event_end-end.ensures.0))))
+    record {
+      flight_value = c.loop-how.invariant.1;
+      bridges_bound = (
+        (few c.loop-how.current c.args.costs.now (told now c.loop-how.invariant.1).lasting).0,
+        c.loop-how.invariant.2,
+        c.loop-how.invariant.6,
+        c.event_end-end.ensures.1 c.loop-how.current refl refl c.loop-how.invariant.7 _ (get_d_default c.loop-how.current.records c.event_end-end.result _ fresh_record (rw c.loop-how.invariant.8 c.event_end-end.ensures.0)),
+      );
+    }
 
 pub overflow_add-answered : goal.overflow_add-answered
 overflow_add-answered c = answers-fit (goal.at.overflow_add-answered c).Start (turn (goal.at.overflow_add-answered c).After-carry_out-done).within
@@ -144,79 +151,79 @@ pub overflow_add-made : goal.overflow_add-made
 overflow_add-made c = made-fits (turn (goal.at.overflow_add-made c).After-carry_out-done).few (rw (counted (goal.at.overflow_add-made c).Start) c.requires.1)
 
 pub loop-how-smaller-in-Same : goal.loop-how-smaller-in-Same
-loop-how-smaller-in-Same c = rw (going (goal.at.loop-how-smaller-in-Same c).After-both).0 (shrinks c.args.count c.loop-how.made c.carry_out-done.result.made (going (goal.at.loop-how-smaller-in-Same c).After-both).1)
+loop-how-smaller-in-Same c = rw (going (goal.at.loop-how-smaller-in-Same c).In-loop-how).0 (shrinks c.args.count c.loop-how.made c.carry_out-done.result.made (going (goal.at.loop-how-smaller-in-Same c).In-loop-how).1)
 
 pub loop-how-preserved-in-Same : goal.loop-how-preserved-in-Same
 loop-how-preserved-in-Same c =
     let l = c.loop-how in
     let done = c.carry_out-done in (
       rw (none-behind l.answers _ l.answered) (rw c.in-Same.is at (turn (goal.at.loop-how-preserved-in-Same c).After-carry_out-done)),
-      rw c.in-Same.is at done.ensures.0.ready,
-      done.ensures.1.1,
-      done.auto.1.1.1.1.1.1.0 ∙ l.invariant.3,
-      done.auto.1.1.1.1.1.1.1.0 ∙ l.invariant.4,
-      done.auto.1.1.1.1.1.1.1.1.0 ∙ l.invariant.5,
+      rw c.in-Same.is at done.ensures.batch_left.ready,
+      done.ensures.can_apply.1,
+      done.auto.sent ∙ l.invariant.3,
+      done.auto.held ∙ l.invariant.4,
+      done.auto.flight ∙ l.invariant.5,
       l.invariant.6,
       l.invariant.7,
       l.invariant.8,
     )
 
 pub loop-how-smaller-in-Messages : goal.loop-how-smaller-in-Messages
-loop-how-smaller-in-Messages c = rw (going (goal.at.loop-how-smaller-in-Messages c).After-both).0 (shrinks c.args.count c.loop-how.made c.carry_out-done.result.made (going (goal.at.loop-how-smaller-in-Messages c).After-both).1)
+loop-how-smaller-in-Messages c = rw (going (goal.at.loop-how-smaller-in-Messages c).In-loop-how).0 (shrinks c.args.count c.loop-how.made c.carry_out-done.result.made (going (goal.at.loop-how-smaller-in-Messages c).In-loop-how).1)
 
 pub loop-how-preserved-in-Messages : goal.loop-how-preserved-in-Messages
 loop-how-preserved-in-Messages c =
     let l = c.loop-how in
     let done = c.carry_out-done in (
       rw (none-behind l.answers _ l.answered) (rw c.in-Messages.is at (turn (goal.at.loop-how-preserved-in-Messages c).After-carry_out-done)),
-      rw c.in-Messages.is at done.ensures.0.ready,
-      done.ensures.1.1,
-      done.auto.1.1.1.1.1.1.0 ∙ l.invariant.3,
-      done.auto.1.1.1.1.1.1.1.0 ∙ l.invariant.4,
-      done.auto.1.1.1.1.1.1.1.1.0 ∙ l.invariant.5,
+      rw c.in-Messages.is at done.ensures.batch_left.ready,
+      done.ensures.can_apply.1,
+      done.auto.sent ∙ l.invariant.3,
+      done.auto.held ∙ l.invariant.4,
+      done.auto.flight ∙ l.invariant.5,
       l.invariant.6,
       l.invariant.7,
       l.invariant.8,
     )
 
 pub loop-how-smaller-in-End : goal.loop-how-smaller-in-End
-loop-how-smaller-in-End c = rw (going (goal.at.loop-how-smaller-in-End c).After-both).0 (shrinks c.args.count c.loop-how.made c.carry_out-done.result.made (going (goal.at.loop-how-smaller-in-End c).After-both).1)
+loop-how-smaller-in-End c = rw (going (goal.at.loop-how-smaller-in-End c).In-loop-how).0 (shrinks c.args.count c.loop-how.made c.carry_out-done.result.made (going (goal.at.loop-how-smaller-in-End c).In-loop-how).1)
 
 pub loop-how-preserved-in-End : goal.loop-how-preserved-in-End
 loop-how-preserved-in-End c =
     let l = c.loop-how in
     let done = c.carry_out-done in (
       rw (none-behind l.answers _ l.answered) (rw c.in-End.is at (turn (goal.at.loop-how-preserved-in-End c).After-carry_out-done)),
-      rw c.in-End.is at done.ensures.0.ready,
-      done.ensures.1.1,
-      done.auto.1.1.1.1.1.1.0 ∙ l.invariant.3,
-      done.auto.1.1.1.1.1.1.1.0 ∙ l.invariant.4,
-      done.auto.1.1.1.1.1.1.1.1.0 ∙ l.invariant.5,
+      rw c.in-End.is at done.ensures.batch_left.ready,
+      done.ensures.can_apply.1,
+      done.auto.sent ∙ l.invariant.3,
+      done.auto.held ∙ l.invariant.4,
+      done.auto.flight ∙ l.invariant.5,
       l.invariant.6,
       l.invariant.7,
       l.invariant.8,
     )
 
 pub loop-how-smaller-in-Received : goal.loop-how-smaller-in-Received
-loop-how-smaller-in-Received c = rw (going (goal.at.loop-how-smaller-in-Received c).After-both).0 (shrinks c.args.count c.loop-how.made c.carry_out-done.result.made (going (goal.at.loop-how-smaller-in-Received c).After-both).1)
+loop-how-smaller-in-Received c = rw (going (goal.at.loop-how-smaller-in-Received c).In-loop-how).0 (shrinks c.args.count c.loop-how.made c.carry_out-done.result.made (going (goal.at.loop-how-smaller-in-Received c).In-loop-how).1)
 
 pub loop-how-preserved-in-Received : goal.loop-how-preserved-in-Received
 loop-how-preserved-in-Received c =
     let l = c.loop-how in
     let done = c.carry_out-done in (
       rw (none-behind l.answers _ l.answered) (rw c.in-Received.is at (turn (goal.at.loop-how-preserved-in-Received c).After-carry_out-done)),
-      rw c.in-Received.is at done.ensures.0.ready,
-      done.ensures.1.1,
-      done.auto.1.1.1.1.1.1.0 ∙ l.invariant.3,
-      done.auto.1.1.1.1.1.1.1.0 ∙ l.invariant.4,
-      done.auto.1.1.1.1.1.1.1.1.0 ∙ l.invariant.5,
+      rw c.in-Received.is at done.ensures.batch_left.ready,
+      done.ensures.can_apply.1,
+      done.auto.sent ∙ l.invariant.3,
+      done.auto.held ∙ l.invariant.4,
+      done.auto.flight ∙ l.invariant.5,
       l.invariant.6,
       l.invariant.7,
       rw length-set l.invariant.8,
     )
 
 pub loop-how-smaller : goal.loop-how-smaller
-loop-how-smaller c = rw (going (goal.at.loop-how-smaller c).After-both).0 (shrinks c.args.count c.loop-how.made c.carry_out-done.result.made (going (goal.at.loop-how-smaller c).After-both).1)
+loop-how-smaller c = rw (going (goal.at.loop-how-smaller c).In-loop-how).0 (shrinks c.args.count c.loop-how.made c.carry_out-done.result.made (going (goal.at.loop-how-smaller c).In-loop-how).1)
 
 pub loop-how-preserved : goal.loop-how-preserved
 loop-how-preserved c =
@@ -224,12 +231,12 @@ loop-how-preserved c =
     let done = c.carry_out-done in
     let now = ap (state_of (Then (goal.at.loop-how-preserved c).After-carry_out-done)) c.moved-current.ensures in (
       rw (none-behind l.answers _ l.answered) (stands now (rw c.in-Moves.is at (turn (goal.at.loop-how-preserved c).After-carry_out-done))),
-      ap (λ (z : State). state_in_range z) now ∙ (rw c.in-Moves.is at done.ensures.0.ready),
+      ap (λ (z : State). state_in_range z) now ∙ (rw c.in-Moves.is at done.ensures.batch_left.ready),
       tables-same l.current c.moved-current.result _ _ _ (sym (ap (λ (o : ChangeOutcome). o.bench.bridges) c.moved-current.ensures)) (sym (ap (λ (o : ChangeOutcome). o.bench.links) c.moved-current.ensures))
-          (sym (ap (λ (o : ChangeOutcome). o.bench.ends) c.moved-current.ensures)) done.ensures.1.1,
-      c.moved-current.auto.sent ∙ (done.auto.1.1.1.1.1.1.0 ∙ l.invariant.3),
-      c.moved-current.auto.held ∙ (done.auto.1.1.1.1.1.1.1.0 ∙ l.invariant.4),
-      done.auto.1.1.1.1.1.1.1.1.0 ∙ l.invariant.5,
+          (sym (ap (λ (o : ChangeOutcome). o.bench.ends) c.moved-current.ensures)) done.ensures.can_apply.1,
+      c.moved-current.auto.sent ∙ (done.auto.sent ∙ l.invariant.3),
+      c.moved-current.auto.held ∙ (done.auto.held ∙ l.invariant.4),
+      done.auto.flight ∙ l.invariant.5,
       chained_same (sym (ap (λ (o : ChangeOutcome). o.bench.links) c.moved-current.ensures)) (sym (ap (λ (o : ChangeOutcome). o.bench.ends) c.moved-current.ensures)) l.invariant.6,
       ap (λ (o : ChangeOutcome). o.bench.ends) c.moved-current.ensures ∙ l.invariant.7,
       ap (λ (o : ChangeOutcome). length o.bench.records) c.moved-current.ensures ∙ records-long _ _ _ _ _ _ ∙ l.invariant.8,

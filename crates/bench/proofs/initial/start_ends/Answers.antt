@@ -1,4 +1,4 @@
-use Prim.Native.Nat.{◌*◌, ◌-◌, zero-le}
+use Prim.Native.Nat.{◌*◌, zero-le}
 use mathlib.Core.Path.{◌≡◌, refl, ◌∙◌}
 use native.Mathlib.Nat.{le_antisymm}
 use Rattle.bench.specs.Private.Changes.{started_ends}

@@ -1,4 +1,4 @@
-use Prim.Native.Nat.{◌-◌, ◌<◌, zero-le}
+use Prim.Native.Nat.{◌<◌, zero-le}
 use mathlib.Core.Path.{◌≡◌, refl, ◌∙◌, sym}
 use native.Mathlib.Nat.{lt_of_lt_of_le, le_antisymm, lt_trans, le_of_eq, le_refl}
 use lib.Dec.{lit<}

@@ -1,5 +1,4 @@
 -- `tables::end_chains` meets its contract. The loop's invariant: the ends from `e` on are chained. Assumes nothing.
-use Prim.Native.Nat.{◌-◌}
 use Rattle.bench.proofs.ChainLaws.{ChainedFrom}
 use Rattle.bench.proofs.tables.end_chains.Given as goal
 

@@ -1,4 +1,4 @@
-use Prim.Native.Nat.{suc, ◌+◌, ◌*◌, ◌-◌, ◌<◌}
+use Prim.Native.Nat.{suc, ◌+◌, ◌*◌, ◌<◌}
 use native.Mathlib.Omega.{arith}
 use mathlib.Core.Path.{◌≡◌, refl, ◌∙◌}
 use borrow.Author.Rules.{rules}
@@ -6,7 +6,6 @@ use lib.ListN.{length, get_or, length-set}
 use native.Mathlib.Nat.{le_antisymm}
 use Rattle.agreement.specs.Call.{view_data}
 use Rattle.agreement.proofs.BetweenLaws.{EndExists, end-listed}
-use Rattle.bench.specs.Private.Changes.{ends}
 use Rattle.bench.specs.Private.Chains.{IsNext}
 use Rattle.bench.proofs.ChangeSteps.{length-mapped}
 use Rattle.bench.proofs.ChoiceReads.{end_low, bridge-fits, ends-fit, other-there, record-fits}

@@ -1,5 +1,5 @@
 -- Every list of calls over a slice of 64 messages or more leads somewhere: the slice in which the numbers of a state stand. Assumes nothing.
-use Prim.Native.Nat.{ℕ, ◌≤◌}
+use Prim.Native.Nat.{◌≤◌}
 use native.Mathlib.Omega.{arith}
 use mathlib.Core.Path.{◌≡◌, refl, ◌∙◌, ap}
 use mathlib.Core.List.{List, [], ◌∷◌, ◌++◌}
@@ -13,7 +13,7 @@ use Rattle.bench.proofs.RunSteps.{left-messages}
 use Rattle.messages.specs.declared.Message.{Message}
 use Rattle.messages.specs.Slices.{numbers_in, flight}
 use Rattle.messages.specs.Steps.{messages_of}
-use Rattle.messages.specs.SliceLists.{Kept, kept, numbered, Leads, Lead, SlicesLead}
+use Rattle.messages.specs.SliceLists.{Kept, kept, numbered, Lead, SlicesLead}
 use Rattle.messages.proofs.Flight.{numbers-length, messages-count}
 use Rattle.messages.proofs.SliceLaws.{numbers-again}
 

@@ -1,6 +1,7 @@
 // Messages in flight as a lent slice of structs: thin functions over the slice. What a call decides, the bench decides on the slice's
 // numbers, five for each message.
 #![tactic(auto)]
+
 pub mod batches;
 pub mod calls;
 mod copies;

@@ -4,8 +4,7 @@ use native.Mathlib.Omega.{arith}
 use mathlib.Core.Path.{◌≡◌, sym, ◌∙◌}
 use mathlib.Core.Bool.{not}
 use mathlib.Core.List.{[], ◌∷◌}
-use borrow.Author.Rules.{rules}
-use borrow.Author.Tests.{lt-ltb, le-ltb, not-false}
+use borrow.Author.Tests.{lt-ltb, le-ltb}
 use lib.ListN.{length}
 use lib.Dec.{ltb}
 use Rattle.distances.specs.Refusal.{check, refusal}
@@ -14,33 +13,8 @@ use Rattle.plan.specs.Tags.{may_come, length_fits, in_order, right_length}
 use Rattle.plan.specs.Fields.{value_length, size}
 use Rattle.plan.specs.Reading.{header_checks}
 use Rattle.distances.proofs.Refusals.{First, First.none, First.here, First.next, first}
-use Rattle.plan.proofs.header.header_refusal.Statement.{statement}
-use Rattle.plan.proofs.header.header_refusal.Tie as tie
-
-returns : tie.Need-returns
-unfolding header_checks
-returns c = first (here (lt-ltb _ _ c.if1.true))
-
-byte-at-requires : tie.Need-byte-at-requires
-byte-at-requires c κs = search rules
-
-cast-tag : tie.Need-overflow-cast-tag
-cast-tag c = search rules
-
-known-requires : tie.Need-known-requires
-known-requires c κs = search rules
-
-returns-2 : tie.Need-returns-2
-unfolding header_checks
-returns-2 c =
-    rw (← c.before.before.byte_at.ensures, ← c.before.known.ensures)
-    (first (next (le-ltb _ _ c.before.before.before.if1.false) (here c.if2.true)))
-
-rule-of-requires : tie.Need-rule-of-requires
-rule-of-requires c κs = sym c.before.known.ensures ∙ not-false _ c.if2.false
-
-may-come-requires : tie.Need-may-come-requires
-may-come-requires c κs = search rules
+use Rattle.plan.proofs.header.header_refusal.Goals as goal
+use Rattle.plan.proofs.header.header_refusal.Goals.{After-length_fits, After-rule_of-rule}
 
 -- a known tag: its rule and the length decide
 past-known :
@@ -65,15 +39,6 @@ past-known c f =
     )
     (first (next (le-ltb _ _ c.before.before.before.before.if1.false) (next c.before.if2.false f)))
 
-returns-3 : tie.Need-returns-3
-returns-3 c = past-known c.before.before (here (rw (← c.before.may-come.ensures) c.if3.true))
-
-value-length-requires : tie.Need-value-length-requires
-value-length-requires c κs = search rules
-
-length-fits-requires : tie.Need-length-fits-requires
-length-fits-requires c κs = search rules
-
 -- in order: the length decides
 past-order :
     (c : tie.After-length-fits) {m : ℕ} →
@@ -86,39 +51,36 @@ past-order c f =
     (next (rw (← c.before.before.before.may-come.ensures) c.before.before.if3.false)
     (rw (← c.before.value-length.ensures, ← c.length-fits.ensures) f))
 
-returns-4 : tie.Need-returns-4
-returns-4 c = past-order c.before (here c.if4.true)
+pub returns-then-rest-lt-HEADER_BYTES : goal.returns-then-rest-lt-HEADER_BYTES
+unfolding header_checks
+returns-then-rest-lt-HEADER_BYTES c = first (here (lt-ltb _ _ c.if-rest-lt-HEADER_BYTES.true))
 
-add-if5 : tie.Need-overflow-add-if5
-add-if5 c =
-    let bound = c.before.before.before.before.before.before.before.before.before.before.shared-slice-known.given in
+pub returns-then-not-known : goal.returns-then-not-known
+unfolding header_checks
+returns-then-not-known c =
+    rw (← c.byte_at-tag.ensures, ← c.known.ensures)
+    (first (next (le-ltb _ _ c.if-rest-lt-HEADER_BYTES.false) (here c.if-not-known.true)))
+
+pub rule_of-rule-requires : goal.rule_of-rule-requires
+rule_of-rule-requires c = sym c.known.ensures ∙ c.if-not-known.false
+
+pub returns-then-not-may_come : goal.returns-then-not-may_come
+returns-then-not-may_come c = past-known (goal.at.returns-then-not-may_come c).After-rule_of-rule (here (rw (← c.may_come.ensures) c.if-not-may_come.true))
+
+pub returns-then-not-length_fits : goal.returns-then-not-length_fits
+returns-then-not-length_fits c = past-order (goal.at.returns-then-not-length_fits c).After-length_fits (here c.if-not-length_fits.true)
+
+pub overflow_add-length : goal.overflow_add-length
+overflow_add-length c =
+    let bound = c.shared_slice_known-1.given in
     omega (arith, bound 1, bound 2)
 
-returns-5 : tie.Need-returns-5
-returns-5 c =
-    past-order c.before.before
-    (next c.before.if4.false (here (lt-ltb _ _ c.if5.true)))
+pub returns-then-rest-length : goal.returns-then-rest-length
+returns-then-rest-length c =
+    past-order (goal.at.returns-then-rest-length c).After-length_fits
+    (next c.if-not-length_fits.false (here (lt-ltb _ _ c.if-rest-length.true)))
 
-returns-6 : tie.Need-returns-6
-returns-6 c =
-    past-order c.before.before
-    (next c.before.if4.false (next (le-ltb _ _ c.if5.false) none))
-
-pub header-refusal-spec : {M : Type 1} → statement M
-header-refusal-spec =
-    tie.close
-    (tie.spec
-    returns
-    byte-at-requires
-    cast-tag
-    known-requires
-    returns-2
-    rule-of-requires
-    may-come-requires
-    returns-3
-    value-length-requires
-    length-fits-requires
-    returns-4
-    add-if5
-    returns-5
-    returns-6)
+pub returns : goal.returns
+returns c =
+    past-order (goal.at.returns c).After-length_fits
+    (next c.if-not-length_fits.false (next (le-ltb _ _ c.if-rest-length.false) none))

@@ -12,14 +12,14 @@ use Rattle.plan.proofs.fields.costs_refusal.Goals.{After-costs_fit}
 
 -- nothing is missing: the costs decide
 whole :
-    (c : tie.After-costs-fit) {m : ℕ} →
-    let a = c.before.before.before.before.before.args in
-    First (check (not c.costs-fit.result) 9 ∷ []) m →
+    (t : After-costs_fit) {m : ℕ} →
+    let a = t.args in
+    First (check (not t.costs_fit.result) 9 ∷ []) m →
     m ≡ refusal (costs_checks a.rest.now a.links a.room)
 unfolding costs_checks
-whole c f =
-    rw (← c.costs-fit.ensures)
-    (first (next (le-ltb _ _ c.before.before.before.if1.false) (next (le-ltb _ _ c.before.before.if2.false) (next (le-ltb _ _ c.before.if3.false) f))))
+whole t f =
+    rw (← t.costs_fit.ensures)
+    (first (next (le-ltb _ _ t.if-links-gt-MOST_LINKS.false) (next (le-ltb _ _ t.if-room-lt-MOST_LINKS.false) (next (le-ltb _ _ t.if-rest-links.false) f))))
 
 pub returns-then-links-gt-MOST_LINKS : goal.returns-then-links-gt-MOST_LINKS
 unfolding costs_checks

@@ -1,8 +1,8 @@
 -- `fields::read_field` meets its contract. Each return cites the tests that led there. Assumes nothing.
 use native.Mathlib.Omega.{arith}
 use mathlib.Core.Path.{◌≡◌, sym, ◌∙◌}
-use mathlib.Core.Bool.{Bool, true, false, cond, not}
-use borrow.Author.Tests.{eq-eqb, ne_eqb, not-false}
+use mathlib.Core.Bool.{Bool, true, cond}
+use borrow.Author.Tests.{eq-eqb, ne_eqb}
 use lib.Dec.{eqb}
 use Rattle.distances.specs.Refusal.{refusal}
 use Rattle.plan.specs.Fields.{size, field_of}
@@ -12,8 +12,8 @@ use Rattle.plan.proofs.Laws.{in-range-links}
 use Rattle.plan.proofs.fields.read_field.Goals as goal
 
 -- the progress is in range where it passed the test
-passes : {b range : Bool} → b ≡ range → not b ≡ false → range ≡ true
-passes e n = sym e ∙ not-false _ n
+passes : {b range : Bool} → b ≡ range → b ≡ true → range ≡ true
+passes e n = sym e ∙ n
 
 pub returns-then-not-progress_in_range : goal.returns-then-not-progress_in_range
 unfolding read_reply

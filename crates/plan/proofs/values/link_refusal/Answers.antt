@@ -13,15 +13,15 @@ use Rattle.plan.proofs.values.link_refusal.Goals.{After-value_at-b}
 
 -- room for a link: the check of its ends decides
 past_room :
-    (c : tie.After-value-at2) {m : ℕ} →
-    let s = c.before.before.before.before.before.args in
-    let a = c.before.value-at.result in
-    let b = c.value-at2.result in
+    (t : After-value_at-b) {m : ℕ} →
+    let s = t.args in
+    let a = t.value_at-a.result in
+    let b = t.value_at-b.result in
     First (check (not (ltb a s.p.bridges && (ltb b s.p.bridges && not (eqb a b)))) 7 ∷ []) m →
     m ≡ refusal (link_checks s.rest.now s.p)
 unfolding link_checks
-past_room c f =
-    rw (← c.before.value-at.ensures, ← c.value-at2.ensures) (first (next (lt-leb _ _ c.before.before.if1.false) f))
+past_room t f =
+    rw (← t.value_at-a.ensures, ← t.value_at-b.ensures) (first (next (lt-leb _ _ t.if-p-ge-MOST_LINKS.false) f))
 
 pub returns-then-p-ge-MOST_LINKS : goal.returns-then-p-ge-MOST_LINKS
 unfolding link_checks

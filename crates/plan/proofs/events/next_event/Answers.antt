@@ -38,9 +38,6 @@ returns-then-room-size c =
     (event-read _ _ c.requires passes (rw c.byte_at.ensures at other)) in
     rw (reading, ← c.answer_size-size.ensures, lt-ltb _ _ c.if-room-size.true) c.no_event-then-room-size.ensures
 
-pub overflow_add-result : goal.overflow_add-result
-overflow_add-result c = let known = c.shared_slice_known-1.given in omega (arith, known 1, known 2)
-
 pub returns : goal.returns
 unfolding next_of
 returns c =

@@ -1,5 +1,4 @@
 -- `fields::read_field` meets its contract. Each return cites the tests that led there. Assumes nothing.
-use native.Mathlib.Omega.{arith}
 use mathlib.Core.Path.{◌≡◌, sym, ◌∙◌}
 use mathlib.Core.Bool.{Bool, true, cond}
 use borrow.Author.Tests.{eq-eqb, ne_eqb}
@@ -71,11 +70,6 @@ returns-then-value-ne0 c =
       ← c.value_refusal-value.ensures,
       ne_eqb _ 0 c.if-value-ne0.true,
     )
-
-pub overflow_add-result : goal.overflow_add-result
-overflow_add-result c =
-    let known = c.shared_slice_known-1.given in
-    omega (arith, known 1, known 2)
 
 pub returns : goal.returns
 unfolding field_refusal read_of read_reply

@@ -1,6 +1,5 @@
 -- `header::header_refusal` meets its contract. Each return cites the first check that applies. Assumes nothing.
 use Prim.Native.Nat.{ℕ, ◌+◌, ◌≤◌}
-use native.Mathlib.Omega.{arith}
 use mathlib.Core.Path.{◌≡◌, sym, ap, ◌∙◌}
 use mathlib.Core.Bool.{Bool, true, not}
 use mathlib.Core.List.{List, [], ◌∷◌}
@@ -88,11 +87,6 @@ returns-then-not-may_come c = past-known (goal.at.returns-then-not-may_come c).A
 
 pub returns-then-not-length_fits : goal.returns-then-not-length_fits
 returns-then-not-length_fits c = past-order (goal.at.returns-then-not-length_fits c).After-length_fits (here (ap not c.if-not-length_fits.true))
-
-pub overflow_add-length : goal.overflow_add-length
-overflow_add-length c =
-    let bound = c.shared_slice_known-1.given in
-    omega (arith, bound 1, bound 2)
 
 pub returns-then-rest-length : goal.returns-then-rest-length
 returns-then-rest-length c =

@@ -1,7 +1,6 @@
 -- For private functions: the next event of a list. Assumes nothing.
 use Rattle.std.specs.Prelude.{ℕ, cond, List, ltb}
 use Rattle.bench.specs.Batches.{answer_size}
-use Rattle.bench.specs.declared.Event.{Event}
 use Rattle.bench.specs.declared.Event.TheVariants.{Lose}
 use Rattle.plan.specs.Reading.{read_reply}
 use Rattle.plan.specs.declared.Field.{Field}

@@ -1,5 +1,6 @@
 // The plan file's reader: what stands at the head of the bytes that are left, given how far the plan has come.
 #![tactic(auto)]
+
 use bench::Event;
 
 mod bytes;

@@ -7,7 +7,7 @@ use mathlib.Core.List.{List}
 use lib.ListN.{length, take, drop, length-append, length-drop}
 use lib.Seq.{length-take-le}
 use Rattle.distances.proofs.Booleans.{both_true}
-use Rattle.runner.specs.Buffers.{Buffers, buffers}
+use Rattle.runner.specs.Buffers.{Buffers}
 use Rattle.runner.specs.Steps.{StepOutcome, step_of}
 use Rattle.runner.specs.Fills.{buffers_with_out, step_on, steps_on, fills, fields_at_once, fill_of}
 use Rattle.runner.specs.declared.Runner.{Runner}

@@ -25,7 +25,7 @@ use Rattle.plan.specs.declared.Read.{Read}
 use Rattle.plan.proofs.Laws.{field-size}
 use Rattle.text.specs.Lines.{delivered_text, stops_text, end_text, refused_text}
 use Rattle.text.proofs.Laws.{length-report_text, length-delivered_text, length-stops_text, length-end_text, length-refused_text}
-use Rattle.runner.specs.Buffers.{Buffers, buffers, buffers_long, state_on, buffers_with, progress_of}
+use Rattle.runner.specs.Buffers.{Buffers, buffers_long, state_on, buffers_with, progress_of}
 use Rattle.runner.specs.Events.{path_text, event_text, text_of, state_after}
 use Rattle.runner.specs.Steps.{StepOutcome, step_outcome, last_step, last_text, setup_step, with_bridges, with_link, with_view, with_row, fresh_with_view, view_step, event_step, field_step, read_step, runner_in_range, step_of}
 use Rattle.runner.specs.Fills.{buffers_with_out}

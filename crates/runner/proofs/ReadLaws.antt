@@ -7,7 +7,6 @@ use mathlib.Core.Path.{◌≡◌, refl, ◌∙◌}
 use mathlib.Core.List.{List}
 use lib.ListN.{length, drop}
 use Rattle.protocol.specs.Net.{Plan}
-use Rattle.bench.specs.declared.Event.{Event}
 use Rattle.plan.specs.Reading.{read_of}
 use Rattle.plan.specs.declared.Field.{Field}
 use Rattle.plan.specs.declared.Read.{Read}

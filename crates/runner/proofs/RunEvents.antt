@@ -11,7 +11,6 @@ use lib.Seq.{sets, length-sets}
 use lib.Dec.{eqb}
 use Rattle.protocol.specs.Net.{Network, Plan}
 use Rattle.protocol.specs.Calls.{refuse, accepted, step}
-use Rattle.protocol.specs.Paths as paths
 use Rattle.protocol.proofs.Runs.{plan-step}
 use Rattle.bench.specs.State.{State}
 use Rattle.bench.specs.Batches.{call_of, reply_of}

@@ -1,5 +1,6 @@
 // A plan carried out, field by field and its events in lists: what a field says is done, and the lines that it prints are written.
 #![tactic(auto)]
+
 use bench::Bench;
 use bench::sizes::MOST_MESSAGES;
 use messages::Message;

@@ -7,9 +7,7 @@ use mathlib.Core.Bool.{Bool, true, false}
 use mathlib.Core.Path.{◌≡◌, refl, sym, ◌∙◌}
 use native.Mathlib.Omega.{arith}
 use Prim.Native.Nat.{ℕ, ◌+◌, ◌-◌, ◌≤◌}
-use borrow.Author.Rules.{rules}
-use Rattle.runner.proofs.lists.list_fits.Statement.{statement}
-use Rattle.runner.proofs.lists.list_fits.Tie as tie
+use Rattle.runner.proofs.lists.list_fits.Goals as goal
 
 -- the code's tests are the definition's
 same_test : (a b c d : ℕ) → (a ≤ b → c ≤ d) → (c ≤ d → a ≤ b) → leb a b ≡ leb c d
@@ -20,36 +18,17 @@ same_test a b c d there back = go (leb a b) refl (leb c d) refl
     go false e true f = absurd (omega (arith, back (leb-true c d f), leb-false a b e))
     go false e false f = e ∙ sym f
 
-returns : tie.Need-returns
+pub returns-then-left-gt-LONGEST_PLAN : goal.returns-then-left-gt-LONGEST_PLAN
 unfolding list_fits
-returns c =
-    let a = c.before.args in
-    let few = lt-leb (a.r.offset + a.left) 61440 (omega (arith, c.if1.true)) in
+returns-then-left-gt-LONGEST_PLAN c =
+    let a = c.args in
+    let few = lt-leb (a.r.offset + a.left) 61440 (omega (arith, c.if-left-gt-LONGEST_PLAN.true)) in
     sym (not-both (eqb a.r.stage 3) _ (not-both (leb (a.r.events + 2048) 61440) _ few))
 
-cast-both : tie.Need-overflow-cast-both
-cast-both c = search rules
-
-both-requires : tie.Need-both-requires
-both-requires c κs = search rules
-
-both-requires-2 : tie.Need-both-requires-2
-both-requires-2 c κs = search rules
-
-returns-2 : tie.Need-returns-2
+pub returns : goal.returns
 unfolding list_fits
-returns-2 c =
-    let a = c.before.before.before.before.before.before.args in
+returns c =
+    let a = c.args in
     let events = same_test a.r.events 59392 (a.r.events + 2048) 61440 (λ h. omega (arith, h)) (λ h. omega (arith, h)) in
-    let offset = same_test a.r.offset (61440 - a.left) (a.r.offset + a.left) 61440 (λ h. omega (arith, h, c.before.before.before.before.before.if1.false)) (λ h. omega (arith, h)) in
-    c.both2.ensures ∙ rw (c.before.both.ensures, events, offset)
-
-pub list-fits-spec : {M : Type 1} → statement M
-list-fits-spec =
-    tie.close
-    (tie.spec
-    returns
-    cast-both
-    both-requires
-    both-requires-2
-    returns-2)
+    let offset = same_test a.r.offset (61440 - a.left) (a.r.offset + a.left) 61440 (λ h. omega (arith, h, c.if-left-gt-LONGEST_PLAN.false)) (λ h. omega (arith, h)) in
+    c.both-2.ensures ∙ rw (c.both.ensures, events, offset)

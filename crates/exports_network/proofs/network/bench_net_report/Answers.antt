@@ -1,0 +1,23 @@
+-- `network::bench_net_report` meets its contract. A list that holds no bench or is too short is refused first; else the call's
+-- own contract, over the bench that was read, gives the outcome. Assumes nothing.
+use mathlib.Core.Path.{ap}
+use mathlib.Core.List.{[], ◌∷◌}
+use Rattle.bench.specs.Outcomes.{ReportOutcome}
+use Rattle.encoding.specs.Replies.{call_outcome}
+use Rattle.exports_network.specs.Network.{net_report_reply}
+use Rattle.encoding.proofs.Entry.{passed, failed}
+use Rattle.exports_network.proofs.Room.{room}
+use Rattle.exports_network.proofs.network.bench_net_report.Goals as goal
+
+pub returns-then-not-holds : goal.returns-then-not-holds
+unfolding net_report_reply
+returns-then-not-holds c = rw (failed c.holds.ensures c.if-not-holds.true)
+
+pub load-old-requires : goal.load-old-requires
+load-old-requires c = room 420 _ _ c.holds.ensures c.if-not-holds.false
+
+pub returns : goal.returns
+unfolding net_report_reply
+returns c =
+    rw (passed c.holds.ensures c.if-not-holds.false, ← c.load-old.ensures, c.number_of.ensures)
+    (ap (λ (o : ReportOutcome). call_outcome o.reply.number (o.rows ∷ [])) (c.report-reply.ensures []))

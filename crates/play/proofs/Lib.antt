@@ -1,2 +1,3 @@
+pub mod Moved
 pub mod Printing
 pub mod Reading

@@ -5,6 +5,7 @@ use mathlib.Core.Path.{◌≡◌, sym, ap, subst, ◌∙◌}
 use mathlib.Core.List.{List, [], ◌++◌}
 use lib.ListN.{length, take, drop, length-take}
 use lib.Seq.{take_all, take-add, take-take, take-append_seam}
+use borrow.Rule.Slice.PartMut.{put_mid, post_of}
 use Rattle.runner.specs.Plans.{first_runner, first_buffers, prints}
 use Rattle.runner.specs.Program.{output}
 use Rattle.runner.proofs.RunWhole.{output-carried}
@@ -48,3 +49,7 @@ carried-told plan r few handed =
 pub from_nothing : (begun : List ℕ) (r : Reply) → Played begun r → Played [] r
 from_nothing begun r Played.unread = Played.unread
 from_nothing begun r (Played.read more few handed) = Played.read (begun ++ more) few handed
+
+pub put_first :
+    (begun xs ys bytes : List ℕ) (k : ℕ) → take (length begun) bytes ≡ take (length begun) (put_mid 0 k xs ys) → ys ≡ begun → take (length begun) bytes ≡ begun
+put_first begun xs ys bytes k kept same = kept ∙ ap (λ (l : List ℕ). take (length begun) (l ++ post_of 0 k xs)) same ∙ take-append_seam begun (post_of 0 k xs)

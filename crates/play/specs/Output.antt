@@ -1,5 +1,6 @@
 -- What is replied for a plan, and for what it was read from. Assumes nothing.
-use Rattle.std.specs.Prelude.{ℕ, suc, ◌≤◌, ◌<◌, ◌≡◌, List, ◌++◌, length, take, drop}
+use Rattle.std.specs.Prelude.{ℕ, suc, ◌-◌, ◌≤◌, ◌<◌, ◌≡◌, Option, None, Some, List, ◌++◌, length, take, drop}
+use Rattle.std.specs.Io.KnownBytes.{Appends, Consumes, IsAtEnd, Keeps}
 use Rattle.runner.specs.Program.{output}
 use Rattle.play.specs.declared.Input.{Input}
 use Rattle.play.specs.declared.Reply.{Reply}
@@ -25,3 +26,30 @@ ReadBehind from Input.Failed before after = Unit {0}
 -- these bytes stand in a plan's output, behind the first `from` of it
 abbrev pub StandsAt : List ℕ → ℕ → List ℕ → Type 0
 StandsAt plan from bytes = take (length bytes) (drop from (output plan)) ≡ bytes
+
+-- ---- what a writer and a reader hold, where their types tell it (`W.contents`, `R.remaining`)
+
+-- the writer's bytes grew by a text's first bytes, so many of them at least
+abbrev pub WrotePart : ℕ → List ℕ → Option (List ℕ) → Option (List ℕ) → Type 0
+WrotePart least text old new = (n : ℕ) × (least ≤ n) × (n ≤ length text) × Appends old new (take n text)
+
+-- of a text: where all of it was counted, the writer's bytes grew by it, and else by a part of it that has as many bytes at least as were counted
+abbrev pub Wrote : Reply → List ℕ → Option (List ℕ) → Option (List ℕ) → Type 0
+Wrote (Reply.Printed n) text old new = Appends old new text
+Wrote (Reply.Stopped n) text old new = WrotePart n text old new
+Wrote Reply.Unread text old new = Keeps old new
+
+-- of a reader, of which nothing more was read: a plan is all that it had, or as many of its bytes as show that it is too long
+abbrev pub IsReadOf : Option (List ℕ) → List ℕ → Type 0
+IsReadOf None plan = Unit {0}
+IsReadOf (Some bytes) plan = plan ≡ take (suc longest_plan) bytes
+
+-- of a reader and a writer: the plan could not be read, and nothing was written; or the plan that was read is what was counted and written
+pub data Carried (given : Option (List ℕ)) : Reply → Option (List ℕ) → Option (List ℕ) → Type 0 where
+  unread : {old new : Option (List ℕ)} → Keeps old new → Carried given Reply.Unread old new
+  read : {r : Reply} {old new : Option (List ℕ)} (plan : List ℕ) → IsReadOf given plan → Handed r (output plan) → Wrote r (output plan) old new → Carried given r old new
+
+-- what lies behind the first `from` of the lent bytes is what the reader gave, and where it ends before `full`, the reader has no more
+abbrev pub Gave : ℕ → ℕ → Input → List ℕ → Option (List ℕ) → Option (List ℕ) → Type 0
+Gave from full (Input.Read end) bytes old new = Consumes old new (drop from (take end bytes)) × (end < full → from < length bytes → IsAtEnd new)
+Gave from full Input.Failed bytes old new = Unit {0}

@@ -1,16 +1,18 @@
-// A plan read from a descriptor and carried out from its first field to its end. What it prints goes to standard output after each field or
+// A plan read from a reader and carried out from its first field to its end. What it prints goes to a writer after each field or
 // list of events, from a buffer of fixed size, so it never stands in memory whole.
 #![tactic(auto)]
-ghost use Rattle.std.specs.Prelude.{◌≡◌, false, [], suc, ◌≤◌, ◌<◌, length};
-ghost use Rattle.play.specs.Output.{Handed, Played, ReadBehind, StandsAt};
+
+ghost use Rattle.std.specs.Prelude.{◌≡◌, true, false, [], suc, ◌≤◌, ◌<◌, length};
+ghost use Rattle.play.specs.Output.{Carried, Gave, Handed, Played, ReadBehind, StandsAt, Wrote, WrotePart};
+ghost use Rattle.std.specs.Io.KnownBytes.{Appends, prepend_known};
 ghost use Rattle.runner.specs.Plans.{first_runner, first_buffers, prints};
 ghost use Rattle.runner.specs.Program.{output};
 ghost use Rattle.text.specs.Lines.{refused_text};
 
 use agreement::sizes::LIMITS;
 use bench::sizes::COSTS;
-use libc::STDOUT_FILENO;
 use runner::sizes::{LONGEST_PLAN, OUT_BYTES};
+use std::io::{ErrorKind, Read, Write};
 use text::{LONGEST, Written};
 
 // One byte more than the longest plan, so that a longer one is noticed.
@@ -22,7 +24,7 @@ const SHORT_BYTES: usize = 4096;
 // A longer plan is refused at this offset.
 const TOO_LONG_AT: u32 = LONGEST_PLAN as u32;
 
-// What became of a plan: all that it prints was handed to standard output, so many bytes; or a write failed, and so many had been handed
+// What became of a plan: all that it prints was handed to the writer, so many bytes; or a write failed, and so many had been handed
 // on before it; or the plan could not be read, and nothing was handed on.
 #[derive(Clone, Copy)]
 pub enum Reply {
@@ -31,7 +33,7 @@ pub enum Reply {
     Unread,
 }
 
-// What a descriptor gave: so many of the lent bytes are the plan's; or a read failed.
+// What a reader gave: so many of the lent bytes are the plan's; or a read failed.
 #[derive(Clone, Copy)]
 enum Input {
     Read(usize),
@@ -40,65 +42,76 @@ enum Input {
 
 // Reads a plan and prints all that document 01 asks for it. `read_on` is called at two places, so that the compiler keeps it a function of its
 // own: a short plan never touches the memory that a long one needs.
-pub fn play(fd: i32) -> Reply
-    ensures { Played [] result }
+pub fn play<R: Read, W: Write>(input: &mut R, to: &mut W) -> Reply
+    ensures played { Played [] result }
+    ensures carried { Carried (R.remaining input.old) result (W.contents to.old) (W.contents to.new) }
 {
     let mut begun = [0u8; SHORT_BYTES];
-    let first = read_piece(fd, &mut begun, 0);
+    let first = read_piece(input, &mut begun, 0);
     let Input::Read(n) = first else {
         return Reply::Unread;
     };
     if n == 0 {
-        return run_plan(&begun[..n]);
+        return run_plan(&begun[..n], to);
     }
     if n == SHORT_BYTES {
-        return read_on(fd, &begun[..n]);
+        return read_on(input, &begun[..n], to);
     }
-    let second = read_piece(fd, &mut begun, n);
+    let second = read_piece(input, &mut begun, n);
     let Input::Read(end) = second else {
         return Reply::Unread;
     };
     if end == n {
-        return run_plan(&begun[..n]);
+        return run_plan(&begun[..n], to);
     }
-    read_on(fd, &begun[..end])
+    read_on(input, &begun[..end], to)
 }
 
-// Reads once, behind the bytes that were read already.
-fn read_piece(fd: i32, bytes: &mut [u8], from: usize) -> Input
+// Reads once, behind the bytes that were read already; again where a signal interrupts the read.
+fn read_piece<R: Read>(input: &mut R, bytes: &mut [u8], from: usize) -> Input
     requires { from ≤ length bytes.old }
-    ensures { ReadBehind from result bytes.old bytes.new }
+    ensures behind { ReadBehind from result bytes.old bytes.new }
+    ensures gave { Gave from (suc from) result bytes.new (R.remaining input.old) (R.remaining input.new) }
 {
-    let got = libc::read(fd, &mut bytes[from..]);
-    if got < 0 {
-        return Input::Failed;
+    for _ in 0..u64::MAX {
+        match input.read(&mut bytes[from..]) {
+            Ok(n) => return Input::Read(from + n),
+            Err(e) => {
+                if e.kind() != ErrorKind::Interrupted {
+                    return Input::Failed;
+                }
+            }
+        }
     }
-    Input::Read(from + io::count(got, &bytes[from..]))
+    Input::Failed
 }
 
 // Reads the rest of a plan and prints all that document 01 asks for it. There is room for one byte more than the longest plan has, so that a
 // longer one is seen.
-fn read_on(fd: i32, begun: &[u8]) -> Reply
+fn read_on<R: Read, W: Write>(input: &mut R, begun: &[u8], to: &mut W) -> Reply
     requires { length begun.now ≤ 4096 }
-    ensures { Played begun.now result }
+    ensures played { Played begun.now result }
+    ensures carried { Carried (prepend_known begun.now (R.remaining input.old)) result (W.contents to.old) (W.contents to.new) }
 {
     let mut plan = [0u8; READ_BYTES];
-    let from = bytes::copy(begun, &mut plan);
-    let input = read_rest(fd, &mut plan, from);
-    let Input::Read(end) = input else {
+    let from = begun.len();
+    plan[..from].copy_from_slice(begun);
+    let rest = read_rest(input, &mut plan, from);
+    let Input::Read(end) = rest else {
         return Reply::Unread;
     };
-    print(&plan[..end])
+    print(&plan[..end], to)
 }
 
 // Reads until the input ends, a read fails or no byte more is lent.
-fn read_rest(fd: i32, bytes: &mut [u8], from: usize) -> Input
+fn read_rest<R: Read>(input: &mut R, bytes: &mut [u8], from: usize) -> Input
     requires { from ≤ length bytes.old }
-    ensures { ReadBehind from result bytes.old bytes.new }
+    ensures behind { ReadBehind from result bytes.old bytes.new }
+    ensures gave { Gave from (length bytes.new) result bytes.new (R.remaining input.old) (R.remaining input.new) }
 {
     let mut n = from;
     while n < bytes.len() {
-        let piece = read_piece(fd, bytes, n);
+        let piece = read_piece(input, bytes, n);
         let Input::Read(end) = piece else {
             return Input::Failed;
         };
@@ -111,19 +124,21 @@ fn read_rest(fd: i32, bytes: &mut [u8], from: usize) -> Input
 }
 
 // Prints all that document 01 asks for these bytes as a plan. Up to 61,440 of them are carried out, more are refused.
-pub fn print(plan: &[u8]) -> Reply
-    ensures { Handed result (output plan.now) }
+pub fn print<W: Write>(plan: &[u8], to: &mut W) -> Reply
+    ensures handed { Handed result (output plan.now) }
+    ensures wrote { Wrote result (output plan.now) (W.contents to.old) (W.contents to.new) }
 {
     if LONGEST_PLAN < plan.len() {
-        return too_long(plan);
+        return too_long(plan, to);
     }
-    run_plan(plan)
+    run_plan(plan, to)
 }
 
 // Prints the refusal of a plan that is too long.
-fn too_long(plan: &[u8]) -> Reply
+fn too_long<W: Write>(plan: &[u8], to: &mut W) -> Reply
     requires { 61440 < length plan.now }
-    ensures { Handed result (refused_text 18 61440) }
+    ensures handed { Handed result (refused_text 18 61440) }
+    ensures wrote { Wrote result (refused_text 18 61440) (W.contents to.old) (W.contents to.new) }
 {
     let mut out = [0u8; LONGEST];
     let text = text::lines::refused(&mut out, 18, TOO_LONG_AT);
@@ -131,16 +146,17 @@ fn too_long(plan: &[u8]) -> Reply
     let Written::Bytes(written) = text else {
         return Reply::Unread;
     };
-    if !hand_on(plan, 0, &out[..written]) {
+    if !hand_on(plan, 0, &out[..written], to) {
         return Reply::Stopped(0);
     }
     Reply::Printed(written)
 }
 
 // Carries a plan out and prints what it fills, until it goes no further or a write fails.
-fn run_plan(plan: &[u8]) -> Reply
+fn run_plan<W: Write>(plan: &[u8], to: &mut W) -> Reply
     requires { length plan.now ≤ 61440 }
-    ensures { Handed result (prints (suc (length plan.now)) first_runner first_buffers plan.now) }
+    ensures handed { Handed result (prints (suc (length plan.now)) first_runner first_buffers plan.now) }
+    ensures wrote { Wrote result (prints (suc (length plan.now)) first_runner first_buffers plan.now) (W.contents to.old) (W.contents to.new) }
 {
     let mut out = [0u8; OUT_BYTES];
     let mut costs = [0u32; COSTS];
@@ -162,7 +178,7 @@ fn run_plan(plan: &[u8]) -> Reply
             &mut out,
         );
         let written = filled.written;
-        if !hand_on(plan, printed, &out[..written]) {
+        if !hand_on(plan, printed, &out[..written], to) {
             return Reply::Stopped(printed);
         }
         printed += written;
@@ -174,14 +190,32 @@ fn run_plan(plan: &[u8]) -> Reply
     Reply::Printed(printed)
 }
 
-// Writes bytes that stand in a plan's output, behind the first `from`, to standard output; false where that failed. Without a byte to
-// write nothing fails. The plan is handed over for the contract; nothing else here writes.
-fn hand_on(plan: &[u8], from: usize, bytes: &[u8]) -> bool
+// Writes bytes that stand in a plan's output, behind the first `from`, to the writer, and nothing stays in a buffer of its own; false where
+// that failed. A write that a signal interrupts is made again. Without a byte to write nothing fails. The plan is handed over for the
+// contract; nothing else here writes.
+fn hand_on<W: Write>(plan: &[u8], from: usize, bytes: &[u8], to: &mut W) -> bool
     requires { StandsAt plan.now from bytes.now }
-    ensures { result ≡ false → 0 < length bytes.now }
+    ensures some { result ≡ false → 0 < length bytes.now }
+    ensures all { result ≡ true → Appends (W.contents to.old) (W.contents to.new) bytes.now }
+    ensures part { WrotePart 0 bytes.now (W.contents to.old) (W.contents to.new) }
 {
     if bytes.len() == 0 {
         return true;
     }
-    io::write_all(STDOUT_FILENO, bytes)
+    let mut done = 0;
+    for _ in 0..u64::MAX {
+        if done == bytes.len() {
+            return to.flush().is_ok();
+        }
+        match to.write(&bytes[done..]) {
+            Ok(0) => return false,
+            Ok(n) => done += n,
+            Err(e) => {
+                if e.kind() != ErrorKind::Interrupted {
+                    return false;
+                }
+            }
+        }
+    }
+    false
 }

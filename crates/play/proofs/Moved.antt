@@ -15,7 +15,9 @@ use Rattle.std.specs.Io.KnownBytes.{Appends, Consumes, Keeps, IsAtEnd, prepend_k
 use Rattle.play.specs.Output.{WrotePart, Wrote, IsReadOf, Gave, Carried, Handed}
 use Rattle.play.specs.declared.Reply.{Reply}
 use Rattle.play.specs.declared.Input.{Input}
+use Rattle.runner.specs.Plans.{first_runner, first_buffers, prints}
 use Rattle.runner.specs.Program.{output}
+use Rattle.runner.proofs.RunWhole.{output-carried}
 use Rattle.runner.specs.Sizes.{longest_plan}
 use Rattle.std.proofs.KnownBytes.{Appends-trans, Consumes-trans}
 
@@ -98,9 +100,12 @@ pub wrote_part :
     (a b c : Option (List ℕ)) (text bytes : List ℕ) (from : ℕ) → take (length bytes) (drop from text) ≡ bytes → from + length bytes ≤ length text →
     Appends a b (take from text) → WrotePart 0 bytes b c → WrotePart from text a c
 wrote_part a b c text bytes from next fits p (n, some, part, q) =
-    let first : take n bytes ≡ take n (drop from text) = ap (take n) (sym next) ∙ take-take n (length bytes) (drop from text) part in
-    (from + n, omega arith, omega (arith, part, fits),
-    subst (Appends a c) (ap (λ (l : List ℕ). take from text ++ l) first ∙ sym (take-add from n text)) (Appends-trans a b c _ _ p q))
+    let first : take n bytes ≡ take n (drop from text) = ap (take n) (sym next) ∙ take-take n (length bytes) (drop from text) part in (
+      from + n,
+      omega arith,
+      omega (arith, part, fits),
+      subst (Appends a c) (ap (λ (l : List ℕ). take from text ++ l) first ∙ sym (take-add from n text)) (Appends-trans a b c _ _ p q),
+    )
 
 pub wrote_same : (a b : Option (List ℕ)) (least : ℕ) (bytes text : List ℕ) → bytes ≡ text → WrotePart least bytes a b → WrotePart least text a b
 wrote_same a b least bytes text e p = subst (λ (l : List ℕ). WrotePart least l a b) e p
@@ -166,3 +171,14 @@ rest_read given left begun bytes from end low on fits long front (p, none) = go 
 pub short_read :
     (given left : Option (List ℕ)) (bytes : List ℕ) (n : ℕ) → n ≤ 4096 → Consumes given left (drop 0 (take n bytes)) → IsAtEnd left → IsReadOf given (take n bytes)
 short_read given left bytes n few p end = all_read given left (take n bytes) (omega (arith, few, length-take n bytes)) p end
+
+-- a plan that was carried out where it was read
+pub carried_short :
+    (given left a b : Option (List ℕ)) (bytes : List ℕ) (n : ℕ) (r : Reply) → n ≤ 4096 → Consumes given left (drop 0 (take n bytes)) → IsAtEnd left →
+    Handed r (prints (suc (length (take n bytes))) first_runner first_buffers (take n bytes)) →
+    Wrote r (prints (suc (length (take n bytes))) first_runner first_buffers (take n bytes)) a b → Carried given r a b
+carried_short given left a b bytes n r few p end handed wrote =
+    let plan : List ℕ = take n bytes in
+    let same : prints (suc (length plan)) first_runner first_buffers plan ≡ output plan =
+    sym (output-carried plan (omega (arith, few, length-take n bytes))) in
+    Carried.read plan (short_read given left bytes n few p end) (subst (Handed r) same handed) (of_same r a b _ _ same wrote)

@@ -2,26 +2,86 @@
 // file to the known outputs in plans/.
 // A plan that cannot be opened, read or printed is named on standard error with the reason, and its output is missing.
 #![tactic(auto)]
-use play::Reply;
 
-fn replay(name: &[u8]) {
-    io::write_all(libc::STDOUT_FILENO, name);
-    io::write_all(libc::STDOUT_FILENO, b"\n");
-    let fd = os::open_read(name);
-    if fd < 0 {
-        os::fail(name);
-        return;
+use play::Reply;
+use std::fs::File;
+use std::io::{ErrorKind, Read, Write};
+use std::{io, str};
+
+// A reader or a writer, and why its last failure came.
+#[derive(Drop)]
+struct Noted<T> {
+    inner: T,
+    reason: Option<io::Error>,
+}
+
+impl<T> Noted<T> {
+    fn new(inner: T) -> Noted<T> {
+        Noted {
+            inner,
+            reason: None,
+        }
     }
-    let reply = play::play(fd);
-    match reply {
-        Reply::Printed(_) => {}
-        _ => os::fail(name),
+
+    // Keeps the error, and answers its kind alone.
+    fn note(&mut self, error: io::Error) -> io::Error {
+        let kind = error.kind();
+        self.reason = Some(error);
+        io::Error::from(kind)
     }
-    libc::close(fd);
+}
+
+impl<T: Read> Read for Noted<T> {
+    fn read(&mut self, buf: &mut [u8]) -> io::Result<usize> {
+        match self.inner.read(buf) {
+            Ok(n) => Ok(n),
+            Err(error) => Err(self.note(error)),
+        }
+    }
+}
+
+impl<T: Write> Write for Noted<T> {
+    fn write(&mut self, buf: &[u8]) -> io::Result<usize> {
+        match self.inner.write(buf) {
+            Ok(n) => Ok(n),
+            Err(error) => Err(self.note(error)),
+        }
+    }
+
+    fn flush(&mut self) -> io::Result<()> {
+        match self.inner.flush() {
+            Ok(()) => Ok(()),
+            Err(error) => Err(self.note(error)),
+        }
+    }
+}
+
+// The plan with this name, or why it could not be opened, read or printed.
+fn carry_out(rt: HostRuntime, name: &[u8]) -> io::Result<()> {
+    let Ok(path) = str::from_utf8(name) else {
+        return Err(io::Error::from(ErrorKind::InvalidInput));
+    };
+    let mut input = Noted::new(File::open(&rt, path)?);
+    let mut to = Noted::new(rt.stdout());
+    match play::play(&mut input, &mut to) {
+        Reply::Printed(_) => Ok(()),
+        Reply::Stopped(_) => Err(to.reason.unwrap_or(io::Error::from(ErrorKind::WriteZero))),
+        Reply::Unread => Err(input.reason.unwrap_or(io::Error::from(ErrorKind::Other))),
+    }
+}
+
+fn run(rt: HostRuntime, name: &[u8]) {
+    let _ = rt.stdout().write_all(name);
+    let _ = rt.stdout().write_all(b"\n");
+    if let Err(error) = carry_out(rt, name) {
+        let _ = rt.stderr().write_all(name);
+        let _ = rt.eprintln(format_args!(": {error}"));
+    }
 }
 
 // Known examples, and what becomes of messages, cuts and limits.
-fn known() {
+fn known(rt: HostRuntime) {
+    let replay = |name: &[u8]| run(rt, name);
     replay(b"e10_after_loss.plan");
     replay(b"e10_full.plan");
     replay(b"e1_to_e8.plan");
@@ -44,7 +104,8 @@ fn known() {
 }
 
 // Refused in the header.
-fn header() {
+fn header(rt: HostRuntime) {
+    let replay = |name: &[u8]| run(rt, name);
     replay(b"r01_cut_without_link.plan");
     replay(b"r01_first_field.plan");
     replay(b"r01_one_byte.plan");
@@ -76,7 +137,8 @@ fn header() {
 }
 
 // Refused in a setup field, or for the plan's length.
-fn setup() {
+fn setup(rt: HostRuntime) {
+    let replay = |name: &[u8]| run(rt, name);
     replay(b"r05_no_bridge.plan");
     replay(b"r05_one_bridge.plan");
     replay(b"r05_seventeen.plan");
@@ -91,7 +153,8 @@ fn setup() {
 }
 
 // Events refused for the bridge, view, link or end that they name.
-fn named() {
+fn named(rt: HostRuntime) {
+    let replay = |name: &[u8]| run(rt, name);
     replay(b"r10_cut_bridge.plan");
     replay(b"r10_cut_link.plan");
     replay(b"r10_path_destination.plan");
@@ -118,7 +181,8 @@ fn named() {
 }
 
 // Events refused for an end that is down, or for the messages in flight; and what an end that is down allows.
-fn flight() {
+fn flight(rt: HostRuntime) {
+    let replay = |name: &[u8]| run(rt, name);
     replay(b"r13_before_full.plan");
     replay(b"r13_deliver.plan");
     replay(b"r13_deliver_is_allowed.plan");
@@ -134,10 +198,10 @@ fn flight() {
     replay(b"r15_repeat.plan");
 }
 
-fn main() {
-    known();
-    header();
-    setup();
-    named();
-    flight();
+fn main(rt: HostRuntime) {
+    known(rt);
+    header(rt);
+    setup(rt);
+    named(rt);
+    flight(rt);
 }

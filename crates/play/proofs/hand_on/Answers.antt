@@ -24,8 +24,8 @@ returns-then-ne-clause-part g c = (c.loop.done, omega arith, c.loop.invariant.0,
 pub loop-preserved : goal.loop-preserved
 loop-preserved g c =
     elim c.match-write.branch [
-      in-Ok w ↦ (omega (arith, w.in-Ok.ensures.bound), rw w.done-is (wrote_more _ _ _ _ _ _ c.loop.invariant.1 w.in-Ok.ensures.bytes))
-    | in-Err+else-ne w ↦ rw w.done-is (c.loop.invariant.0, Appends-kept _ _ _ _ c.loop.invariant.1 w.in-Err.ensures.bytes)
+      | in-Ok w ↦ (omega (arith, w.in-Ok.ensures.bound), rw w.done-is (wrote_more _ _ _ _ _ _ c.loop.invariant.1 w.in-Ok.ensures.bytes))
+      | in-Err+else-ne w ↦ rw w.done-is (c.loop.invariant.0, Appends-kept _ _ _ _ c.loop.invariant.1 w.in-Err.ensures.bytes)
     ]
 
 pub returns-clause-part : goal.returns-clause-part

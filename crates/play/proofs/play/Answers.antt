@@ -1,56 +1,68 @@
-use Rattle.std.proofs.Common.{rules, ◌≡◌, true, false, [], suc, ◌≤◌, ◌<◌, length, ℕ, ◌+◌, ◌-◌, ◌*◌, ◌/◌, ◌%◌, Bool, nat_eq, nat_lt, List, ◌∷◌, ◌++◌, slice_index_or, slice_set, bit_and, bit_or, Fits, w8, w32, w64, Bor, MutBor}
-use Rattle.play.specs.Output.{Carried, Gave, Handed, Played, ReadBehind, StandsAt, Wrote, WrotePart}
-use Rattle.std.specs.Io.KnownBytes.{Appends, prepend_known}
-use Rattle.runner.specs.Plans.{first_runner, first_buffers, prints}
-use Rattle.runner.specs.Program.{output}
-use Rattle.text.specs.Lines.{refused_text}
+-- What was read is carried out, or read on.
+use Rattle.play.proofs.Reading.{carried-told, from_nothing}
+use Rattle.play.proofs.Moved.{carried_before, carried_short, read_more, read_same}
+use Rattle.play.specs.Output.{Played, Carried}
+use Rattle.std.proofs.KnownBytes.{Keeps-refl}
+use lib.ListN.{length, take, replicate, length-replicate, length-take}
+use Prim.Native.Nat.{ℕ, ◌≤◌}
+use native.Mathlib.Omega.{arith}
 use Rattle.play.proofs.play.Goals as goal
 
--- src/lib.rt:52:9
 pub returns-in_default-clause-played : goal.returns-in_default-clause-played
-returns-in_default-clause-played g c = ?
+returns-in_default-clause-played g c = Played.unread
 
--- src/lib.rt:52:9
 pub returns-in_default-clause-carried : goal.returns-in_default-clause-carried
-returns-in_default-clause-carried g c = ?
+returns-in_default-clause-carried g c = Carried.unread (Keeps-refl _)
 
--- src/lib.rt:55:9
 pub returns-then-n-eq0-clause-played : goal.returns-then-n-eq0-clause-played
-returns-then-n-eq0-clause-played g c = ?
+returns-then-n-eq0-clause-played g c =
+    carried-told (take c.in-Read.n c.read_piece-first.new.bytes) c.run_plan.result
+    (omega (arith, length-take c.in-Read.n c.read_piece-first.new.bytes, c.if-n-eq0.true)) c.run_plan.ensures.handed
 
--- src/lib.rt:55:9
 pub returns-then-n-eq0-clause-carried : goal.returns-then-n-eq0-clause-carried
-returns-then-n-eq0-clause-carried g c = ?
+returns-then-n-eq0-clause-carried g c =
+    let gave = c.in-Read.ensures.gave in
+    carried_short _ _ _ _ c.read_piece-first.new.bytes c.in-Read.n c.run_plan.result (omega (arith, c.if-n-eq0.true)) gave.0
+    (gave.1 (omega (arith, c.if-n-eq0.true)) (omega (arith, c.read_piece-first.auto.bytes, length-replicate {A = ℕ} 4096 0)))
+    c.run_plan.ensures.handed c.run_plan.ensures.wrote
 
--- src/lib.rt:58:9
 pub returns-then-n-eq-SHORT_BYTES-clause-played : goal.returns-then-n-eq-SHORT_BYTES-clause-played
-returns-then-n-eq-SHORT_BYTES-clause-played g c = ?
+returns-then-n-eq-SHORT_BYTES-clause-played g c = from_nothing _ _ c.read_on.ensures.played
 
--- src/lib.rt:58:9
-pub returns-then-n-eq-SHORT_BYTES-clause-carried :
-    goal.returns-then-n-eq-SHORT_BYTES-clause-carried
-returns-then-n-eq-SHORT_BYTES-clause-carried g c = ?
+pub returns-then-n-eq-SHORT_BYTES-clause-carried : goal.returns-then-n-eq-SHORT_BYTES-clause-carried
+returns-then-n-eq-SHORT_BYTES-clause-carried g c = carried_before _ _ _ _ _ _ c.in-Read.ensures.gave.0 c.read_on.ensures.carried
 
--- src/lib.rt:62:9
 pub returns-in_default-second-clause-played : goal.returns-in_default-second-clause-played
-returns-in_default-second-clause-played g c = ?
+returns-in_default-second-clause-played g c = Played.unread
 
--- src/lib.rt:62:9
 pub returns-in_default-second-clause-carried : goal.returns-in_default-second-clause-carried
-returns-in_default-second-clause-carried g c = ?
+returns-in_default-second-clause-carried g c = Carried.unread (Keeps-refl _)
 
--- src/lib.rt:65:9
 pub returns-then-end-n-clause-played : goal.returns-then-end-n-clause-played
-returns-then-end-n-clause-played g c = ?
+returns-then-end-n-clause-played g c =
+    carried-told (take c.in-Read.n c.read_piece-second.new.bytes) c.run_plan-then-end-n.result
+    (omega (arith, length-take c.in-Read.n c.read_piece-second.new.bytes, c.read_piece-first.auto.bytes, c.read_piece-second.auto.bytes, length-replicate {A = ℕ} 4096 0))
+    c.run_plan-then-end-n.ensures.handed
 
--- src/lib.rt:65:9
 pub returns-then-end-n-clause-carried : goal.returns-then-end-n-clause-carried
-returns-then-end-n-clause-carried g c = ?
+returns-then-end-n-clause-carried g c =
+    let first = c.in-Read.ensures in
+    let second = c.in-Read-second.ensures in
+    let few : c.in-Read.n ≤ 4096 = omega (arith, first.behind.1, c.read_piece-first.auto.bytes, length-replicate {A = ℕ} 4096 0) in
+    let all = read_more _ _ _ 0 c.in-Read.n c.in-Read-second.end c.read_piece-first.new.bytes c.read_piece-second.new.bytes (omega arith)
+    second.behind.0 second.behind.1 second.behind.2 first.gave.0 second.gave.0 in
+    carried_short _ _ _ _ c.read_piece-second.new.bytes c.in-Read.n c.run_plan-then-end-n.result few (read_same _ _ 0 _ _ c.read_piece-second.new.bytes c.if-end-n.true all)
+    (second.gave.1 (omega (arith, c.if-end-n.true))
+    (omega (arith, few, c.if-n-eq-SHORT_BYTES.false, c.read_piece-first.auto.bytes, c.read_piece-second.auto.bytes, length-replicate {A = ℕ} 4096 0)))
+    c.run_plan-then-end-n.ensures.handed c.run_plan-then-end-n.ensures.wrote
 
--- src/lib.rt:45:1
 pub returns-clause-played : goal.returns-clause-played
-returns-clause-played g c = ?
+returns-clause-played g c = from_nothing _ _ c.read_on-2.ensures.played
 
--- src/lib.rt:45:1
 pub returns-clause-carried : goal.returns-clause-carried
-returns-clause-carried g c = ?
+returns-clause-carried g c =
+    let first = c.in-Read.ensures in
+    let second = c.in-Read-second.ensures in
+    let all = read_more _ _ _ 0 c.in-Read.n c.in-Read-second.end c.read_piece-first.new.bytes c.read_piece-second.new.bytes (omega arith)
+    second.behind.0 second.behind.1 second.behind.2 first.gave.0 second.gave.0 in
+    carried_before _ _ _ _ _ _ all c.read_on-2.ensures.carried

@@ -3,20 +3,15 @@ use Rattle.play.specs.Output.{Handed}
 use Rattle.play.proofs.Moved.{of_same}
 use Rattle.runner.proofs.RunWhole.{output-carried, output-refused}
 use mathlib.Core.Path.{sym, subst}
+use native.Mathlib.Omega.{arith}
 use Rattle.play.proofs.print.Goals as goal
 
-pub returns-then-plan-gt-LONGEST_PLAN-clause-handed : goal.returns-then-plan-gt-LONGEST_PLAN-clause-handed
-returns-then-plan-gt-LONGEST_PLAN-clause-handed g c =
-    subst (Handed c.too_long.result) (sym (output-refused c.args.plan.now c.if-plan-gt-LONGEST_PLAN.true)) c.too_long.ensures.handed
+pub returns-then-plan-gt-LONGEST_PLAN : goal.returns-then-plan-gt-LONGEST_PLAN
+returns-then-plan-gt-LONGEST_PLAN g c =
+    let same = sym (output-refused c.args.plan.now (omega (arith, c.if-plan-gt-LONGEST_PLAN.true))) in
+    record { handed = subst (Handed c.too_long.result) same c.too_long.ensures.handed; wrote = of_same _ _ _ _ _ same c.too_long.ensures.wrote }
 
-pub returns-then-plan-gt-LONGEST_PLAN-clause-wrote : goal.returns-then-plan-gt-LONGEST_PLAN-clause-wrote
-returns-then-plan-gt-LONGEST_PLAN-clause-wrote g c =
-    of_same _ _ _ _ _ (sym (output-refused c.args.plan.now c.if-plan-gt-LONGEST_PLAN.true)) c.too_long.ensures.wrote
-
-pub returns-clause-handed : goal.returns-clause-handed
-returns-clause-handed g c =
-    subst (Handed c.run_plan.result) (sym (output-carried c.args.plan.now c.if-plan-gt-LONGEST_PLAN.false)) c.run_plan.ensures.handed
-
-pub returns-clause-wrote : goal.returns-clause-wrote
-returns-clause-wrote g c =
-    of_same _ _ _ _ _ (sym (output-carried c.args.plan.now c.if-plan-gt-LONGEST_PLAN.false)) c.run_plan.ensures.wrote
+pub returns : goal.returns
+returns g c =
+    let same = sym (output-carried c.args.plan.now (omega (arith, c.if-plan-gt-LONGEST_PLAN.false))) in
+    record { handed = subst (Handed c.run_plan.result) same c.run_plan.ensures.handed; wrote = of_same _ _ _ _ _ same c.run_plan.ensures.wrote }

@@ -16,9 +16,10 @@ returns-in-Ok-clause-behind g c =
 pub returns-in-Ok-clause-gave : goal.returns-in-Ok-clause-gave
 returns-in-Ok-clause-gave g c =
     let within : c.args.from ≤ length c.loop.bytes = omega (arith, c.loop.auto.bytes, c.requires) in
-    let lent = lent_some _ _ _ within c.read.auto.buf in
-    (Consumes-from _ _ _ _ c.loop.invariant.1 (gave_piece _ _ _ _ _ _ _ within c.in-Ok.ensures.bound.0 c.in-Ok.ensures.bytes.0),
-    λ none more. c.in-Ok.ensures.bytes.1 (omega (arith, none)) (omega (arith, more, lent.0, lent.1)))
+    let lent = lent_some _ _ _ within c.read.auto.buf in (
+      Consumes-from _ _ _ _ c.loop.invariant.1 (gave_piece _ _ _ _ _ _ _ within c.in-Ok.ensures.bound.0 c.in-Ok.ensures.bytes.0),
+      λ none more. c.in-Ok.ensures.bytes.1 (omega (arith, none)) (omega (arith, more, lent.0, lent.1)),
+    )
 
 pub loop-preserved : goal.loop-preserved
 loop-preserved g c =

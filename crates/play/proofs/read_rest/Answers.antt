@@ -15,15 +15,19 @@ returns-then-end-n-clause-behind g c =
 pub returns-then-end-n-clause-gave : goal.returns-then-end-n-clause-gave
 returns-then-end-n-clause-gave g c =
     let read = c.in-Read.ensures.behind in
-    let more = read_more _ _ _ _ _ _ _ _ c.loop-n.invariant.0 read.0 read.1 read.2 c.loop-n.invariant.3 c.in-Read.ensures.gave.0 in
-    (read_same _ _ _ _ _ _ c.if-end-n.true more,
-    λ short some. c.in-Read.ensures.gave.1 (omega (arith, c.if-end-n.true)) short)
+    let more = read_more _ _ _ _ _ _ _ _ c.loop-n.invariant.0 read.0 read.1 read.2 c.loop-n.invariant.3 c.in-Read.ensures.gave.0 in (
+      read_same _ _ _ _ _ _ c.if-end-n.true more,
+      λ short some. c.in-Read.ensures.gave.1 (omega (arith, c.if-end-n.true)) short,
+    )
 
 pub loop-n-preserved : goal.loop-n-preserved
 loop-n-preserved g c =
-    let read = c.in-Read.ensures.behind in
-    (omega (arith, read.0, c.loop-n.invariant.0), read.1, kept-first _ _ _ _ _ c.loop-n.invariant.0 read.2 c.loop-n.invariant.2,
-    read_more _ _ _ _ _ _ _ _ c.loop-n.invariant.0 read.0 read.1 read.2 c.loop-n.invariant.3 c.in-Read.ensures.gave.0)
+    let read = c.in-Read.ensures.behind in (
+      omega (arith, read.0, c.loop-n.invariant.0),
+      read.1,
+      kept-first _ _ _ _ _ c.loop-n.invariant.0 read.2 c.loop-n.invariant.2,
+      read_more _ _ _ _ _ _ _ _ c.loop-n.invariant.0 read.0 read.1 read.2 c.loop-n.invariant.3 c.in-Read.ensures.gave.0,
+    )
 
 pub returns-clause-behind : goal.returns-clause-behind
 returns-clause-behind g c = (c.loop-n.invariant.0, c.loop-n.invariant.1, c.loop-n.invariant.2)

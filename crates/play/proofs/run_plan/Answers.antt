@@ -19,7 +19,7 @@ loop-going-init g c =
       costs = refl;
       sent = refl;
       held = refl;
-      out = refl
+      out = refl;
     }
 
 pub slice_bounds-out-end : goal.slice_bounds-out-end
@@ -70,7 +70,7 @@ loop-going-preserved g c =
       costs = omega (arith, kept.costs, old.costs);
       sent = omega (arith, kept.sent, old.sent);
       held = omega (arith, kept.held, old.held);
-      out = omega (arith, kept.out, old.out)
+      out = omega (arith, kept.out, old.out);
     }
 
 pub returns-clause-handed : goal.returns-clause-handed

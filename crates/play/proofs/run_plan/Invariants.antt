@@ -14,7 +14,7 @@ invariant-loop-going g l =
       costs : 1024 ≡ length l.costs;
       sent : 1024 ≡ length l.sent;
       held : 1024 ≡ length l.held;
-      out : 31264 ≡ length l.out
+      out : 31264 ≡ length l.out;
     }
 
 abbrev pub decreases-loop-going : goal.decreases-loop-going

@@ -1,11 +1,11 @@
 -- What writes and reads do to the known bytes of a writer and of a reader. Assumes nothing.
-use Prim.Native.Nat.{ℕ, zero, suc, ◌+◌, ◌-◌, ◌≤◌, ◌<◌}
+use Prim.Native.Nat.{ℕ, suc, ◌+◌, ◌-◌, ◌≤◌, ◌<◌}
 use native.Mathlib.Omega.{arith}
 use mathlib.Core.Path.{◌≡◌, refl, sym, ap, subst, ◌∙◌}
 use mathlib.Core.Bool.{Bool, true, false}
 use lib.Dec.{ltb}
 use borrow.Author.Tests.{ltb-true, ltb-false}
-use mathlib.Core.List.{List, [], ◌++◌, append-nil, append_assoc}
+use mathlib.Core.List.{List, ◌++◌, append-nil, append_assoc}
 use lib.ListN.{length, take, drop, length-drop, length-take, drop_of_length-le}
 use lib.Seq.{take_all, take-add, take-take, take-append-le, drop_at, length-take-le, drop-append-le, take_at}
 use borrow.Rule.Slice.PartMut.{put_mid, mid_of, post_of, same_len_mid}
@@ -21,11 +21,7 @@ use Rattle.runner.proofs.RunWhole.{output-carried}
 use Rattle.runner.specs.Sizes.{longest_plan}
 use Rattle.std.proofs.KnownBytes.{Appends-trans, Consumes-trans}
 
--- nothing was written
-pub Appends-none : (a : Option (List ℕ)) → Appends a a []
-Appends-none None = tt
-Appends-none (Some xs) = sym (append-nil xs)
-
+-- a writer that kept what it had
 pub Appends-kept : (a b c : Option (List ℕ)) (bs : List ℕ) → Appends a b bs → Keeps b c → Appends a c bs
 Appends-kept None b c bs p q = tt
 Appends-kept (Some x) None c bs p q = absurd p
@@ -50,6 +46,7 @@ gave_piece a b from k n xs ys low fits p =
     drop-take from n (put_mid from k xs ys) ∙ ap (take n) lent ∙ take-append-le n ys (post_of from k xs) fits in
     subst (Consumes a b) (sym piece) p
 
+-- a reader that kept what it had, and then gave
 pub Consumes-from : (a b c : Option (List ℕ)) (bs : List ℕ) → Keeps a b → Consumes b c bs → Consumes a c bs
 Consumes-from None b c bs p q = tt
 Consumes-from (Some x) None c bs p q = absurd p
@@ -107,6 +104,7 @@ wrote_part a b c text bytes from next fits p (n, some, part, q) =
       subst (Appends a c) (ap (λ (l : List ℕ). take from text ++ l) first ∙ sym (take-add from n text)) (Appends-trans a b c _ _ p q),
     )
 
+-- the same bytes under another name
 pub wrote_same : (a b : Option (List ℕ)) (least : ℕ) (bytes text : List ℕ) → bytes ≡ text → WrotePart least bytes a b → WrotePart least text a b
 wrote_same a b least bytes text e p = subst (λ (l : List ℕ). WrotePart least l a b) e p
 

@@ -1,7 +1,7 @@
 -- A plan begins with what was read first. Assumes nothing.
 use Prim.Native.Nat.{ℕ, suc, ◌+◌, ◌-◌, ◌≤◌}
 use native.Mathlib.Omega.{arith}
-use mathlib.Core.Path.{◌≡◌, sym, ap, subst, ◌∙◌}
+use mathlib.Core.Path.{◌≡◌, refl, sym, ap, subst, ◌∙◌}
 use mathlib.Core.List.{List, [], ◌++◌}
 use lib.ListN.{length, take, drop, length-take}
 use lib.Seq.{take_all, take-add, take-take, take-append_seam}
@@ -30,6 +30,13 @@ copied-first begun bytes rest n all copied =
     let whole : bytes ≡ begun ++ rest = copied ∙ ap (λ (l : List ℕ). l ++ rest) (take_all (length begun) begun (omega arith)) in
     ap (take n) whole ∙ rw all (take-append_seam begun rest)
 
+-- and of what was read into the bytes behind them, the front is as it was
+pub put_first :
+    (begun xs ys bytes : List ℕ) (k : ℕ) → take (length begun) bytes ≡ take (length begun) (put_mid 0 k xs ys) → ys ≡ begun → take (length begun) bytes ≡ begun
+put_first begun xs ys bytes k kept same =
+    let all : ys ≡ take (length begun) begun = same ∙ sym (take_all (length begun) begun (omega arith)) in
+    kept ∙ copied-first begun (put_mid 0 k xs ys) (post_of 0 k xs) (length begun) refl (ap (λ (l : List ℕ). l ++ post_of 0 k xs) all)
+
 -- a plan is carried out of which these bytes were read first
 pub read-on-told :
     (begun bytes : List ℕ) (n end : ℕ) (r : Reply) → n ≤ end → take n bytes ≡ begun → length bytes ≡ 61441 →
@@ -49,7 +56,3 @@ carried-told plan r few handed =
 pub from_nothing : (begun : List ℕ) (r : Reply) → Played begun r → Played [] r
 from_nothing begun r Played.unread = Played.unread
 from_nothing begun r (Played.read more few handed) = Played.read (begun ++ more) few handed
-
-pub put_first :
-    (begun xs ys bytes : List ℕ) (k : ℕ) → take (length begun) bytes ≡ take (length begun) (put_mid 0 k xs ys) → ys ≡ begun → take (length begun) bytes ≡ begun
-put_first begun xs ys bytes k kept same = kept ∙ ap (λ (l : List ℕ). take (length begun) (l ++ post_of 0 k xs)) same ∙ take-append_seam begun (post_of 0 k xs)

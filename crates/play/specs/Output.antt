@@ -1,5 +1,5 @@
 -- What is replied for a plan, and for what it was read from. Assumes nothing.
-use Rattle.std.specs.Prelude.{ℕ, suc, ◌-◌, ◌≤◌, ◌<◌, ◌≡◌, Option, None, Some, List, ◌++◌, length, take, drop}
+use Rattle.std.specs.Prelude.{ℕ, suc, ◌≤◌, ◌<◌, ◌≡◌, Option, None, Some, List, ◌++◌, length, take, drop}
 use Rattle.std.specs.Io.KnownBytes.{Appends, Consumes, IsAtEnd, Keeps}
 use Rattle.runner.specs.Program.{output}
 use Rattle.play.specs.declared.Input.{Input}

@@ -190,9 +190,8 @@ fn run_plan<W: Write>(plan: &[u8], to: &mut W) -> Reply
     Reply::Printed(printed)
 }
 
-// Writes bytes that stand in a plan's output, behind the first `from`, to the writer, and nothing stays in a buffer of its own; false where
-// that failed. A write that a signal interrupts is made again. Without a byte to write nothing fails. The plan is handed over for the
-// contract; nothing else here writes.
+// Writes bytes that stand in a plan's output, behind the first `from`, to the writer, and flushes it; false where that failed. A write that a
+// signal interrupts is made again. Without a byte to write nothing fails. The plan is handed over for the contract; nothing else here writes.
 fn hand_on<W: Write>(plan: &[u8], from: usize, bytes: &[u8], to: &mut W) -> bool
     requires { StandsAt plan.now from bytes.now }
     ensures some { result ≡ false → 0 < length bytes.now }

@@ -1,11 +1,12 @@
-use Rattle.std.proofs.Common.{rules, arith, ◌+◌, ◌≡◌, length, subst, take_all}
+use Rattle.std.proofs.Common.{arith, ◌+◌, subst, take_all}
 use Rattle.std.specs.Io.KnownBytes.{Appends}
-use Rattle.play.proofs.Moved.{Appends-none, Appends-kept, wrote_more}
+use Rattle.std.proofs.KnownBytes.{Appends-nil}
+use Rattle.play.proofs.Moved.{Appends-kept, wrote_more}
 use Rattle.play.proofs.hand_on.Goals as goal
 use Rattle.play.proofs.hand_on.Goals.{in-Ok, in-Err+else-ne}
 
 pub loop-init : goal.loop-init
-loop-init g c = (omega arith, Appends-none _)
+loop-init g c = (omega arith, Appends-nil _)
 
 pub returns-then-done-bytes-clause-all : goal.returns-then-done-bytes-clause-all
 returns-then-done-bytes-clause-all g c ok =

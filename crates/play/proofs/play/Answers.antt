@@ -3,7 +3,7 @@ use Rattle.play.proofs.Reading.{carried-told, from_nothing}
 use Rattle.play.proofs.Moved.{carried_before, carried_short, read_more, read_same}
 use Rattle.play.specs.Output.{Played, Carried}
 use Rattle.std.proofs.KnownBytes.{Keeps-refl}
-use lib.ListN.{length, take, replicate, length-replicate, length-take}
+use lib.ListN.{take, length-replicate, length-take}
 use Prim.Native.Nat.{ℕ, ◌≤◌}
 use native.Mathlib.Omega.{arith}
 use Rattle.play.proofs.play.Goals as goal

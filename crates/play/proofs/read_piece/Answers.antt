@@ -1,4 +1,4 @@
-use Rattle.std.proofs.Common.{rules, arith, ◌+◌, ◌≤◌, ◌≡◌, length, refl, ◌∙◌, le_refl}
+use Rattle.std.proofs.Common.{arith, ◌≤◌, length, refl, ◌∙◌, le_refl}
 use Rattle.std.proofs.KnownBytes.{Keeps-refl, Keeps-trans}
 use Rattle.std.proofs.lemmas.Slice.{take-put_mid_below}
 use Rattle.play.proofs.Moved.{gave_piece, lent_some, Consumes-from}

@@ -1,5 +1,4 @@
-use Rattle.std.proofs.Common.{arith, ◌≡◌, ℕ, ◌≤◌, ◌<◌, length, take, drop, refl, subst}
-use Rattle.std.specs.Io.KnownBytes.{Consumes}
+use Rattle.std.proofs.Common.{arith, refl}
 use Rattle.play.proofs.Moved.{Consumes-none, read_more, read_same}
 use Rattle.play.proofs.Reading.{kept-first}
 use Rattle.play.proofs.read_rest.Goals as goal

@@ -1,13 +1,13 @@
 -- What was printed and what is still to be printed make up the whole, and a write that failed had a byte of it.
-use Rattle.play.proofs.Printing.{left, Place, text, begun, ended, turned, stopped, fewer-left, whole-few}
-use Rattle.play.proofs.Moved.{Appends-none, wrote_next, wrote_part, wrote_whole}
-use Rattle.runner.specs.Buffers.{buffers}
+use Rattle.play.proofs.Printing.{begun, ended, turned, stopped, fewer-left, whole-few}
+use Rattle.std.proofs.KnownBytes.{Appends-nil}
+use Rattle.play.proofs.Moved.{wrote_next, wrote_part, wrote_whole}
 use Rattle.runner.proofs.RunWhole.{output-carried}
 use lib.Seq.{length-take-le}
-use lib.ListN.{length, take, replicate, length-replicate}
-use mathlib.Core.Path.{◌≡◌, refl, sym}
+use lib.ListN.{length-replicate}
+use mathlib.Core.Path.{refl, sym}
 use native.Mathlib.Omega.{arith}
-use Prim.Native.Nat.{ℕ, ◌+◌, ◌≤◌}
+use Prim.Native.Nat.{ℕ}
 use Rattle.play.proofs.run_plan.Goals as goal
 
 pub loop-going-init : goal.loop-going-init
@@ -15,7 +15,7 @@ loop-going-init g c =
     record {
       within = omega arith;
       place = rw c.first_messages-messages.ensures (begun _ _ _ (omega (arith, length-replicate {A = ℕ} 31264 0)) c.first-r.ensures);
-      wrote = Appends-none _;
+      wrote = Appends-nil _;
       costs = refl;
       sent = refl;
       held = refl;

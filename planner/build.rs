@@ -1,4 +1,4 @@
-// Links the proved library that `rt staticlib` writes: the calls of layer 3 and of the plan file's reader.
+// Links the proved library that `scripts/build` writes: the calls of layer 3 and of the plan file's reader.
 use std::env;
 use std::path::Path;
 
@@ -8,7 +8,7 @@ fn main() {
     let archive = folder.join("libexports_network.a");
     println!("cargo:rerun-if-changed={}", archive.display());
     if !archive.exists() {
-        panic!("{} is missing: run `rt staticlib exports_network` first", archive.display());
+        panic!("{} is missing: run `scripts/build exports_network` first", archive.display());
     }
     println!("cargo:rustc-link-search=native={}", folder.display());
     println!("cargo:rustc-link-lib=static=exports_network");

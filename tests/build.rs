@@ -1,4 +1,4 @@
-// Links the proved libraries that `rt staticlib` writes: the calls of layers 1 and 2, and those of layer 3.
+// Links the proved libraries that `scripts/build` writes: the calls of layers 1 and 2, and those of layer 3.
 use std::env;
 use std::path::Path;
 
@@ -10,7 +10,7 @@ fn main() {
         let archive = folder.join(format!("lib{library}.a"));
         println!("cargo:rerun-if-changed={}", archive.display());
         if !archive.exists() {
-            panic!("{} is missing: run `rt staticlib {library}` first", archive.display());
+            panic!("{} is missing: run `scripts/build {library}` first", archive.display());
         }
         println!("cargo:rustc-link-lib=static={library}");
     }

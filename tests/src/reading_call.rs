@@ -28,8 +28,7 @@ pub struct Progress {
 
 // SAFETY, of both calls: each pointer comes with the length of its buffer, and no two buffers share memory.
 
-/// The reply, and the numbers lent for the field: its tag, its two numbers and the bytes that it takes. Past the bytes that are left
-/// stand others.
+/// The reply, and the numbers lent for the bytes that the field takes. Past the bytes that are left stand others.
 pub fn read_field(rest: &[u8], progress: Progress, out: &[u32]) -> (u8, Vec<u32>) {
     let (rest, mut out) = (Buffer::of(rest), Buffer::of(out));
     let Progress { stage, bridges, links, views } = progress;

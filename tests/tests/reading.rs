@@ -1,5 +1,4 @@
-//! The plan file's reader as compiled: the costs of a view and their refusals, how far a plan can have come, the fields that are told, the
-//! lengths of events.
+//! The plan file's reader as compiled: the costs of a view and their refusals, how far a plan can have come, the lengths of events.
 
 use bench_tests::count::Met;
 use bench_tests::plan_bytes::field;
@@ -11,12 +10,6 @@ const MAX_COST: u32 = 16_777_215;
 const HEADER: usize = 3;
 const ROW: usize = 32;
 const CASES: u64 = 20_000;
-
-/// The tag of each event, and the bytes of its value.
-const EVENTS: [(u8, usize); 9] = [(4, 2), (5, 2), (6, 1), (7, 1), (8, 1), (9, 2), (10, 2), (11, 1), (12, 2)];
-
-/// Lent for a field: one more than its four numbers.
-const LENT: [u32; 5] = [7001, 7002, 7003, 7004, 7005];
 
 // ---- the costs of a view
 
@@ -107,54 +100,6 @@ fn costs_stored() {
     stored(&view_field(&[5, MAX_COST + 1]), 1, &[5]);
 }
 
-// ---- the field that is told
-
-/// What a field of these bytes, with these numbers as its value, leaves in the lent numbers.
-fn told(written: &[u8], numbers: &[u8]) -> Vec<u32> {
-    let number = |k: usize| numbers.get(k).map_or(0, |&number| number.into());
-    vec![written[0].into(), number(0), number(1), written.len() as u32, LENT[4]]
-}
-
-/// The field is read and told so, at the plan's end and before other bytes.
-fn told_as_written(p: Progress, written: &[u8], numbers: &[u8]) {
-    for rest in [written.to_vec(), [written, &[0xff; 4]].concat()] {
-        assert_eq!(read_field(&rest, p, &LENT), (0, told(written, numbers)), "{p:?}, {rest:?}");
-    }
-}
-
-#[test]
-fn setups_told_as_written() {
-    let first = Progress { stage: 0, bridges: 0, links: 0, views: 0 };
-    for bridges in 2..=16 {
-        told_as_written(first, &field(1, &[bridges]), &[bridges]);
-        let p = Progress { stage: 1, bridges: bridges.into(), ..first };
-        for (a, b) in (0..bridges).flat_map(|a| (0..bridges).map(move |b| (a, b))).filter(|(a, b)| a != b) {
-            told_as_written(p, &field(2, &[a, b]), &[a, b]);
-        }
-    }
-    // a view's costs are read apart
-    for links in 0..=32 {
-        let p = Progress { stage: 1, bridges: 16, links, views: 0 };
-        let view = view_field(&vec![0x0001_0203; links]);
-        told_as_written(p, &view, &[]);
-        told_as_written(Progress { stage: 2, views: 1, ..p }, &view, &[]);
-    }
-}
-
-/// Any byte may stand in an event, also where the network would refuse it.
-#[test]
-fn events_told_as_written() {
-    let bytes = [0, 1, 2, 15, 16, 31, 32, 63, 64, 127, 128, 254, 255];
-    for p in [2, 3].map(|stage| Progress { stage, bridges: 2, links: 1, views: 1 }) {
-        for (tag, length) in EVENTS {
-            for (a, b) in bytes.iter().flat_map(|&a| bytes.map(|b| (a, b))) {
-                let numbers = &[a, b][..length];
-                told_as_written(p, &field(tag, numbers), numbers);
-            }
-        }
-    }
-}
-
 // ---- how far a plan can have come
 
 /// The progresses that plans lead to: from the first one on, every field that is read leads to the next.
@@ -162,17 +107,16 @@ fn led_to() -> HashSet<Progress> {
     let first = Progress { stage: 0, bridges: 0, links: 0, views: 0 };
     let (mut found, mut ahead) = (HashSet::from([first]), vec![first]);
     while let Some(p) = ahead.pop() {
-        let counts =
-            (0..=u8::MAX).map(|count| (field(1, &[count]), vec![count], Progress { stage: 1, bridges: count.into(), ..p }));
+        let counts = (0..=u8::MAX).map(|count| (field(1, &[count]), Progress { stage: 1, bridges: count.into(), ..p }));
         let others = [
-            (field(2, &[0, 1]), vec![0, 1], Progress { stage: 1, links: p.links + 1, ..p }),
-            (view_field(&vec![1; p.links]), vec![], Progress { stage: 2, views: p.views + 1, ..p }),
-            (field(11, &[0]), vec![0], Progress { stage: 3, ..p }),
+            (field(2, &[0, 1]), Progress { stage: 1, links: p.links + 1, ..p }),
+            (view_field(&vec![1; p.links]), Progress { stage: 2, views: p.views + 1, ..p }),
+            (field(11, &[0]), Progress { stage: 3, ..p }),
         ];
-        for (rest, numbers, next) in counts.take(if p.stage == 0 { 256 } else { 1 }).chain(others) {
-            let (reply, out) = read_field(&rest, p, &LENT);
+        for (rest, next) in counts.take(if p.stage == 0 { 256 } else { 1 }).chain(others) {
+            let (reply, out) = read_field(&rest, p, &[7]);
             assert_ne!(reply, 17, "{p:?}");
-            assert_eq!(out, if reply == 0 { told(&rest, &numbers) } else { LENT.to_vec() }, "{p:?}");
+            assert_eq!(out, [if reply == 0 { rest.len() as u32 } else { 7 }], "{p:?}");
             if reply == 0 && found.insert(next) {
                 ahead.push(next);
             }
@@ -198,9 +142,9 @@ fn progress_that_no_plan_leads_to() {
             for p in counts.map(|views| Progress { stage, bridges, links, views }) {
                 let refused = !led_to.contains(&p);
                 for rest in rests(links) {
-                    let (reply, out) = read_field(&rest, p, &LENT);
+                    let (reply, out) = read_field(&rest, p, &[7]);
                     assert_eq!(reply == 17, refused, "{p:?}, {rest:?}");
-                    assert!(reply == 0 || out == LENT, "{p:?}, {rest:?}");
+                    assert!(reply == 0 || out == [7], "{p:?}, {rest:?}");
                 }
                 met.note(format!("stage {}, {}", stage.min(4), if refused { "refused" } else { "led to" }));
             }
@@ -214,32 +158,23 @@ fn progress_that_no_plan_leads_to() {
 #[test]
 fn lengths_of_events() {
     let p = Progress { stage: 2, bridges: 2, links: 1, views: 1 };
-    for (tag, length) in EVENTS {
-        for said in (0..5).filter(|&said| said != length) {
-            assert_eq!(read_field(&field(tag, &vec![0; said]), p, &LENT), (3, LENT.to_vec()), "tag {tag}, length {said}");
+    for (tag, length) in [(4, 2), (5, 2), (6, 1), (7, 1), (8, 1), (9, 2), (10, 2), (11, 1), (12, 2)] {
+        for said in 0..5 {
+            let expected = if said == length { (0, vec![(HEADER + said) as u32]) } else { (3, vec![7]) };
+            assert_eq!(read_field(&field(tag, &vec![0; said]), p, &[7]), expected, "tag {tag}, length {said}");
         }
-        let whole = field(tag, &vec![0; length]);
         for there in 1..HEADER + length {
-            assert_eq!(read_field(&whole[..there], p, &LENT), (1, LENT.to_vec()), "tag {tag}, {there} bytes");
+            assert_eq!(read_field(&field(tag, &vec![0; length])[..there], p, &[7]), (1, vec![7]), "tag {tag}, {there} bytes");
         }
-        told_as_written(p, &whole, &[0; 2]);
     }
 }
 
-/// Fewer than four numbers are refused first and left alone; four zeros tell the plan's end.
+/// No room for the bytes that the field takes is refused first; a plan's end takes none.
 #[test]
 fn room_for_a_field_and_the_end() {
     let p = Progress { stage: 2, bridges: 2, links: 0, views: 1 };
-    let path = field(12, &[0, 1]);
-    for lent in (0..4).map(|room| &LENT[..room]) {
-        // a field, the plan's end, and bytes that are refused with 1
-        for rest in [&path[..], &[], &[0]] {
-            assert_eq!(read_field(rest, p, lent), (17, lent.to_vec()), "{rest:?}");
-        }
-    }
-    assert_eq!(read_field(&path, p, &LENT[..4]), (0, vec![12, 0, 1, 5]));
-    assert_eq!(read_field(&[], p, &LENT[..4]), (0, vec![0; 4]));
-    assert_eq!(read_field(&[], p, &LENT), (0, vec![0, 0, 0, 0, LENT[4]]));
-    assert_eq!(read_field(&[0], p, &LENT), (1, LENT.to_vec()));
-    assert_eq!(read_field(&[], Progress { stage: 1, views: 0, ..p }, &LENT), (4, LENT.to_vec()));
+    assert_eq!(read_field(&[0], p, &[]), (17, vec![]));
+    assert_eq!(read_field(&[], p, &[7, 8]), (0, vec![0, 8]));
+    assert_eq!(read_field(&field(12, &[0, 1]), p, &[7, 8]), (0, vec![5, 8]));
+    assert_eq!(read_field(&[], Progress { stage: 1, views: 0, ..p }, &[7]), (4, vec![7]));
 }

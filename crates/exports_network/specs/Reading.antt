@@ -10,6 +10,23 @@ use Rattle.plan.specs.declared.Read.{Read}
 use Rattle.encoding.specs.Replies.{CallOutcome, call_outcome, with_numbers, if_long}
 use Rattle.exports_network.specs.Network.{low}
 
+-- the bytes that the field takes stand in front, 0 where the plan properly ends
+unfoldable pub read_outcome : List ℕ → Read → CallOutcome
+read_outcome out (Read.Field f used) = call_outcome 0 (sets out 0 (low used ∷ []) ∷ [])
+read_outcome out (Read.Stop number) = call_outcome number (with_numbers number out (0 ∷ []) ∷ [])
+
+unfoldable pub read_field_reply : List ℕ → ℕ → ℕ → ℕ → ℕ → List ℕ → CallOutcome
+read_field_reply rest stage bridges links views out =
+    let p : Progress = record { stage = stage; bridges = bridges; links = links; views = views } in
+    if_long (leb 1 (length out)) (out ∷ []) (read_outcome out (read_reply rest p))
+
+unfoldable pub read_costs_reply : List ℕ → ℕ → List ℕ → CallOutcome
+read_costs_reply rest links row =
+    let s : Stored = costs_reply rest links row in
+    call_outcome (storing_number s.reply) (s.row ∷ [])
+
+-- ---- the field told
+
 -- an event by the table of tags (document 01, "Plan file"; document 02, Change 1): its tag and the numbers of its value, 0 for a second that it has not
 abbrev pub event_numbers : Event → List ℕ
 event_numbers (Update bridge view) = 4 ∷ bridge ∷ view ∷ []
@@ -30,16 +47,11 @@ field_numbers Field.View = 3 ∷ 0 ∷ 0 ∷ []
 field_numbers (Field.Event event) = event_numbers event
 
 -- the field's three numbers and the bytes that it takes stand in front, four zeros where the plan properly ends
-unfoldable pub read_outcome : List ℕ → Read → CallOutcome
-read_outcome out (Read.Field f used) = call_outcome 0 (sets out 0 (field_numbers f ++ (low used ∷ [])) ∷ [])
-read_outcome out (Read.Stop number) = call_outcome number (with_numbers number out (0 ∷ 0 ∷ 0 ∷ 0 ∷ []) ∷ [])
+unfoldable pub told_outcome : List ℕ → Read → CallOutcome
+told_outcome out (Read.Field f used) = call_outcome 0 (sets out 0 (field_numbers f ++ (low used ∷ [])) ∷ [])
+told_outcome out (Read.Stop number) = call_outcome number (with_numbers number out (0 ∷ 0 ∷ 0 ∷ 0 ∷ []) ∷ [])
 
-unfoldable pub read_field_reply : List ℕ → ℕ → ℕ → ℕ → ℕ → List ℕ → CallOutcome
-read_field_reply rest stage bridges links views out =
+unfoldable pub tell_field_reply : List ℕ → ℕ → ℕ → ℕ → ℕ → List ℕ → CallOutcome
+tell_field_reply rest stage bridges links views out =
     let p : Progress = record { stage = stage; bridges = bridges; links = links; views = views } in
-    if_long (leb 4 (length out)) (out ∷ []) (read_outcome out (read_reply rest p))
-
-unfoldable pub read_costs_reply : List ℕ → ℕ → List ℕ → CallOutcome
-read_costs_reply rest links row =
-    let s : Stored = costs_reply rest links row in
-    call_outcome (storing_number s.reply) (s.row ∷ [])
+    if_long (leb 4 (length out)) (out ∷ []) (told_outcome out (read_reply rest p))

@@ -2,7 +2,7 @@
 ghost use Rattle.std.specs.Prelude.{◌≡◌, [], ◌∷◌};
 ghost use Rattle.std.proofs.lemmas.List.Edits.{sets};
 ghost use Rattle.encoding.specs.Replies.{call_outcome};
-ghost use Rattle.exports_network.specs.Reading.{event_numbers, field_numbers, read_field_reply, read_costs_reply};
+ghost use Rattle.exports_network.specs.Reading.{event_numbers, field_numbers, read_field_reply, tell_field_reply, read_costs_reply};
 ghost use Rattle.plan.specs.Reading.{storing_number};
 
 use crate::benches;
@@ -42,9 +42,8 @@ fn put_field(field: Field, out: &mut [u32])
     }
 }
 
-// `plan::fields::read_field`, with how far the plan has come as four numbers. The field goes to `out`, so that a caller can compare it with
-// the one that it wrote: its tag, its two numbers, the bytes that it takes; four zeros where the plan properly ends. An `out` of fewer than
-// four is refused with 17.
+// `plan::fields::read_field`, with how far the plan has come as four numbers. The bytes that the field takes go to out[0], 0 where the plan
+// properly ends; no room for them is refused with 17.
 #[unsafe(no_mangle)]
 pub extern "C" fn bench_read_field(
     rest: &[u8],
@@ -55,6 +54,43 @@ pub extern "C" fn bench_read_field(
     out: &mut [u32],
 ) -> u8
     ensures { call_outcome result (out.new ∷ []) ≡ read_field_reply rest.now stage bridges links views out.old }
+{
+    if out.len() < 1 {
+        return 17;
+    }
+    let progress = Progress {
+        stage,
+        bridges,
+        links,
+        views,
+    };
+    let read = plan::fields::read_field(rest, progress);
+    match read {
+        Read::Field(_, used) => {
+            out[0] = benches::low_of(used);
+            0
+        }
+        Read::Stop(number) => {
+            if number == 0 {
+                out[0] = 0;
+            }
+            number
+        }
+    }
+}
+
+// The same, and the field goes to `out`, so that a caller can compare it with the one that it wrote: its tag, its two numbers, the bytes that it takes; four zeros where the plan properly ends. An `out` of fewer than
+// four is refused with 17.
+#[unsafe(no_mangle)]
+pub extern "C" fn bench_tell_field(
+    rest: &[u8],
+    stage: usize,
+    bridges: usize,
+    links: usize,
+    views: usize,
+    out: &mut [u32],
+) -> u8
+    ensures { call_outcome result (out.new ∷ []) ≡ tell_field_reply rest.now stage bridges links views out.old }
 {
     if out.len() < FIELD_NUMBERS {
         return 17;

@@ -35,7 +35,7 @@ extern "C" {
                      messages: *mut u32, _: usize, rest: *const u8, _: usize, answers: *mut u32, _: usize, out: *mut u32, _: usize) -> u8;
     fn bench_net_verdict(bench: *const u32, _: usize, costs: *const u32, _: usize, sent: *const u32, _: usize, held: *const u32, _: usize,
                          bridge: usize, dest: usize, out: *mut u32, _: usize) -> u8;
-    fn bench_read_field(rest: *const u8, _: usize, stage: usize, bridges: usize, links: usize, views: usize, out: *mut u32, _: usize) -> u8;
+    fn bench_tell_field(rest: *const u8, _: usize, stage: usize, bridges: usize, links: usize, views: usize, out: *mut u32, _: usize) -> u8;
     fn bench_read_costs(rest: *const u8, _: usize, links: usize, row: *mut u32, _: usize) -> u8;
 }
 
@@ -64,7 +64,7 @@ pub struct Read {
 pub fn read_field(rest: &[u8], p: Progress) -> Result<Option<Read>, u8> {
     let mut out = [0; 4];
     let (at, length) = (rest.as_ptr(), rest.len());
-    let reply = unsafe { bench_read_field(at, length, p.stage, p.bridges, p.links, p.views, out.as_mut_ptr(), out.len()) };
+    let reply = unsafe { bench_tell_field(at, length, p.stage, p.bridges, p.links, p.views, out.as_mut_ptr(), out.len()) };
     accepted(reply)?;
     let [tag, first, second, used] = out;
     if used == 0 {

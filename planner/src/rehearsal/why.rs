@@ -145,8 +145,11 @@ fn openings(setup: &Setup, network: &Network, (bridge, dest): (usize, usize), li
 
 /// Does it lead on to a later condition, to a higher link of the last, or to a port that forwards?
 fn leads_on(before: Verdict, after: Verdict) -> bool {
-    let rank = |verdict: Verdict| if verdict.number == FORWARDS { (u32::MAX, None) } else { (verdict.number, verdict.link) };
-    rank(after) > rank(before)
+    match (before.number, after.number) {
+        (_, FORWARDS) => true,
+        (SENT_NOT_ABOVE, SENT_NOT_ABOVE) => after.link > before.link,
+        (was, is) => is > was,
+    }
 }
 
 fn tried(mut network: Network, trial: Trial, bridge: usize, dest: usize, before: Verdict) -> Option<Opening> {

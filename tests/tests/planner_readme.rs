@@ -137,9 +137,19 @@ fn what_the_readme_quotes_is_printed() {
 /// Names of the crates that the library is made of, the lowest first.
 const CRATES: [&str; 8] = ["distances", "agreement", "encoding", "protocol", "bench", "messages", "plan", "exports_network"];
 
-/// A copy of what the command needs, where a stand-in for `rt` says what it would and then does this.
-fn fresh_copy(name: &str, then: &str) -> PathBuf {
-    let top = Path::new(env!("CARGO_TARGET_TMPDIR")).join(name);
+/// A copy of what the command needs. It stands outside the checkout, where the gate's next run would take it for more crates, and goes when
+/// its test ends.
+struct Fresh(PathBuf);
+
+impl Drop for Fresh {
+    fn drop(&mut self) {
+        let _ = fs::remove_dir_all(&self.0);
+    }
+}
+
+/// A copy where a stand-in for `rt` says what it would and then does this.
+fn fresh_copy(name: &str, then: &str) -> Fresh {
+    let top = std::env::temp_dir().join(format!("bridge-bench-{}-{name}", std::process::id()));
     let _ = fs::remove_dir_all(&top);
     for folder in CRATES.map(|name| format!("crates/{name}")).iter().map(String::as_str).chain(["scripts", "bin"]) {
         fs::create_dir_all(top.join(folder)).expect("a folder");
@@ -153,11 +163,11 @@ fn fresh_copy(name: &str, then: &str) -> PathBuf {
     let script = format!("#!/bin/sh\n{}{then}\n", proved.collect::<String>());
     fs::write(top.join("bin/rt"), script).expect("a script");
     fs::set_permissions(top.join("bin/rt"), fs::Permissions::from_mode(0o755)).expect("a script that runs");
-    top
+    Fresh(top)
 }
 
 /// The command in that copy, from another folder.
-fn in_copy(top: &Path) -> Output {
+fn in_copy(Fresh(top): &Fresh) -> Output {
     let path = format!("{}:{}", top.join("bin").display(), std::env::var("PATH").expect("a path"));
     let mut command = Command::new(top.join("scripts/planner"));
     command.args(["run", "plans/hospital.txt"]).current_dir(root()).env("PATH", path);
@@ -179,7 +189,7 @@ fn the_one_command() {
     let second = in_copy(&top);
     assert_eq!((text(&second.stdout), text(&second.stderr)), (text_of("plans/hospital.run"), String::new()));
     std::thread::sleep(Duration::from_millis(20));
-    fs::write(top.join("crates/bench/more"), "").expect("a change");
+    fs::write(top.0.join("crates/bench/more"), "").expect("a change");
     assert!(text(&in_copy(&top).stderr).contains("bench proved"));
 }
 

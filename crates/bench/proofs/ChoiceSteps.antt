@@ -35,7 +35,7 @@ use Rattle.bench.specs.Ranges.{network_in_range}
 use Rattle.bench.specs.Private.Answers.{found, verdict_in, reported_row}
 use Rattle.bench.specs.Private.Steps.{PortsReady, IsFilled, choice_in, AreChoices}
 use Rattle.bench.specs.declared.Bench.{Bench}
-use Rattle.bench.proofs.TieRanges.{LastingOf, lasting-told, few, lent-in-range, plan-in-range, part_at, getD-stored}
+use Rattle.bench.proofs.TieRanges.{LastingOf, lasting-told, few, lent-in-range, plan-in-range, part_at, get_d-stored}
 use Rattle.bench.proofs.QueueRanges.{bench-told, network-bench, network-costs, network-told}
 use Rattle.bench.proofs.QueueCalls.{said_same}
 use Rattle.bench.proofs.PathSteps.{own-cell}
@@ -208,7 +208,7 @@ module _ (s : State) (ok : network_in_range s ≡ true) (d y : ℕ) (hy : y < s.
 module _ (s : State) (d : ℕ) (choices : List Choice) where
   pub choices-begun :
       (y : ℕ) (c : Choice) → y < length choices → AreChoices s d 0 y choices → c ≡ choice_in s d y 0 → AreChoices s d 0 (y + 1) (set choices y c)
-  choices-begun y c room so is k low none = getD-stored choices y c k none room ∙ go (eqb k y) refl
+  choices-begun y c room so is k low none = get_d-stored choices y c k none room ∙ go (eqb k y) refl
     where
       go : (b : Bool) → eqb k y ≡ b → cond b c (get_or choices k none) ≡ choice_in s d k 0
       go true q = rw (eqb-true k y q) is
@@ -222,7 +222,7 @@ module _ (s : State) (d : ℕ) (choices : List Choice) where
       AreChoices s d e n choices →
       c ≡ choice_in s d y (e + 1) →
       AreChoices s d (e + 1) n (set choices y c)
-  choices-more e n y c room at so is k low none = getD-stored choices y c k none room ∙ go (eqb k y) refl
+  choices-more e n y c room at so is k low none = get_d-stored choices y c k none room ∙ go (eqb k y) refl
     where
       go : (b : Bool) → eqb k y ≡ b → cond b c (get_or choices k none) ≡ choice_in s d k (e + 1)
       go true q = rw (eqb-true k y q) is

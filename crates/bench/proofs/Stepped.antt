@@ -18,7 +18,7 @@ use Rattle.bench.specs.Private.Changes.{bench_outcome, bench_with_end, own_end, 
 use Rattle.bench.specs.Private.Queue.{queue_outcome, with_count, taken_out}
 use Rattle.bench.specs.Private.Effects.{moved_to}
 use Rattle.bench.proofs.Represents.{Typed}
-use Rattle.bench.proofs.TieRanges.{getD-stored}
+use Rattle.bench.proofs.TieRanges.{get_d-stored}
 use Rattle.bench.proofs.TieQueue.{taken-messages, added-messages}
 use Rattle.bench.proofs.TieMoved.{kept-moved}
 use Rattle.bench.proofs.CallSteps.{with_changed, with_rewritten, with_queue, update-step}
@@ -46,7 +46,7 @@ module _ (s : State) where
         plan = refl;
         view = λ y h. refl;
         number = λ y h. refl;
-        down = λ k h. sym (getD-stored s.bench.down e down k false room);
+        down = λ k h. sym (get_d-stored s.bench.down e down k false room);
         ends = λ e h. refl;
         sent = λ e d h k. refl;
         held = λ e d h k. refl;

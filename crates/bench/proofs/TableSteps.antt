@@ -14,7 +14,7 @@ use Rattle.bench.specs.State.{part}
 use Rattle.bench.specs.Private.Views.{distance_table}
 use Rattle.bench.specs.Private.Steps.{filled_view, IsFilled, AllFilled, Tables, TablesOf}
 use Rattle.bench.specs.declared.Bench.{Bench}
-use Rattle.bench.proofs.TieRanges.{part_at, part_length, getD-stored}
+use Rattle.bench.proofs.TieRanges.{part_at, part_length, get_d-stored}
 
 -- ---- one block of 256 replaced
 
@@ -133,7 +133,7 @@ module _
       })
     where
       flag : (u : ℕ) → get_or (set known t true) u false ≡ cond (eqb u t) true (get_or known u false)
-      flag u = getD-stored known t true u false (omega (arith, kept.flags))
+      flag u = get_d-stored known t true u false (omega (arith, kept.flags))
 
       go :
           (u : ℕ) →
@@ -151,7 +151,7 @@ module _
   known-now = get_or-set_same known t true false (omega (arith, kept.flags))
 
   pub known-still : (u : ℕ) → get_or known u false ≡ true → get_or (set known t true) u false ≡ true
-  known-still u so = getD-stored known t true u false (omega (arith, kept.flags)) ∙ go (eqb u t)
+  known-still u so = get_d-stored known t true u false (omega (arith, kept.flags)) ∙ go (eqb u t)
     where
       go : (c : Bool) → cond c true (get_or known u false) ≡ true
       go true = refl

@@ -15,7 +15,7 @@ use Rattle.bench.specs.Outcomes.{refusal_of}
 use Rattle.bench.proofs.Represents.{Represents}
 use Rattle.bench.specs.Private.ListSteps.{step_by}
 use Rattle.protocol.proofs.Accepted.{accepted-checks}
-use Rattle.bench.proofs.TieRanges.{getD-stored, told, bench-ready, few}
+use Rattle.bench.proofs.TieRanges.{get_d-stored, told, bench-ready, few}
 use Rattle.bench.proofs.TieRefusals.{refusal-ready, settled-step}
 use Rattle.bench.proofs.TieChecks.{refuse-same}
 use Rattle.bench.proofs.Switches.{switch-same, switch-after, switch-end}
@@ -39,7 +39,7 @@ module _ (s : State) (n : Network) (r : Represents s n) where
         plan = r.plan;
         view = r.view;
         number = r.number;
-        down = λ k h. rw (r.down k h) (sym (getD-stored s.bench.down e down k false (omega (arith, few s.bench _ (told s r.in_range).lasting, r.typed.flags))));
+        down = λ k h. rw (r.down k h) (sym (get_d-stored s.bench.down e down k false (omega (arith, few s.bench _ (told s r.in_range).lasting, r.typed.flags))));
         ends = r.ends;
         sent = r.sent;
         held = r.held;

@@ -21,7 +21,7 @@ use Rattle.bench.specs.Private.Changes.{Ends, ends, moved_ends, moved_bench, Cha
 use Rattle.bench.proofs.Represents.{Represents, Typed}
 use Rattle.bench.specs.Private.ListSteps.{step_by}
 use Rattle.protocol.proofs.Accepted.{UpdateExists, update-listed}
-use Rattle.bench.proofs.TieRanges.{StateReady, getD-stored, told, ready, network-ready, few, offer-stands}
+use Rattle.bench.proofs.TieRanges.{StateReady, get_d-stored, told, ready, network-ready, few, offer-stands}
 use Rattle.bench.proofs.TieRefusals.{settled-step}
 use Rattle.bench.proofs.TieChecks.{refusal-same}
 use Rattle.bench.proofs.TieMovedEnds.{EndsUpdated}
@@ -86,7 +86,7 @@ module _ (s : State) (n : Network) (r : Represents s n) (y t : ℕ) (low : y < s
 
   module _ (more : get_or s.bench.number y 0 < 65535) where
     number-after : (z : ℕ) → get_or (set s.bench.number y (get_or s.bench.number y 0 + 1)) z 0 ≡ cond (eqb z y) (suc (get_or s.bench.number z 0)) (get_or s.bench.number z 0)
-    number-after z = getD-stored s.bench.number y _ z 0 (omega (arith, counts.0, r.typed.numbers)) ∙ go (eqb z y) refl
+    number-after z = get_d-stored s.bench.number y _ z 0 (omega (arith, counts.0, r.typed.numbers)) ∙ go (eqb z y) refl
       where
         go : (b : Bool) → eqb z y ≡ b → cond b (get_or s.bench.number y 0 + 1) (get_or s.bench.number z 0) ≡ cond b (suc (get_or s.bench.number z 0)) (get_or s.bench.number z 0)
         go true q = rw (eqb-true z y q) (omega arith)
@@ -121,7 +121,7 @@ module _ (s : State) (n : Network) (r : Represents s n) (y t : ℕ) (low : y < s
           in_range = ready state_after (moved-kept s is_ready y t r.typed.records view);
           typed = typed-after;
           plan = r.plan;
-          view = λ z h. rw (r.view z h) (sym (getD-stored s.bench.view y t z 0 (omega (arith, counts.0, r.typed.views))));
+          view = λ z h. rw (r.view z h) (sym (get_d-stored s.bench.view y t z 0 (omega (arith, counts.0, r.typed.views))));
           number = λ z h. rw (r.number z h) (sym (number-after z));
           down = r.down;
           ends = λ e h. rw (r.plan, r.ends e h) (sym (own-end e h));

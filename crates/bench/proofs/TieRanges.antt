@@ -34,8 +34,8 @@ use Rattle.bench.specs.declared.Bench.{Bench}
 
 -- ---- lists: one place stored, and parts
 
-pub getD-stored {ℓ} : {A : Type ℓ} (l : List A) (p : ℕ) (v : A) (q : ℕ) (d : A) → p < length l → get_or (set l p v) q d ≡ cond (eqb q p) v (get_or l q d)
-getD-stored {A} l p v q d h = go (eqb q p) refl
+pub get_d-stored {ℓ} : {A : Type ℓ} (l : List A) (p : ℕ) (v : A) (q : ℕ) (d : A) → p < length l → get_or (set l p v) q d ≡ cond (eqb q p) v (get_or l q d)
+get_d-stored {A} l p v q d h = go (eqb q p) refl
   where
     go : (b : Bool) → eqb q p ≡ b → get_or (set l p v) q d ≡ cond b v (get_or l q d)
     go true e = rw (eqb-true q p e) (get_or-set_same l p v d h)

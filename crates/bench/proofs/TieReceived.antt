@@ -27,7 +27,7 @@ use Rattle.bench.specs.Private.Views.{lent_view}
 use Rattle.bench.specs.Private.Deliveries.{bench_with_records, delivery_at}
 use Rattle.bench.proofs.Represents.{Represents, Typed}
 use Rattle.bench.proofs.CallSteps.{with_delivered}
-use Rattle.bench.proofs.TieRanges.{StateReady, ready, few, are-bridges, lent-in-range, lent-offer-in, getD-stored}
+use Rattle.bench.proofs.TieRanges.{StateReady, ready, few, are-bridges, lent-in-range, lent-offer-in, get_d-stored}
 use Rattle.bench.proofs.TieChecks.{MessageFacts}
 use Rattle.bench.proofs.TieRows.{row_at}
 use Rattle.bench.proofs.RangesKept.{stored-keeps}
@@ -125,7 +125,7 @@ module _
   module _ (n : Network) (r : Represents s n) where
     -- a record afterwards
     record-at : (k : ℕ) → get_or (set s.bench.records e new) k fresh_record ≡ cond (eqb k e) new (get_or s.bench.records k fresh_record)
-    record-at k = getD-stored s.bench.records e new k fresh_record (omega (arith, small, r.typed.records))
+    record-at k = get_d-stored s.bench.records e new k fresh_record (omega (arith, small, r.typed.records))
 
     after-typed : Typed after.bench
     after-typed =

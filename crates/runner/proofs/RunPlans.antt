@@ -12,7 +12,7 @@ use Rattle.distances.specs.View.{Costs, costs_of}
 use Rattle.protocol.specs.Net.{Plan}
 use Rattle.bench.specs.State.{state, network, part}
 use Rattle.bench.specs.declared.Bench.{Bench}
-use Rattle.bench.proofs.TieRanges.{part_at, getD-stored}
+use Rattle.bench.proofs.TieRanges.{part_at, get_d-stored}
 use Rattle.plan.specs.Fields.{cost_in}
 use Rattle.runner.specs.Program.{nothing_set_up, add_link, add_view}
 use Rattle.runner.specs.Plans.{first_runner, first_buffers}
@@ -33,8 +33,8 @@ module _ (b : Bench) (x y : ℕ) (few : b.links < 32) (long : length b.ends ≡ 
 
   end-at : (e : ℕ) → get_or (set (set b.ends one x) other y) e 0 ≡ cond (eqb e one) x (cond (eqb e other) y (get_or b.ends e 0))
   end-at e =
-      getD-stored (set b.ends one x) other y e 0 (omega (arith, few, long, length-set b.ends one x))
-      ∙ ap (cond (eqb e other) y) (getD-stored b.ends one x e 0 (omega (arith, few, long)))
+      get_d-stored (set b.ends one x) other y e 0 (omega (arith, few, long, length-set b.ends one x))
+      ∙ ap (cond (eqb e other) y) (get_d-stored b.ends one x e 0 (omega (arith, few, long)))
       ∙ swapped (eqb e one) (eqb e other) refl refl
     where
       swapped : (p q : Bool) → eqb e one ≡ p → eqb e other ≡ q → cond q y (cond p x (get_or b.ends e 0)) ≡ cond p x (cond q y (get_or b.ends e 0))

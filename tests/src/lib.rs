@@ -26,7 +26,6 @@ pub mod random_case;
 pub mod reading_call;
 pub mod records_numbers;
 pub mod slice_call;
-pub mod telling_call;
 pub mod verdict;
 pub mod verdict_lists;
 pub mod view;

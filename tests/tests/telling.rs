@@ -2,8 +2,7 @@
 //! call that tells only the bytes.
 
 use bench_tests::plan_bytes::field;
-use bench_tests::reading_call::{read_field, Progress};
-use bench_tests::telling_call::tell_field;
+use bench_tests::reading_call::{read_field, tell_field, Progress};
 
 const HEADER: usize = 3;
 

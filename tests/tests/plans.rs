@@ -126,7 +126,7 @@ fn replayed_plans_are_the_readable_ones() {
         assert!(fs::read(path).expect("a plan") == bytes_of_file(&readable[name]), "{name}: run scripts/plan again");
     }
     let source = text_of(&root().join("crates/replay/src/main.rt"));
-    let run = source.lines().filter_map(|line| line.trim().strip_prefix("replay(b\"")?.strip_suffix(".plan\");"));
+    let run = source.lines().filter_map(|line| line.trim().strip_prefix("replay(\"")?.strip_suffix(".plan\");"));
     let mut run: Vec<&str> = run.collect();
     let expected: String = run.iter().map(|&name| format!("{name}.plan\n{}", known_output(&readable[name]))).collect();
     assert_eq!(text_of(&root().join("crates/replay/stdout")), expected);

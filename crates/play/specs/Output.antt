@@ -12,8 +12,8 @@ Handed (Reply.Printed n) text = n ≡ length text
 Handed (Reply.Stopped n) text = n < length text
 Handed Reply.Unread text = ⊥
 
--- of a descriptor, of which these bytes were read: it could not be read on; or the count is that of the output of a plan which begins with
--- them and is at most one byte longer than a plan may be. Of the bytes behind them no contract can say that they are those that were read
+-- of a reader, of which these bytes were read: it could not be read on; or the count is that of the output of a plan which begins with
+-- them and is at most one byte longer than a plan may be. Where the reader's type does not tell the bytes behind them, no contract can say that they are those that were read
 pub data Played (begun : List ℕ) : Reply → Type 0 where
   unread : Played begun Reply.Unread
   read : {r : Reply} (more : List ℕ) → length (begun ++ more) ≤ suc longest_plan → Handed r (output (begun ++ more)) → Played begun r

@@ -5,10 +5,10 @@
 
 use play::Reply;
 use std::fs::File;
+use std::io;
 use std::io::{ErrorKind, Read, Write};
-use std::{io, str};
 
-// A reader or a writer, and why its last failure came.
+// A reader or a writer, and why it failed: the last error that ends a plan, so not that of a call which is made again.
 #[derive(Drop)]
 struct Noted<T> {
     inner: T,
@@ -23,10 +23,12 @@ impl<T> Noted<T> {
         }
     }
 
-    // Keeps the error, and answers its kind alone.
+    // Keeps the error, unless a signal interrupted the call, and answers its kind alone.
     fn note(&mut self, error: io::Error) -> io::Error {
         let kind = error.kind();
-        self.reason = Some(error);
+        if kind != ErrorKind::Interrupted {
+            self.reason = Some(error);
+        }
         io::Error::from(kind)
     }
 }
@@ -57,11 +59,8 @@ impl<T: Write> Write for Noted<T> {
 }
 
 // The plan with this name, or why it could not be opened, read or printed.
-fn carry_out(rt: HostRuntime, name: &[u8]) -> io::Result<()> {
-    let Ok(path) = str::from_utf8(name) else {
-        return Err(io::Error::from(ErrorKind::InvalidInput));
-    };
-    let mut input = Noted::new(File::open(&rt, path)?);
+fn carry_out(rt: HostRuntime, name: &str) -> io::Result<()> {
+    let mut input = Noted::new(File::open(&rt, name)?);
     let mut to = Noted::new(rt.stdout());
     match play::play(&mut input, &mut to) {
         Reply::Printed(_) => Ok(()),
@@ -70,132 +69,131 @@ fn carry_out(rt: HostRuntime, name: &[u8]) -> io::Result<()> {
     }
 }
 
-fn run(rt: HostRuntime, name: &[u8]) {
-    let _ = rt.stdout().write_all(name);
+fn run(rt: HostRuntime, name: &str) {
+    let _ = rt.stdout().write_all(name.as_bytes());
     let _ = rt.stdout().write_all(b"\n");
     if let Err(error) = carry_out(rt, name) {
-        let _ = rt.stderr().write_all(name);
-        let _ = rt.eprintln(format_args!(": {error}"));
+        let _ = rt.eprintln(format_args!("{name}: {error}"));
     }
 }
 
 // Known examples, and what becomes of messages, cuts and limits.
 fn known(rt: HostRuntime) {
-    let replay = |name: &[u8]| run(rt, name);
-    replay(b"e10_after_loss.plan");
-    replay(b"e10_full.plan");
-    replay(b"e1_to_e8.plan");
-    replay(b"e9_accepted.plan");
-    replay(b"e9_refused.plan");
-    replay(b"frame_dies.plan");
-    replay(b"greatest_distance.plan");
-    replay(b"limits_at_the_own_end.plan");
-    replay(b"limits_on_every_link.plan");
-    replay(b"messages.plan");
-    replay(b"no_links.plan");
-    replay(b"noted_then_updated.plan");
-    replay(b"parallel_links.plan");
-    replay(b"sample.plan");
-    replay(b"views_with_equal_costs.plan");
-    replay(b"one_connector.plan");
-    replay(b"ring_of_four.plan");
-    replay(b"sixteen_bridges.plan");
-    replay(b"ward_pair.plan");
+    let replay = |name: &str| run(rt, name);
+    replay("e10_after_loss.plan");
+    replay("e10_full.plan");
+    replay("e1_to_e8.plan");
+    replay("e9_accepted.plan");
+    replay("e9_refused.plan");
+    replay("frame_dies.plan");
+    replay("greatest_distance.plan");
+    replay("limits_at_the_own_end.plan");
+    replay("limits_on_every_link.plan");
+    replay("messages.plan");
+    replay("no_links.plan");
+    replay("noted_then_updated.plan");
+    replay("parallel_links.plan");
+    replay("sample.plan");
+    replay("views_with_equal_costs.plan");
+    replay("one_connector.plan");
+    replay("ring_of_four.plan");
+    replay("sixteen_bridges.plan");
+    replay("ward_pair.plan");
 }
 
 // Refused in the header.
 fn header(rt: HostRuntime) {
-    let replay = |name: &[u8]| run(rt, name);
-    replay(b"r01_cut_without_link.plan");
-    replay(b"r01_first_field.plan");
-    replay(b"r01_one_byte.plan");
-    replay(b"r01_two_bytes.plan");
-    replay(b"r01_value_cut_short.plan");
-    replay(b"r01_view_cut_short.plan");
-    replay(b"r02_tag_0.plan");
-    replay(b"r02_tag_13.plan");
-    replay(b"r02_tag_255.plan");
-    replay(b"r03_before_cut_short.plan");
-    replay(b"r03_bridge_count_of_two_bytes.plan");
-    replay(b"r03_cut_of_one_byte.plan");
-    replay(b"r03_cut_of_three_bytes.plan");
-    replay(b"r03_event_too_long.plan");
-    replay(b"r03_event_too_short.plan");
-    replay(b"r03_high_length_byte.plan");
-    replay(b"r03_restore_of_one_byte.plan");
-    replay(b"r03_view_of_other_length.plan");
-    replay(b"r03_view_without_links.plan");
-    replay(b"r04_before_length.plan");
-    replay(b"r04_count_after_count.plan");
-    replay(b"r04_empty.plan");
-    replay(b"r04_event_before_view.plan");
-    replay(b"r04_link_after_view.plan");
-    replay(b"r04_no_bridges.plan");
-    replay(b"r04_no_view.plan");
-    replay(b"r04_second_count.plan");
-    replay(b"r04_view_after_event.plan");
+    let replay = |name: &str| run(rt, name);
+    replay("r01_cut_without_link.plan");
+    replay("r01_first_field.plan");
+    replay("r01_one_byte.plan");
+    replay("r01_two_bytes.plan");
+    replay("r01_value_cut_short.plan");
+    replay("r01_view_cut_short.plan");
+    replay("r02_tag_0.plan");
+    replay("r02_tag_13.plan");
+    replay("r02_tag_255.plan");
+    replay("r03_before_cut_short.plan");
+    replay("r03_bridge_count_of_two_bytes.plan");
+    replay("r03_cut_of_one_byte.plan");
+    replay("r03_cut_of_three_bytes.plan");
+    replay("r03_event_too_long.plan");
+    replay("r03_event_too_short.plan");
+    replay("r03_high_length_byte.plan");
+    replay("r03_restore_of_one_byte.plan");
+    replay("r03_view_of_other_length.plan");
+    replay("r03_view_without_links.plan");
+    replay("r04_before_length.plan");
+    replay("r04_count_after_count.plan");
+    replay("r04_empty.plan");
+    replay("r04_event_before_view.plan");
+    replay("r04_link_after_view.plan");
+    replay("r04_no_bridges.plan");
+    replay("r04_no_view.plan");
+    replay("r04_second_count.plan");
+    replay("r04_view_after_event.plan");
 }
 
 // Refused in a setup field, or for the plan's length.
 fn setup(rt: HostRuntime) {
-    let replay = |name: &[u8]| run(rt, name);
-    replay(b"r05_no_bridge.plan");
-    replay(b"r05_one_bridge.plan");
-    replay(b"r05_seventeen.plan");
-    replay(b"r06_33_links.plan");
-    replay(b"r07_equal.plan");
-    replay(b"r07_first_end.plan");
-    replay(b"r07_no_bridge.plan");
-    replay(b"r08_33_views.plan");
-    replay(b"r08_before_cost.plan");
-    replay(b"r09_second_view.plan");
-    replay(b"r18_too_long.plan");
+    let replay = |name: &str| run(rt, name);
+    replay("r05_no_bridge.plan");
+    replay("r05_one_bridge.plan");
+    replay("r05_seventeen.plan");
+    replay("r06_33_links.plan");
+    replay("r07_equal.plan");
+    replay("r07_first_end.plan");
+    replay("r07_no_bridge.plan");
+    replay("r08_33_views.plan");
+    replay("r08_before_cost.plan");
+    replay("r09_second_view.plan");
+    replay("r18_too_long.plan");
 }
 
 // Events refused for the bridge, view, link or end that they name.
 fn named(rt: HostRuntime) {
-    let replay = |name: &[u8]| run(rt, name);
-    replay(b"r10_cut_bridge.plan");
-    replay(b"r10_cut_link.plan");
-    replay(b"r10_path_destination.plan");
-    replay(b"r10_path_start.plan");
-    replay(b"r10_report.plan");
-    replay(b"r10_restore_bridge.plan");
-    replay(b"r10_restore_link.plan");
-    replay(b"r10_send_bridge.plan");
-    replay(b"r10_send_link.plan");
-    replay(b"r10_update_bridge.plan");
-    replay(b"r10_update_view.plan");
-    replay(b"r11_cut.plan");
-    replay(b"r11_cut_before_down.plan");
-    replay(b"r11_restore.plan");
-    replay(b"r11_restore_before_up.plan");
-    replay(b"r11_send.plan");
-    replay(b"r11_send_before_down.plan");
-    replay(b"r12_cut_again.plan");
-    replay(b"r12_cut_twice.plan");
-    replay(b"r12_other_end_is_allowed.plan");
-    replay(b"r12_restore_other_end.plan");
-    replay(b"r12_restore_up.plan");
-    replay(b"r12_restored_twice.plan");
+    let replay = |name: &str| run(rt, name);
+    replay("r10_cut_bridge.plan");
+    replay("r10_cut_link.plan");
+    replay("r10_path_destination.plan");
+    replay("r10_path_start.plan");
+    replay("r10_report.plan");
+    replay("r10_restore_bridge.plan");
+    replay("r10_restore_link.plan");
+    replay("r10_send_bridge.plan");
+    replay("r10_send_link.plan");
+    replay("r10_update_bridge.plan");
+    replay("r10_update_view.plan");
+    replay("r11_cut.plan");
+    replay("r11_cut_before_down.plan");
+    replay("r11_restore.plan");
+    replay("r11_restore_before_up.plan");
+    replay("r11_send.plan");
+    replay("r11_send_before_down.plan");
+    replay("r12_cut_again.plan");
+    replay("r12_cut_twice.plan");
+    replay("r12_other_end_is_allowed.plan");
+    replay("r12_restore_other_end.plan");
+    replay("r12_restore_up.plan");
+    replay("r12_restored_twice.plan");
 }
 
 // Events refused for an end that is down, or for the messages in flight; and what an end that is down allows.
 fn flight(rt: HostRuntime) {
-    let replay = |name: &[u8]| run(rt, name);
-    replay(b"r13_before_full.plan");
-    replay(b"r13_deliver.plan");
-    replay(b"r13_deliver_is_allowed.plan");
-    replay(b"r13_lose_is_allowed.plan");
-    replay(b"r13_repeat.plan");
-    replay(b"r13_repeat_is_allowed.plan");
-    replay(b"r13_send.plan");
-    replay(b"r13_send_is_allowed.plan");
-    replay(b"r14_far_end_down.plan");
-    replay(b"r15_before_cut.plan");
-    replay(b"r15_deliver.plan");
-    replay(b"r15_lose.plan");
-    replay(b"r15_repeat.plan");
+    let replay = |name: &str| run(rt, name);
+    replay("r13_before_full.plan");
+    replay("r13_deliver.plan");
+    replay("r13_deliver_is_allowed.plan");
+    replay("r13_lose_is_allowed.plan");
+    replay("r13_repeat.plan");
+    replay("r13_repeat_is_allowed.plan");
+    replay("r13_send.plan");
+    replay("r13_send_is_allowed.plan");
+    replay("r14_far_end_down.plan");
+    replay("r15_before_cut.plan");
+    replay("r15_deliver.plan");
+    replay("r15_lose.plan");
+    replay("r15_repeat.plan");
 }
 
 fn main(rt: HostRuntime) {

@@ -1,67 +1,35 @@
 -- The calls on one end by plain numbers: what their tests tell, what each call comes to, and that on a checked view a call on an end is
 -- the call by that end's numbers. Assumes nothing.
-use Prim.Native.Nat.{ℕ, ◌+◌, ◌*◌, ◌/◌, ◌≤◌, ◌<◌}
-use native.Mathlib.Nat.{lt_of_lt_of_le}
+use Prim.Native.Nat.{ℕ, ◌+◌, ◌*◌, ◌/◌, ◌<◌}
 use native.Mathlib.Omega.{arith}
 use mathlib.Core.Path.{◌≡◌, refl, sym, ap, ◌∙◌}
 use mathlib.Core.Logic.{◌⊎◌, inl, inr}
-use mathlib.Core.Bool.{Bool, true, false, ◌&&◌, not}
+use mathlib.Core.Bool.{Bool, true, ◌&&◌, not}
 use mathlib.Core.List.{List}
-use borrow.Author.Tests.{ne_eqb, le-leb, leb-true, lt-ltb, ltb-true}
+use borrow.Author.Tests.{ne_eqb, le-leb, lt-ltb}
 use lib.ListN.{length, get_or}
-use lib.Dec.{eqb, leb, ltb}
-use Rattle.distances.specs.View.{max_cost}
+use lib.Dec.{eqb, ltb}
 use Rattle.distances.specs.Table.{cell}
-use Rattle.distances.proofs.Booleans.{both_true, true-both}
+use Rattle.distances.proofs.Booleans.{true-both}
 use Rattle.distances.proofs.Ranges.{side, graph-in-range, costs-told, in-range-told}
 use Rattle.agreement.specs.Offer.{opposite}
-use Rattle.agreement.specs.Record.{updated, sent_updated, held_updated, answer, recorded, sent_delivered, held_delivered}
-use Rattle.agreement.specs.Limits.{with_limits}
+use Rattle.agreement.specs.Record.{fresh_record, updated, sent_updated, held_updated, answer, recorded, sent_delivered, held_delivered}
+use Rattle.agreement.specs.Limits.{with_limits, row_after}
+use Rattle.agreement.specs.declared.Rewrite.TheVariants.{Renew, Empty}
 use Rattle.agreement.specs.Ranges.{is_view, record_in_range, delivery_in_range}
-use Rattle.agreement.specs.Call.{ViewData, lent_offer, lent_end_in_range, outcome, says, refused, update_outcome, deliver_outcome}
+use Rattle.agreement.specs.Call.{ViewData, lent_in_range, lent_offer, lent_end_in_range, outcome, says, offer_outcome, fresh_outcome, update_outcome, deliver_outcome}
 use Rattle.agreement.specs.Ends.{Between, PlainEndsAreEnds, between_at, between_in_range, near_offer, far_offer, update_between, deliver_between}
 use Rattle.agreement.specs.declared.EndRecord.{EndRecord}
 use Rattle.agreement.specs.declared.Agreement.{Agreement}
 use Rattle.agreement.proofs.Entry.{BothEnds, end-view, end-ready, end-told, both-ends-ready}
 use Rattle.agreement.proofs.Ends.{opposite-below}
 use Rattle.agreement.proofs.Offers.{lent-offers}
+use Rattle.agreement.proofs.LimitLaws.{row-offered, row-emptied}
+use Rattle.agreement.proofs.Outcomes.{offer-accepted, fresh-accepted}
 
 -- ---- the tests, and what each call comes to
 
--- what the code asks of numbers and tables
-pub record BetweenReady (w : Between) (sent held : List ℕ) (e : ℕ) : Type 0 where
-  pub few_bridges : w.bridges ≤ 16
-  pub near_low : w.near < 16
-  pub far_low : w.far < 16
-  pub table_long : 256 ≤ length w.table
-  pub end_low : e < 64
-  pub sent_long : 1024 ≤ length sent
-  pub held_long : 1024 ≤ length held
-
 module _ (w : Between) (e : ℕ) (sent held : List ℕ) where
-  pub between-told : between_in_range w sent held e ≡ true → BetweenReady w sent held e
-  unfolding between_in_range
-  between-told ok =
-      let z = both_true (leb 2 w.bridges) _ ok in
-      let a = both_true (leb w.bridges 16) _ z.1 in
-      let b = both_true (ltb w.near w.bridges) _ a.1 in
-      let c = both_true (ltb w.far w.bridges) _ b.1 in
-      let x = both_true (not (eqb w.near w.far)) _ c.1 in
-      let y = both_true (leb w.cost max_cost) _ x.1 in
-      let d = both_true (leb 256 (length w.table)) _ y.1 in
-      let f = both_true (ltb e 64) _ d.1 in
-      let g = both_true (leb 1024 (length sent)) _ f.1 in
-      let few = leb-true w.bridges 16 a.0 in
-      record {
-        few_bridges = few;
-        near_low = lt_of_lt_of_le (ltb-true _ _ b.0) few;
-        far_low = lt_of_lt_of_le (ltb-true _ _ c.0) few;
-        table_long = leb-true _ _ d.0;
-        end_low = ltb-true _ _ f.0;
-        sent_long = leb-true _ _ g.0;
-        held_long = leb-true _ _ g.1;
-      }
-
   module _ (views t : ℕ) (r : EndRecord) where
     abbrev update_ready : Bool
     update_ready = between_in_range w sent held e && (is_view views t && record_in_range views r)
@@ -75,10 +43,6 @@ module _ (w : Between) (e : ℕ) (sent held : List ℕ) where
     unfolding update_between
     update-between-accepted ok = rw ok
 
-    pub update-between-refused : update_ready ≡ false → update_between w views t e r sent held ≡ outcome 17 r sent held
-    unfolding update_between
-    update-between-refused ok = rw ok
-
     module _ (n : ℕ) (m : Agreement) where
       abbrev deliver_ready : Bool
       deliver_ready = between_in_range w sent held e && delivery_in_range views t r m.view
@@ -91,10 +55,6 @@ module _ (w : Between) (e : ℕ) (sent held : List ℕ) where
           (with_limits w.bridges e (held_delivered t r m (far_offer w) (cell held e)) held)
       unfolding deliver_between
       deliver-between-accepted ok = rw ok
-
-      pub deliver-between-refused : deliver_ready ≡ false → deliver_between w views t n e r m sent held ≡ outcome refused r sent held
-      unfolding deliver_between
-      deliver-between-refused ok = rw ok
 
 -- ---- an end of a checked view
 
@@ -117,6 +77,27 @@ near-offers v e = lent-offers v e e (opposite e) (e / 2) refl refl refl
 far-offers : (v : ViewData) (e : ℕ) → far_offer (between_at v e) ≡ lent_offer v (opposite e)
 far-offers v e = lent-offers v (opposite e) (opposite e) e (e / 2) refl (omega arith) (omega arith)
 
+-- what is seen from it
+near-seen : (v : ViewData) (e d : ℕ) (w : Between) → w ≡ between_at v e → near_offer w d ≡ lent_offer v e d
+near-seen v e d w same = rw same (ap (λ (f : ℕ → ℕ). f d) (near-offers v e))
+
+pub offer-seen :
+    (v : ViewData) (e d offer : ℕ) (w : Between) →
+    w ≡ between_at v e →
+    offer ≡ near_offer w d →
+    (lent_in_range v && (ltb e (2 * v.links) && ltb d v.bridges)) ≡ true →
+    says offer ≡ offer_outcome v e d
+offer-seen v e d offer w same is ok = rw (is, near-seen v e d w same) (sym (offer-accepted v e d ok))
+
+pub fresh-seen :
+    (v : ViewData) (e : ℕ) (w : Between) (sent held : List ℕ) →
+    w ≡ between_at v e →
+    lent_end_in_range v sent held e ≡ true →
+    outcome 0 fresh_record (with_limits w.bridges e (row_after Renew (near_offer w) (cell sent e)) sent)
+    (with_limits w.bridges e (row_after Empty (far_offer w) (cell held e)) held)
+    ≡ fresh_outcome v e sent held
+fresh-seen v e w sent held same ok = rw (same, row-offered, row-emptied, near-offers v e) (sym (fresh-accepted v e sent held ok))
+
 -- the end e, its opposite o and their link stand in the view's lists
 pub record EndExists (ends costs : List ℕ) (e o : ℕ) : Type 0 where
   pub end : e < length ends
@@ -126,25 +107,25 @@ pub record EndExists (ends costs : List ℕ) (e o : ℕ) : Type 0 where
 module _ (v : ViewData) (e : ℕ) (sent held : List ℕ) (ok : lent_end_in_range v sent held e ≡ true) where
   pub end-listed : (o : ℕ) → o ≡ opposite e → EndExists v.ends v.costs e o
   end-listed o same =
-      let ready = end-ready _ _ _ _ _ _ _ _ ok in
-      let told = end-told _ _ _ _ _ _ _ _ ok in
+      let ready = end-ready _ _ _ _ ok in
+      let told = end-told _ _ _ _ ok in
       record { end = omega arith; link = omega arith; sides = both-ends-ready ready e o told.0 same }
 
   -- the link's two bridges differ
   apart : not (eqb (get_or v.ends e 0) (get_or v.ends (opposite e) 0)) ≡ true
   apart =
-      let graph = graph-in-range _ _ _ (in-range-told _ _ _ _ _ (end-view _ _ _ _ _ _ _ _ ok)).0 in
-      let low = (end-told _ _ _ _ _ _ _ _ ok).0 in
+      let graph = graph-in-range _ _ _ (in-range-told _ _ _ _ _ (end-view _ _ _ _ ok)).0 in
+      let low = (end-told _ _ _ _ ok).0 in
       rw (ne_eqb _ _ (λ same. both-sides v.ends e (graph.differ (e / 2) (omega arith)) same))
 
   -- the tests of its numbers pass
   pub between-passes : between_in_range (between_at v e) sent held e ≡ true
   unfolding between_in_range
   between-passes =
-      let view = in-range-told _ _ _ _ _ (end-view _ _ _ _ _ _ _ _ ok) in
+      let view = in-range-told _ _ _ _ _ (end-view _ _ _ _ ok) in
       let graph = graph-in-range _ _ _ view.0 in
-      let ready = end-ready _ _ _ _ _ _ _ _ ok in
-      let told = end-told _ _ _ _ _ _ _ _ ok in
+      let ready = end-ready _ _ _ _ ok in
+      let told = end-told _ _ _ _ ok in
       true-both (le-leb _ _ graph.least)
       (true-both (le-leb _ _ graph.most)
       (true-both (lt-ltb _ _ (ready.are_bridges e told.0))

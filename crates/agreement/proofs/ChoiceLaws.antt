@@ -1,13 +1,12 @@
 -- The forwarding choice: what one end more comes to, and that the choice by all ends comes to the verdict. Assumes nothing.
 use Prim.Native.Nat.{ℕ, zero, suc, ◌+◌, ◌*◌, ◌≤◌, ◌<◌}
-use mathlib.Core.Path.{◌≡◌, refl, sym, ◌∙◌}
+use mathlib.Core.Path.{◌≡◌, refl, ◌∙◌}
 use mathlib.Core.Bool.{Bool, true, false, cond, ◌&&◌, ◌||◌, not}
-use borrow.Author.Tests.{eq-eqb, ne_eqb, ltb-true, not-true}
+use borrow.Author.Tests.{eq-eqb, ne_eqb, ltb-true}
 use native.Mathlib.Numerals.{add-one}
 use native.Mathlib.Omega.{arith}
 use lib.Dec.{eqb, ltb}
 use Rattle.distances.specs.View.{Graph, Costs, NONE}
-use Rattle.distances.proofs.Booleans.{both_true}
 use Rattle.agreement.specs.Offer.{link_of, far_bridge}
 use Rattle.agreement.specs.Tests.{first_below}
 use Rattle.agreement.specs.Forwarding.{
@@ -26,16 +25,16 @@ use Rattle.agreement.specs.Forwarding.{
   verdict,
 }
 use Rattle.agreement.specs.Choice.{
-  becomes_chosen,
-  becomes_barring,
   first_choice,
   next_choice,
+  link_end,
   verdict_by,
   choice_with,
   choice_below,
   ChoiceIsVerdict,
 }
 use Rattle.agreement.specs.declared.Choice.{Choice}
+use Rattle.agreement.specs.declared.LinkEnd.{LinkEnd}
 use Rattle.agreement.proofs.Firsts.{at_first, found-more, at-first-more}
 
 abbrev choice : ℕ → ℕ → ℕ → ℕ → Bool → Bool → Bool → Bool → Bool → Choice
@@ -54,71 +53,24 @@ choice distance held link barring destination found down holding barred =
 
 -- ---- one end more
 
-module _ (old : Choice) (link cost far : ℕ) (down holding : Bool) (sent held : ℕ) where
-  -- the tests as they are made: is its link the chosen one, and does its sent limit bar the bridge
-  module _
-      {first reach bar first_bar barred : Bool}
-      {barring : ℕ}
-      (is_first : first ≡ (not old.found && reach))
-      (does_reach : reach ≡ reaches_distance cost far old.distance)
-      (has_bar : barred ≡ (old.barred || bar))
-      (is_barring : barring ≡ cond first_bar link old.barring)
-      (is_first_bar : first_bar ≡ (not old.barred && bar))
-      (does_bar : bar ≡ sent_not_above down sent old.distance) where
-    first-is-chosen : first ≡ becomes_chosen old cost far
-    first-is-chosen = is_first ∙ rw does_reach
-
-    barred-is : barred ≡ (old.barred || sent_not_above down sent old.distance)
-    barred-is = has_bar ∙ rw does_bar
-
-    barring-is : barring ≡ cond (becomes_barring old down sent) link old.barring
-    barring-is = is_barring ∙ rw (is_first_bar, does_bar)
-
-    pub next-chosen :
-        first ≡ true →
-        choice old.distance held link barring old.destination true down holding barred
-        ≡ next_choice old link cost far down holding sent held
-    unfolding next_choice
-    next-chosen t =
-        let e : becomes_chosen old cost far ≡ true = sym first-is-chosen ∙ t in
-        let h = both_true (not old.found) (reaches_distance cost far old.distance) e in
-        rw (e, barred-is, barring-is, not-true old.found h.0, h.1)
-
-    pub next-kept :
-        first ≡ false →
-        choice old.distance old.held old.link barring old.destination old.found old.down old.holding barred
-        ≡ next_choice old link cost far down holding sent held
-    unfolding next_choice
-    next-kept t =
-        let e : becomes_chosen old cost far ≡ false = sym first-is-chosen ∙ t in
-        rw (e, barred-is, barring-is) (go old.found (reaches_distance cost far old.distance) e)
-      where
-        with-found : Bool → Choice
-        with-found f =
-            choice old.distance old.held old.link (cond (becomes_barring old down sent) link old.barring) old.destination f old.down
-            old.holding (old.barred || sent_not_above down sent old.distance)
-
-        go : (f t : Bool) → (not f && t) ≡ false → with-found f ≡ with-found (f || t)
-        go true t e = refl
-        go false t e = rw e
-
+module _ (old : Choice) (e : LinkEnd) where
   -- an end that may be at another bridge
   module _ (at : Bool) where
     -- it is the first that reaches the distance; the first that bars the bridge
     abbrev chosen_here : Bool
-    chosen_here = not old.found && (at && reaches_distance cost far old.distance)
+    chosen_here = not old.found && (at && reaches_distance e.cost e.far old.distance)
 
     abbrev barring_here : Bool
-    barring_here = not old.barred && (at && sent_not_above down sent old.distance)
+    barring_here = not old.barred && (at && sent_not_above e.down e.sent old.distance)
 
     abbrev next_if : Choice
     next_if =
-        choice old.distance (cond chosen_here held old.held) (cond chosen_here link old.link)
-        (cond barring_here link old.barring) old.destination (old.found || (at && reaches_distance cost far old.distance))
-        (cond chosen_here down old.down) (cond chosen_here holding old.holding)
-        (old.barred || (at && sent_not_above down sent old.distance))
+        choice old.distance (cond chosen_here e.held old.held) (cond chosen_here e.link old.link)
+        (cond barring_here e.link old.barring) old.destination (old.found || (at && reaches_distance e.cost e.far old.distance))
+        (cond chosen_here e.down old.down) (cond chosen_here e.holding old.holding)
+        (old.barred || (at && sent_not_above e.down e.sent old.distance))
 
-  next-if : (at : Bool) → cond at (next_choice old link cost far down holding sent held) old ≡ next_if at
+  next-if : (at : Bool) → cond at (next_choice old e) old ≡ next_if at
   unfolding next_choice
   next-if true = refl
   next-if false = go old.found old.barred
@@ -126,9 +78,9 @@ module _ (old : Choice) (link cost far : ℕ) (down holding : Bool) (sent held :
       go :
           (f b : Bool) →
           choice old.distance old.held old.link old.barring old.destination f old.down old.holding b
-          ≡ choice old.distance (cond (not f && false) held old.held) (cond (not f && false) link old.link)
-          (cond (not b && false) link old.barring) old.destination (f || false) (cond (not f && false) down old.down)
-          (cond (not f && false) holding old.holding) (b || false)
+          ≡ choice old.distance (cond (not f && false) e.held old.held) (cond (not f && false) e.link old.link)
+          (cond (not b && false) e.link old.barring) old.destination (f || false) (cond (not f && false) e.down old.down)
+          (cond (not f && false) e.holding old.holding) (b || false)
       go true true = refl
       go true false = refl
       go false true = refl
@@ -154,7 +106,7 @@ module _ (g : Graph) (c : Costs) (f : ℕ → ℕ → ℕ) (r : Records) (y d : 
   end_more : (n : ℕ) → cond (eqb (g.bridge_at n) y) (choice_with g c f r d n (by_ends n)) (by_ends n) ≡ by_ends (suc n)
   unfolding choice_with reaches bars
   end_more n =
-      next-if (by_ends n) _ _ _ _ _ _ _ (eqb (g.bridge_at n) y)
+      next-if (by_ends n) (link_end g c f r d n) (eqb (g.bridge_at n) y)
       ∙ rw (
         at-first-more (reaches g c f y d) held_at 0 n,
         at-first-more (reaches g c f y d) link_of 0 n,
@@ -213,21 +165,29 @@ module _ (g : Graph) (c : Costs) (f : ℕ → ℕ → ℕ) (r : Records) (y d : 
 -- ---- a loop over the ends
 
 -- what a loop hands over of end e
-pub record IsEnd
-    (g : Graph)
-    (c : Costs)
-    (f : ℕ → ℕ → ℕ)
-    (r : Records)
-    (d e link cost far : ℕ)
-    (down holding : Bool)
-    (sent held : ℕ) : Type 0 where
-  pub is_link : link ≡ link_of e
-  pub is_cost : cost ≡ c (link_of e)
-  pub is_far : far ≡ f (far_bridge g e) d
-  pub is_down : down ≡ r.down e
-  pub is_holding : holding ≡ (r.ends e).holding
-  pub is_sent : sent ≡ r.sent e d
-  pub is_held : held ≡ r.held e d
+pub record IsEnd (g : Graph) (c : Costs) (f : ℕ → ℕ → ℕ) (r : Records) (d e : ℕ) (x : LinkEnd) : Type 0 where
+  pub is_link : x.link ≡ link_of e
+  pub is_cost : x.cost ≡ c (link_of e)
+  pub is_far : x.far ≡ f (far_bridge g e) d
+  pub is_down : x.down ≡ r.down e
+  pub is_holding : x.holding ≡ (r.ends e).holding
+  pub is_sent : x.sent ≡ r.sent e d
+  pub is_held : x.held ≡ r.held e d
+
+pub end-is :
+    {g : Graph} {c : Costs} {f : ℕ → ℕ → ℕ} {r : Records} {d e : ℕ} {x : LinkEnd} →
+    IsEnd g c f r d e x →
+    x ≡ link_end g c f r d e
+end-is told =
+    rw (
+      ← told.is_cost,
+      ← told.is_far,
+      ← told.is_down,
+      ← told.is_holding,
+      ← told.is_sent,
+      ← told.is_held,
+      ← told.is_link,
+    )
 
 module _ (g : Graph) (c : Costs) (f : ℕ → ℕ → ℕ) (r : Records) (y d : ℕ) where
   -- no end yet; one end more, at y or not
@@ -235,28 +195,24 @@ module _ (g : Graph) (c : Costs) (f : ℕ → ℕ → ℕ) (r : Records) (y d : 
   unfolding choice_below
   choice-none e = rw e
 
-  pub choice-here :
-      (e : ℕ) {old next : Choice} {link cost far : ℕ} {down holding : Bool} {sent held : ℕ} →
+  pub choice-next :
+      (e : ℕ) {old next : Choice} {x : LinkEnd} →
       old ≡ choice_below g c f r y d e →
       g.bridge_at e ≡ y →
-      IsEnd g c f r d e link cost far down holding sent held →
-      next ≡ next_choice old link cost far down holding sent held →
+      x ≡ link_end g c f r d e →
+      next ≡ next_choice old x →
       next ≡ choice_below g c f r y d (e + 1)
   unfolding choice_below choice_with
-  choice-here e so at told is =
-      is
-      ∙ rw (
-        told.is_link,
-        told.is_cost,
-        told.is_far,
-        told.is_down,
-        told.is_holding,
-        told.is_sent,
-        told.is_held,
-        so,
-        add-one,
-        eq-eqb (g.bridge_at e) y at,
-      )
+  choice-next e so at told is = is ∙ rw (told, so, add-one, eq-eqb (g.bridge_at e) y at)
+
+  pub choice-here :
+      (e : ℕ) {old next : Choice} {x : LinkEnd} →
+      old ≡ choice_below g c f r y d e →
+      g.bridge_at e ≡ y →
+      IsEnd g c f r d e x →
+      next ≡ next_choice old x →
+      next ≡ choice_below g c f r y d (e + 1)
+  choice-here e so at told is = choice-next e so at (end-is told) is
 
   pub choice-away : (e : ℕ) → (g.bridge_at e ≡ y → ⊥) → choice_below g c f r y d e ≡ choice_below g c f r y d (e + 1)
   unfolding choice_below

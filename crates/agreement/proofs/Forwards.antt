@@ -3,6 +3,7 @@
 -- Assumes nothing.
 use Prim.Native.Nat.{ℕ, ◌+◌, ◌*◌, ◌≤◌, ◌<◌}
 use mathlib.Core.Path.{◌≡◌, refl, sym, ap, subst, ◌∙◌}
+use Rattle.std.specs.Prelude.{Some, None}
 use mathlib.Core.Logic.{inl, inr}
 use mathlib.Core.Bool.{Bool, true, false, cond, not}
 use native.Mathlib.Omega.{arith}
@@ -31,14 +32,13 @@ use Rattle.agreement.specs.Forwarding.{
   first_of,
   verdict_from,
   verdict,
+  Port,
   port_of,
   port,
 }
 use Rattle.agreement.specs.Rule.{Reaches, IsChosen, EndsDiffer, PortFollowsRule}
 use Rattle.agreement.specs.Rule as rule
 use Rattle.agreement.specs.Reasons.{Chooses, Bars, IsLowestBar, Means, VerdictIsSo, NoOtherVerdict, VerdictFollowsRule}
-use Rattle.agreement.specs.declared.Port.{Port}
-use Rattle.agreement.specs.declared.Port.TheVariants.{Closed, Open}
 use Rattle.agreement.specs.declared.Verdict.{Verdict}
 use Rattle.agreement.specs.declared.Verdict.TheVariants.{IsDestination, NoPath, NoLink, LinkDown, NothingHeld, HeldTooGreat, SentNotAbove, Forwards}
 use Rattle.agreement.proofs.Firsts.{first_passes, first-at-most}
@@ -315,30 +315,30 @@ verdict-follows-rule g c f r y d l =
 -- ---- the port
 
 -- it is open only where the verdict is that it forwards
-pub open-verdict : (v : Verdict) (l : ℕ) → port_of v ≡ Open l → v ≡ Forwards l
+pub open-verdict : (v : Verdict) (l : ℕ) → port_of v ≡ Some l → v ≡ Forwards l
 open-verdict (Forwards k) l e = cc
-open-verdict IsDestination l e = absurd (let z : ◌≡◌ {A = ℕ} 0 1 = cc in omega arith)
-open-verdict NoPath l e = absurd (let z : ◌≡◌ {A = ℕ} 0 1 = cc in omega arith)
-open-verdict NoLink l e = absurd (let z : ◌≡◌ {A = ℕ} 0 1 = cc in omega arith)
-open-verdict (LinkDown k) l e = absurd (let z : ◌≡◌ {A = ℕ} 0 1 = cc in omega arith)
-open-verdict (NothingHeld k) l e = absurd (let z : ◌≡◌ {A = ℕ} 0 1 = cc in omega arith)
-open-verdict (HeldTooGreat k) l e = absurd (let z : ◌≡◌ {A = ℕ} 0 1 = cc in omega arith)
-open-verdict (SentNotAbove k) l e = absurd (let z : ◌≡◌ {A = ℕ} 0 1 = cc in omega arith)
+open-verdict IsDestination l e = cc
+open-verdict NoPath l e = cc
+open-verdict NoLink l e = cc
+open-verdict (LinkDown k) l e = cc
+open-verdict (NothingHeld k) l e = cc
+open-verdict (HeldTooGreat k) l e = cc
+open-verdict (SentNotAbove k) l e = cc
 
 module _ (g : Graph) (c : Costs) (f : ℕ → ℕ → ℕ) (r : Records) (y d : ℕ) where
-  pub open-forwards : (l : ℕ) → port g c f r y d ≡ Open l → (e : ℕ) × rule.Forwards g c f r y d l e
+  pub open-forwards : (l : ℕ) → port g c f r y d ≡ Some l → (e : ℕ) × rule.Forwards g c f r y d l e
   open-forwards l is = (verdict-follows-rule g c f r y d l).0 (open-verdict (verdict g c f r y d) l is)
 
-  pub forwards-open : EndsDiffer g → f y d ≤ NONE → {l e : ℕ} → rule.Forwards g c f r y d l e → port g c f r y d ≡ Open l
+  pub forwards-open : EndsDiffer g → f y d ≤ NONE → {l e : ℕ} → rule.Forwards g c f r y d l e → port g c f r y d ≡ Some l
   forwards-open differ most {l} {e} w = ap port_of ((verdict-follows-rule g c f r y d l).1 differ most (e, w))
 
   -- a port is closed or open
-  none-closed : ((l e : ℕ) → rule.Forwards g c f r y d l e → ⊥) → port g c f r y d ≡ Closed
+  none-closed : ((l e : ℕ) → rule.Forwards g c f r y d l e → ⊥) → port g c f r y d ≡ None
   none-closed none = go (port g c f r y d) refl
     where
-      go : (p : Port) → port g c f r y d ≡ p → port g c f r y d ≡ Closed
-      go Closed t = t
-      go (Open l) t = let by = open-forwards l t in absurd (none l by.0 by.1)
+      go : (p : Port) → port g c f r y d ≡ p → port g c f r y d ≡ None
+      go None t = t
+      go (Some l) t = let by = open-forwards l t in absurd (none l by.0 by.1)
 
 pub port-follows-rule : PortFollowsRule
 port-follows-rule g c f r y d =

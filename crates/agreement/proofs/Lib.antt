@@ -2,7 +2,7 @@ pub mod Basics
 pub mod Firsts
 pub mod Ends
 pub mod Entry
-pub mod Limits
+pub mod LimitLaws
 pub mod Offers
 pub mod ChoiceLaws
 pub mod Forwards

@@ -1,31 +1,31 @@
 -- What each call comes to where its input is in range, and where it is not. Assumes nothing.
-use Prim.Native.Nat.{ℕ}
+use Prim.Native.Nat.{ℕ, ◌*◌}
 use mathlib.Core.Path.{◌≡◌}
 use mathlib.Core.Bool.{Bool, true, false, ◌&&◌}
 use mathlib.Core.List.{List}
-use lib.ListN.{length}
 use lib.Dec.{leb, ltb}
 use Rattle.distances.specs.View.{NONE, max_cost, costs_of}
 use Rattle.distances.specs.Table.{cell}
 use Rattle.agreement.specs.Offer.{opposite}
 use Rattle.agreement.specs.Record.{fresh_record, updated, sent_updated, held_updated, carried, answer, recorded, sent_delivered, held_delivered}
 use Rattle.agreement.specs.Limits.{with_limits}
-use Rattle.agreement.specs.Ranges.{is_view, record_in_range, delivery_in_range, port_in_range}
+use Rattle.agreement.specs.Ranges.{is_view, record_in_range, delivery_in_range}
 use Rattle.agreement.specs.Forwarding.{verdict}
-use Rattle.agreement.specs.Call.{ViewData, lent_graph, lent_offer, lent_end_in_range, lent_records, outcome, says, refused, fresh_outcome, update_outcome, carry_outcome, deliver_outcome, verdict_outcome}
+use Rattle.agreement.specs.Call.{ViewData, lent_graph, lent_in_range, lent_offer, lent_end_in_range, lent_port_in_range, lent_records, outcome, says, refused, offer_outcome, fresh_outcome, update_outcome, carry_outcome, deliver_outcome, verdict_outcome}
 use Rattle.agreement.specs.Choice.{next_choice, verdict_by, next_outcome, choice_outcome}
 use Rattle.agreement.specs.declared.EndRecord.{EndRecord}
 use Rattle.agreement.specs.declared.Agreement.{Agreement}
 use Rattle.agreement.specs.declared.Choice.{Choice}
+use Rattle.agreement.specs.declared.LinkEnd.{LinkEnd}
 
 module _ (views t n : ℕ) (r : EndRecord) where
   pub carry-accepted : (is_view views t && record_in_range views r) ≡ true → carry_outcome views t n r ≡ says (carried t n r)
   unfolding carry_outcome
   carry-accepted ok = rw ok
 
-  pub carry-refused : (is_view views t && record_in_range views r) ≡ false → carry_outcome views t n r ≡ refused
-  unfolding carry_outcome
-  carry-refused ok = rw ok
+pub offer-accepted : (v : ViewData) (e d : ℕ) → (lent_in_range v && (ltb e (2 * v.links) && ltb d v.bridges)) ≡ true → offer_outcome v e d ≡ says (lent_offer v e d)
+unfolding offer_outcome
+offer-accepted v e d ok = rw ok
 
 -- the calls on one end
 module _ (v : ViewData) (e : ℕ) (sent held : List ℕ) where
@@ -35,10 +35,6 @@ module _ (v : ViewData) (e : ℕ) (sent held : List ℕ) where
       ≡ outcome 0 fresh_record (with_limits v.bridges e (lent_offer v e) sent) (with_limits v.bridges e (λ d. NONE) held)
   unfolding fresh_outcome
   fresh-accepted ok = rw ok
-
-  pub fresh-refused : lent_end_in_range v sent held e ≡ false → fresh_outcome v e sent held ≡ outcome 17 fresh_record sent held
-  unfolding fresh_outcome
-  fresh-refused ok = rw ok
 
   module _ (views t : ℕ) (r : EndRecord) where
     abbrev update_ready : Bool
@@ -53,10 +49,6 @@ module _ (v : ViewData) (e : ℕ) (sent held : List ℕ) where
     unfolding update_outcome
     update-accepted ok = rw ok
 
-    pub update-refused : update_ready ≡ false → update_outcome v views t e r sent held ≡ outcome 17 r sent held
-    unfolding update_outcome
-    update-refused ok = rw ok
-
     module _ (n : ℕ) (m : Agreement) where
       abbrev deliver_ready : Bool
       deliver_ready = lent_end_in_range v sent held e && delivery_in_range views t r m.view
@@ -70,35 +62,21 @@ module _ (v : ViewData) (e : ℕ) (sent held : List ℕ) where
       unfolding deliver_outcome
       deliver-accepted ok = rw ok
 
-      pub deliver-refused : deliver_ready ≡ false → deliver_outcome v views t n e r m sent held ≡ outcome refused r sent held
-      unfolding deliver_outcome
-      deliver-refused ok = rw ok
-
 -- the forwarding choice by its ends
-module _ (old : Choice) (link cost far : ℕ) (down holding : Bool) (sent held : ℕ) where
-  pub next-accepted :
-      (ltb link 32 && leb cost max_cost) ≡ true →
-      next_outcome old link cost far down holding sent held ≡ says (next_choice old link cost far down holding sent held)
+module _ (old : Choice) (e : LinkEnd) where
+  pub next-accepted : (ltb e.link 32 && leb e.cost max_cost) ≡ true → next_outcome old e ≡ says (next_choice old e)
   unfolding next_outcome
   next-accepted ok = rw ok
-
-  pub next-refused : (ltb link 32 && leb cost max_cost) ≡ false → next_outcome old link cost far down holding sent held ≡ refused
-  unfolding next_outcome
-  next-refused ok = rw ok
 
 module _ (c : Choice) where
   pub choice-accepted : (ltb c.link 32 && ltb c.barring 32) ≡ true → choice_outcome c ≡ says (verdict_by c)
   unfolding choice_outcome
   choice-accepted ok = rw ok
 
-  pub choice-refused : (ltb c.link 32 && ltb c.barring 32) ≡ false → choice_outcome c ≡ refused
-  unfolding choice_outcome
-  choice-refused ok = rw ok
-
 -- the verdict on a port
 module _ (v : ViewData) (views : ℕ) (down : List Bool) (records : List EndRecord) (sent held : List ℕ) (y d : ℕ) where
   abbrev pub port_ready : Bool
-  port_ready = port_in_range v.bridges v.links v.ends v.costs v.table views records (length sent) (length held) y d
+  port_ready = lent_port_in_range v views records sent held y d
 
   pub verdict-accepted :
       port_ready ≡ true →

@@ -1,28 +1,26 @@
 -- What each call on a lent view does, for every input: its reply, the record, the lent tables. Assumes nothing.
-use Rattle.std.specs.Prelude.{ℕ, ◌*◌, ◌<◌, min, ◌≡◌, Bool, true, false, cond, ◌&&◌, List, [], ◌∷◌, map, length, get_or, ltb}
+use Rattle.std.specs.Prelude.{ℕ, ◌*◌, ◌<◌, min, ◌≡◌, Bool, true, false, cond, ◌&&◌, List, [], ◌∷◌, map, length, get_or, ltb, Result, Ok, Err}
+use Rattle.distances.specs.Refusal.{number}
+use Rattle.distances.specs.declared.refusals.Refusal.{Refusal}
 use Rattle.distances.specs.View.{Graph, NONE, graph_of, costs_of}
 use Rattle.distances.specs.Table.{cell}
 use Rattle.distances.specs.Distance.{dist}
 use Rattle.agreement.specs.Offer.{opposite, offer}
 use Rattle.agreement.specs.Record.{fresh_record, updated, sent_updated, held_updated, carried, answer, recorded, sent_delivered, held_delivered}
 use Rattle.agreement.specs.Limits.{with_limits}
-use Rattle.agreement.specs.Forwarding.{Records, verdict, port_of}
+use Rattle.agreement.specs.Forwarding.{Records, Port, verdict, port_of}
 use Rattle.agreement.specs.Reasons.{Means}
 use Rattle.agreement.specs.Ranges.{view_in_range, is_view, record_in_range, end_in_range, delivery_in_range, port_in_range}
+use Rattle.agreement.specs.declared.View.{View}
+use Rattle.agreement.specs.declared.Records as declared
 use Rattle.agreement.specs.declared.EndRecord.{EndRecord}
+use Rattle.agreement.specs.declared.LimitsMut.{LimitsMut}
 use Rattle.agreement.specs.declared.Agreement.{Agreement}
 use Rattle.agreement.specs.declared.Answer.{Answer}
-use Rattle.agreement.specs.declared.Port.{Port}
-use Rattle.agreement.specs.declared.Reply.{Reply}
-use Rattle.agreement.specs.declared.Offered.{Offered}
-use Rattle.agreement.specs.declared.Carrying.{Carrying}
-use Rattle.agreement.specs.declared.Reaction.{Reaction}
-use Rattle.agreement.specs.declared.Forwarding.{Forwarding}
 use Rattle.agreement.specs.declared.Verdict.{Verdict}
 use Rattle.agreement.specs.declared.Verdict.TheVariants.{NoLink}
-use Rattle.agreement.specs.declared.VerdictReply.{VerdictReply}
 
--- what a reply says: document 01's number, 0 where the call is not refused, and the value that it brings
+-- what a reply says: its number in the table of refusals, 0 where the call is not refused, and the value that it brings
 pub record Response (A : Type 0) : Type 0 where
   pub number : ℕ
   pub value : List A
@@ -38,30 +36,14 @@ says x = record { number = 0; value = x ∷ [] }
 abbrev pub mapped : {A B : Type 0} → (A → B) → Response A → Response B
 mapped f s = record { number = s.number; value = map f s.value }
 
--- each enum's cases
-abbrev pub number : Reply → ℕ
-number Reply.Refused = 17
-number Reply.Done = 0
+-- what a call's result says
+abbrev pub response : {A : Type 0} → Result A Refusal → Response A
+response (Ok x) = says x
+response (Err r) = record { number = number r; value = [] }
 
-abbrev pub offered_response : Offered → Response ℕ
-offered_response Offered.Refused = refused
-offered_response (Offered.Offers x) = says x
-
-abbrev pub carrying_response : Carrying → Response Agreement
-carrying_response Carrying.Refused = refused
-carrying_response (Carrying.Carries m) = says m
-
-abbrev pub reaction_response : Reaction → Response Answer
-reaction_response Reaction.Refused = refused
-reaction_response (Reaction.Answered a) = says a
-
-abbrev pub forwarding_response : Forwarding → Response Port
-forwarding_response Forwarding.Refused = refused
-forwarding_response (Forwarding.Found p) = says p
-
-abbrev pub verdict_response : VerdictReply → Response Verdict
-verdict_response VerdictReply.Refused = refused
-verdict_response (VerdictReply.Found v) = says v
+-- the caller's tables are the ones that it lent, so that it learns what they hold afterwards
+abbrev pub SameTables : LimitsMut → LimitsMut → Type 0
+SameTables before after = (after.sent.ghost_name ≡ before.sent.ghost_name) × (after.held.ghost_name ≡ before.held.ghost_name)
 
 -- A view as it is lent: the graph, its costs, and a table that holds its distances
 pub record ViewData : Type 0 where
@@ -73,6 +55,9 @@ pub record ViewData : Type 0 where
 
 abbrev pub view_data : ℕ → ℕ → List ℕ → List ℕ → List ℕ → ViewData
 view_data bridges links ends costs table = record { bridges = bridges; links = links; ends = ends; costs = costs; table = table }
+
+abbrev pub lent : View → ViewData
+lent v = view_data v.graph.bridges v.graph.links v.graph.ends.now v.costs.now v.table.now
 
 abbrev pub lent_graph : ViewData → Graph
 lent_graph v = graph_of v.bridges v.links v.ends
@@ -88,7 +73,7 @@ lent_offer v e d = min NONE (offer (lent_graph v) (costs_of v.costs) (cell v.tab
 abbrev pub HoldsDistances : ViewData → Type 0
 HoldsDistances v = (i j : ℕ) → i < v.bridges → j < v.bridges → cell v.table i j ≡ dist (lent_graph v) (costs_of v.costs) i j
 
--- with such a table the offers that limits are made of are document 01's
+-- with such a table the offers that limits are made of are the protocol's
 abbrev pub LentOffersAreOffers : Type 0
 LentOffersAreOffers =
     (v : ViewData) →
@@ -175,10 +160,18 @@ abbrev pub lent_records : List Bool → List EndRecord → List ℕ → List ℕ
 lent_records down records sent held =
     record { down = λ e. get_or down e false; ends = λ e. get_or records e fresh_record; sent = cell sent; held = cell held }
 
+abbrev pub known : declared.Records → Records
+known r = lent_records r.down.now r.records.now r.limits.sent.now r.limits.held.now
+
+-- what a call on a port is handed, in range
+abbrev pub lent_port_in_range : ViewData → ℕ → List EndRecord → List ℕ → List ℕ → ℕ → ℕ → Bool
+lent_port_in_range v views records sent held y d =
+    port_in_range v.bridges v.links v.ends v.costs v.table views records (length sent) (length held) y d
+
 -- The verdict on the port of bridge y for destination d, y being on the lent view
 unfoldable pub verdict_outcome : ViewData → ℕ → List Bool → List EndRecord → List ℕ → List ℕ → ℕ → ℕ → Response Verdict
 verdict_outcome v views down records sent held y d =
-    cond (port_in_range v.bridges v.links v.ends v.costs v.table views records (length sent) (length held) y d)
+    cond (lent_port_in_range v views records sent held y d)
     (says (verdict (lent_graph v) (costs_of v.costs) (cell v.table) (lent_records down records sent held) y d))
     refused
 

@@ -1,4 +1,4 @@
--- The calls on one end by plain numbers: tests of constant cost, and no list of the view but the table. Assumes nothing.
+-- The calls on one end by what is seen from it: tests of constant cost, and no list of the view but the table. Assumes nothing.
 use Rattle.std.specs.Prelude.{ℕ, ◌≡◌, Bool, true, cond, ◌&&◌, not, List, length, get_or, eqb, leb, ltb}
 use Rattle.distances.specs.View.{max_cost, table_numbers}
 use Rattle.distances.specs.Table.{cell}
@@ -7,12 +7,13 @@ use Rattle.agreement.specs.Record.{updated, sent_updated, held_updated, answer, 
 use Rattle.agreement.specs.Limits.{with_limits, limit_of}
 use Rattle.agreement.specs.Ranges.{is_view, record_in_range, delivery_in_range}
 use Rattle.agreement.specs.Call.{ViewData, Response, refused, says, Outcome, outcome, lent_end_in_range, update_outcome, deliver_outcome}
+use Rattle.agreement.specs.declared.Across.{Across}
 use Rattle.agreement.specs.declared.EndRecord.{EndRecord}
 use Rattle.agreement.specs.declared.Agreement.{Agreement}
 use Rattle.agreement.specs.declared.Answer.{Answer}
 use Rattle.agreement.specs.Sizes.{limit_numbers, most_ends}
 
--- An end by plain numbers: its bridge, the bridge across, the link's cost, and the table that holds the view's distances
+-- What is seen from an end: its bridge, the bridge across, the link's cost, and the table that holds the view's distances
 pub record Between : Type 0 where
   pub bridges : ℕ
   pub near : ℕ
@@ -23,13 +24,17 @@ pub record Between : Type 0 where
 abbrev pub between : ℕ → ℕ → ℕ → ℕ → List ℕ → Between
 between bridges near far cost table = record { bridges = bridges; near = near; far = far; cost = cost; table = table }
 
--- end e of a lent view
+-- as it is lent
+abbrev pub seen : Across → Between
+seen a = between a.bridges a.near a.far a.cost a.table.now
+
+-- from end e of a lent view
 abbrev pub between_at : ViewData → ℕ → Between
 between_at v e =
     between v.bridges (get_or v.ends e 0) (get_or v.ends (opposite e) 0) (get_or v.costs (link_of e) 0) v.table
 
--- document 01's ranges: 2 to 16 bridges, a link between two different ones with a cost up to the greatest; and an end and tables that are
--- long enough
+-- the ranges of the protocol: 2 to 16 bridges, a link between two different ones with a cost up to the greatest; and an end and tables that
+-- are long enough
 unfoldable pub between_in_range : Between → List ℕ → List ℕ → ℕ → Bool
 between_in_range w sent held e =
     leb 2 w.bridges

@@ -1,14 +1,12 @@
--- The chosen link of a bridge, whether the bridge forwards on it, and if not, why (document 01, "Forwarding"; document 02, Changes 1 and 2). The bridge is
+-- The chosen link of a bridge, whether the bridge forwards on it, and if not, why (docs/PROTOCOL.md, "Forwarding"). The bridge is
 -- y, the destination d, f the distances and c the costs of y's view. An end at y stands for its link: the lowest end is on the lowest-numbered link.
 -- Assumes nothing.
-use Rattle.std.specs.Prelude.{ℕ, ◌+◌, ◌*◌, ◌≡◌, Bool, true, false, cond, ◌&&◌, not, eqb, leb, ltb}
+use Rattle.std.specs.Prelude.{ℕ, ◌+◌, ◌*◌, ◌≡◌, Bool, true, false, cond, ◌&&◌, not, eqb, leb, ltb, Option, None, Some}
 use Rattle.distances.specs.View.{Graph, Costs, NONE}
 use Rattle.agreement.specs.Tests.{first_below}
 use Rattle.agreement.specs.Offer.{link_of, far_bridge}
 use Rattle.agreement.specs.Record.{held_limit}
 use Rattle.agreement.specs.declared.EndRecord.{EndRecord}
-use Rattle.agreement.specs.declared.Port.{Port}
-use Rattle.agreement.specs.declared.Port.TheVariants.{Closed, Open}
 use Rattle.agreement.specs.declared.Verdict.{Verdict}
 use Rattle.agreement.specs.declared.Verdict.TheVariants.{IsDestination, NoPath, NoLink, LinkDown, NothingHeld, HeldTooGreat, SentNotAbove, Forwards}
 
@@ -45,7 +43,7 @@ reaches g c f y d e = eqb (g.bridge_at e) y && reaches_distance (c (link_of e)) 
 unfoldable pub chosen_end : Graph → Costs → (ℕ → ℕ → ℕ) → ℕ → ℕ → ℕ
 chosen_end g c f y d = first_below (2 * g.links) (reaches g c f y d)
 
--- ---- what holds the port shut, a test for each condition in document 02's order (Change 2)
+-- ---- what holds the port shut, a test for each condition, in their order
 
 -- "is the destination"
 abbrev pub is_destination : ℕ → ℕ → Bool
@@ -108,16 +106,20 @@ verdict_from g f r y d e =
 unfoldable pub verdict : Graph → Costs → (ℕ → ℕ → ℕ) → Records → ℕ → ℕ → Verdict
 verdict g c f r y d = verdict_from g f r y d (chosen_end g c f y d)
 
--- the forwarding port: open exactly where the verdict is that it forwards
+-- a forwarding port for a destination: open on a link, or closed
+abbrev pub Port : Type 0
+Port = Option ℕ
+
+-- it is open exactly where the verdict is that it forwards
 abbrev pub port_of : Verdict → Port
-port_of IsDestination = Closed
-port_of NoPath = Closed
-port_of NoLink = Closed
-port_of (LinkDown l) = Closed
-port_of (NothingHeld l) = Closed
-port_of (HeldTooGreat l) = Closed
-port_of (SentNotAbove l) = Closed
-port_of (Forwards l) = Open l
+port_of IsDestination = None
+port_of NoPath = None
+port_of NoLink = None
+port_of (LinkDown l) = None
+port_of (NothingHeld l) = None
+port_of (HeldTooGreat l) = None
+port_of (SentNotAbove l) = None
+port_of (Forwards l) = Some l
 
 abbrev pub port : Graph → Costs → (ℕ → ℕ → ℕ) → Records → ℕ → ℕ → Port
 port g c f r y d = port_of (verdict g c f r y d)

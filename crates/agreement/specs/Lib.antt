@@ -7,8 +7,8 @@ pub mod Forwarding
 pub mod Rule
 pub mod Reasons
 pub mod Ranges
-pub mod Steps
 pub mod Call
 pub mod Update
 pub mod Choice
 pub mod Ends
+pub mod Steps

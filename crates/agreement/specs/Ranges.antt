@@ -1,4 +1,4 @@
--- What a call of this layer is handed, in document 01's ranges and with lent buffers that are long enough. Assumes nothing.
+-- What a call of this layer is handed, in the protocol's ranges and with lent buffers that are long enough. Assumes nothing.
 use Rattle.std.specs.Prelude.{ℕ, ◌*◌, Bool, ◌&&◌, ◌||◌, List, length, get_or, eqb, leb, ltb}
 use Rattle.distances.specs.Call.{in_range, all_below}
 use Rattle.agreement.specs.Record.{no_view, fresh_record}

@@ -1,11 +1,10 @@
 -- Document 01, "Forwarding", with document 02's Change 1, as propositions, to be read beside them, and the claim that the port of the contracts follows them.
 -- The bridge is y, the destination d, f the distances and c the costs of y's view. An end at y stands for its link. Assumes nothing.
-use Rattle.std.specs.Prelude.{ℕ, ◌+◌, ◌*◌, ◌<◌, ◌≤◌, ◌≡◌}
+use Rattle.std.specs.Prelude.{ℕ, ◌+◌, ◌*◌, ◌<◌, ◌≤◌, ◌≡◌, None, Some}
 use Rattle.distances.specs.View.{Graph, Costs, NONE}
 use Rattle.agreement.specs.Offer.{link_of, far_bridge}
 use Rattle.agreement.specs.Record.{held_limit}
 use Rattle.agreement.specs.Forwarding.{Records, UpAt, port}
-use Rattle.agreement.specs.declared.Port.TheVariants.{Closed, Open}
 
 -- a link of y that may be chosen
 pub record Reaches (g : Graph) (c : Costs) (f : ℕ → ℕ → ℕ) (y d e : ℕ) : Type 0 where
@@ -56,6 +55,6 @@ EndsDiffer g = (l : ℕ) → l < g.links → g.bridge_at (2 * l) ≡ g.bridge_at
 abbrev pub PortFollowsRule : Type 0
 PortFollowsRule =
     (g : Graph) (c : Costs) (f : ℕ → ℕ → ℕ) (r : Records) (y d : ℕ) →
-    ((l : ℕ) → port g c f r y d ≡ Open l → (e : ℕ) × Forwards g c f r y d l e)
-    × (EndsDiffer g → f y d ≤ NONE → (l : ℕ) → (e : ℕ) × Forwards g c f r y d l e → port g c f r y d ≡ Open l)
-    × (((l e : ℕ) → Forwards g c f r y d l e → ⊥) → port g c f r y d ≡ Closed)
+    ((l : ℕ) → port g c f r y d ≡ Some l → (e : ℕ) × Forwards g c f r y d l e)
+    × (EndsDiffer g → f y d ≤ NONE → (l : ℕ) → (e : ℕ) × Forwards g c f r y d l e → port g c f r y d ≡ Some l)
+    × (((l e : ℕ) → Forwards g c f r y d l e → ⊥) → port g c f r y d ≡ None)

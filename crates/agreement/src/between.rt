@@ -1,121 +1,84 @@
-// The calls on one end by plain numbers: the end's bridge (`near`), the bridge across (`far`), the link's cost, and the table that holds
-// the view's distances. What they test is of constant cost: a caller that has checked its network pays for it once.
-ghost use Rattle.std.specs.Prelude.{◌≡◌, ◌&&◌, not, eqb, leb, ltb};
-ghost use Rattle.distances.specs.View.{max_cost};
-ghost use Rattle.agreement.specs.Call.{outcome, number, reaction_response};
-ghost use Rattle.agreement.specs.Ends.{between, update_between, deliver_between};
+// The calls on one end by what is seen from it: its bridge, the bridge across, the link's cost, and the table that holds the view's distances.
+// What they test is of constant cost: a caller that has checked its network pays for it once.
+ghost use Rattle.std.specs.Prelude.{◌≡◌, IsTrue};
+ghost use Rattle.distances.specs.Refusal.{reply_number};
+ghost use Rattle.agreement.specs.Call.{response, outcome, SameTables};
+ghost use Rattle.agreement.specs.Steps.{EndReady};
+ghost use Rattle.agreement.specs.Ends.{seen, between_in_range, update_between, deliver_between};
 
+use crate::end_record::renew_if;
 use crate::sizes::{ENDS, LIMITS};
-use crate::{
-    Agreement, Changed, EndRecord, Reaction, Received, Reply, Rewrite, ready, records, rows,
-};
-use distances::ready::both;
+use crate::{Across, Agreement, Answer, EndRecord, Limits, LimitsMut, Rewrite, ready, rows};
+use distances::Refusal;
 use distances::sizes::{LEAST_BRIDGES, MAX_COST, MOST_BRIDGES, TABLE};
 
-// The tables by their lengths.
-fn between_in_range(
-    bridges: usize,
-    near: usize,
-    far: usize,
-    cost: u32,
-    table: usize,
-    end: usize,
-    sent: usize,
-    held: usize,
-) -> bool
-    ensures { result ≡ (leb 2 bridges && (leb bridges 16 && (ltb near bridges && (ltb far bridges && (not (eqb near far) && (leb cost max_cost && (leb 256 table && (ltb end 64 && (leb 1024 sent && leb 1024 held))))))))) }
+#[tactic(auto, unfolding(crate::specs::Ends::between_in_range))]
+fn in_range(across: &Across, limits: &Limits, end: usize) -> bool
+    ensures passes { result ≡ between_in_range (seen across.now) limits.now.sent.now limits.now.held.now end }
+    ensures ready { IsTrue result → EndReady (seen across.now) limits.now.sent.now limits.now.held.now end }
 {
-    let limits = both(end < ENDS, both(LIMITS <= sent, LIMITS <= held));
-    let rest = both(
-        near != far,
-        both(cost <= MAX_COST, both(TABLE <= table, limits)),
-    );
-    both(
-        LEAST_BRIDGES <= bridges,
-        both(
-            bridges <= MOST_BRIDGES,
-            both(near < bridges, both(far < bridges, rest)),
-        ),
-    )
+    LEAST_BRIDGES <= across.bridges
+        && across.bridges <= MOST_BRIDGES
+        && across.near < across.bridges
+        && across.far < across.bridges
+        && across.near != across.far
+        && across.cost <= MAX_COST
+        && TABLE <= across.table.len()
+        && end < ENDS
+        && LIMITS <= limits.sent.len()
+        && LIMITS <= limits.held.len()
 }
 
 // An end whose bridge goes to this view, whose distances the table holds and which differs from its present view.
+#[tactic(auto, unfolding(crate::specs::Ends::update_between))]
 pub fn update_between(
-    bridges: usize,
-    near: usize,
-    far: usize,
-    cost: u32,
-    table: &[u32],
+    across: &Across,
     views: usize,
-    view: u8,
+    to: u8,
     end: usize,
-    old: EndRecord,
-    sent: &mut [u32],
-    held: &mut [u32],
-) -> Changed
-    ensures { outcome (number result.reply) result.end sent.new held.new ≡ update_between (between bridges near far cost table.now) views view end old sent.old held.old }
+    end_record: &mut EndRecord,
+    limits: &mut LimitsMut,
+) -> Result<(), Refusal>
+    ensures outcome { outcome (reply_number result) end_record.new limits.new.sent.now limits.new.held.now ≡ update_between (seen across.now) views to end end_record.old limits.old.sent.now limits.old.held.now }
+    ensures same_tables { SameTables limits.old limits.new }
 {
-    let size = table.len();
-    let sent_size = sent.len();
-    let held_size = held.len();
-    let fits = between_in_range(bridges, near, far, cost, size, end, sent_size, held_size);
-    let known = both(
-        ready::is_view(views, view),
-        ready::record_in_range(views, old),
-    );
-    if both(fits, known) {
-        let how = records::renew_if(old.view == view);
-        rows::rewrite_limits(Rewrite::Lower, bridges, near, far, cost, table, end, sent);
-        rows::rewrite_limits(how, bridges, far, near, cost, table, end, held);
-        Changed {
-            reply: Reply::Done,
-            end: records::updated_record(view, old),
-        }
-    } else {
-        Changed {
-            reply: Reply::Refused,
-            end: old,
-        }
+    let ok = in_range(across, &limits.shared(), end)
+        && ready::is_view(views, to)
+        && ready::record_in_range(views, end_record);
+    if !ok {
+        return Err(Refusal::OutOfRange);
     }
+    let held_how = renew_if(end_record.view == to);
+    rows::rewrite(Rewrite::Lower, held_how, across, end, limits);
+    end_record.update(to);
+    Ok(())
 }
 
-// A message at an end of a bridge on this view, whose distances the table holds, with this agreement number.
+// A message at an end of a bridge on view `at`, whose distances the table holds, with this agreement number. No struct for these, as in
+// `calls::deliver_end`.
+#[tactic(auto, unfolding(crate::specs::Ends::deliver_between))]
 pub fn deliver_between(
-    bridges: usize,
-    near: usize,
-    far: usize,
-    cost: u32,
-    table: &[u32],
+    across: &Across,
     views: usize,
-    view: u8,
+    at: u8,
     number: u16,
     end: usize,
-    old: EndRecord,
+    end_record: &mut EndRecord,
     message: Agreement,
-    sent: &mut [u32],
-    held: &mut [u32],
-) -> Received
-    ensures { outcome (reaction_response result.reply) result.end sent.new held.new ≡ deliver_between (between bridges near far cost table.now) views view number end old message sent.old held.old }
+    limits: &mut LimitsMut,
+) -> Result<Answer, Refusal>
+    ensures outcome { outcome (response result) end_record.new limits.new.sent.now limits.new.held.now ≡ deliver_between (seen across.now) views at number end end_record.old message limits.old.sent.now limits.old.held.now }
+    ensures same_tables { SameTables limits.old limits.new }
 {
-    let size = table.len();
-    let sent_size = sent.len();
-    let held_size = held.len();
-    let fits = between_in_range(bridges, near, far, cost, size, end, sent_size, held_size);
-    let known = ready::delivery_in_range(views, view, old, message);
-    if both(fits, known) {
-        let sent_how = records::renew_if(records::is_clearing(number, old, message));
-        let held_how = records::renew_if(records::is_adopting(view, old, message));
-        rows::rewrite_limits(sent_how, bridges, near, far, cost, table, end, sent);
-        rows::rewrite_limits(held_how, bridges, far, near, cost, table, end, held);
-        let answer = records::answer_of(view, old, message);
-        Received {
-            reply: Reaction::Answered(answer),
-            end: records::recorded_by(old, answer),
-        }
-    } else {
-        Received {
-            reply: Reaction::Refused,
-            end: old,
-        }
+    let ok = in_range(across, &limits.shared(), end)
+        && ready::delivery_in_range(views, at, end_record, message);
+    if !ok {
+        return Err(Refusal::OutOfRange);
     }
+    let sent_how = renew_if(end_record.is_clearing(number, message));
+    let held_how = renew_if(end_record.is_adopting(at, message));
+    rows::rewrite(sent_how, held_how, across, end, limits);
+    let answer = end_record.answer(at, message);
+    end_record.take(answer);
+    Ok(answer)
 }

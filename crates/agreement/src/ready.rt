@@ -1,21 +1,16 @@
-// The entry checks: document 01's ranges, and lent buffers that are long enough.
-ghost use Rattle.std.specs.Prelude.{◌≡◌, ◌||◌, ℕ, ◌*◌, ◌≤◌, ◌<◌, min, get_or, eqb, ltb};
+// The entry checks: the ranges of the protocol, and lent buffers that are long enough.
+ghost use Rattle.std.specs.Prelude.{◌≡◌, ◌||◌, ℕ, ◌*◌, ◌≤◌, ◌<◌, IsTrue, min, get_or, eqb, ltb};
 ghost use Rattle.distances.specs.Call.{all_below};
 ghost use Rattle.agreement.specs.Record.{fresh_record};
 ghost use Rattle.agreement.specs.Offer.{opposite};
 ghost use Rattle.agreement.specs.Update.{numbers_used_up};
-ghost use Rattle.agreement.specs.Ranges.{is_view, record_in_range, records_in_range, delivery_in_range, port_in_range};
+ghost use Rattle.agreement.specs.Ranges.{is_view, record_in_range, records_in_range, delivery_in_range};
+ghost use Rattle.agreement.specs.Steps.{ViewReady, PortReady};
+ghost use Rattle.agreement.specs.Call.{lent, lent_in_range, lent_port_in_range};
 
 use crate::sizes::{LAST_NUMBER, LIMITS, NO_VIEW};
-use crate::{Agreement, EndRecord};
-use distances::ready::both;
+use crate::{Agreement, EndRecord, Records, View};
 use distances::sizes::{MOST_LINKS, MOST_VIEWS};
-
-pub(crate) fn either(a: bool, b: bool) -> bool
-    ensures { result ≡ (a || b) }
-{
-    if a { true } else { b }
-}
 
 // The other end of a link.
 pub fn opposite_end(end: usize) -> usize
@@ -24,25 +19,32 @@ pub fn opposite_end(end: usize) -> usize
     if end % 2 == 0 { end + 1 } else { end - 1 }
 }
 
+pub(crate) fn view_in_range(view: &View) -> bool
+    ensures passes { result ≡ lent_in_range (lent view.now) }
+    ensures ready { IsTrue result → ViewReady (lent view.now) }
+{
+    distances::ready::in_range(&view.graph, view.costs, view.table.len())
+}
+
+#[tactic(auto, unfolding(crate::specs::Ranges::is_view))]
 pub(crate) fn is_view(views: usize, view: u8) -> bool
     ensures { result ≡ is_view views view }
 {
-    let t = view as usize;
-    both(1 <= views, both(views <= MOST_VIEWS, t < views))
+    1 <= views && views <= MOST_VIEWS && (view as usize) < views
 }
 
-pub(crate) fn record_in_range(views: usize, old: EndRecord) -> bool
-    ensures { result ≡ record_in_range views old }
+#[tactic(auto, unfolding(crate::specs::Ranges::record_in_range))]
+pub(crate) fn record_in_range(views: usize, end_record: &EndRecord) -> bool
+    ensures { result ≡ record_in_range views end_record.now }
 {
-    let t = old.view as usize;
-    either(old.view == NO_VIEW, t < views)
+    end_record.view == NO_VIEW || (end_record.view as usize) < views
 }
 
-// Is there no agreement number left for an update from one view to another? Then it is refused with 16.
+// Is there no agreement number left for an update from one view to another? Then it is refused.
 pub fn numbers_used_up(number: u16, present: usize, view: usize) -> bool
     ensures { result ≡ numbers_used_up number present view }
 {
-    both(number == LAST_NUMBER, present != view)
+    number == LAST_NUMBER && present != view
 }
 
 // The number of views as a byte: no record has a view beyond 255.
@@ -56,69 +58,56 @@ fn view_bound(views: usize) -> u8
 fn record_passes(bound: u8, view: u8) -> bool
     ensures { (views : ℕ) → bound ≡ min 255 views → result ≡ (eqb view 255 || ltb view views) }
 {
-    either(view == NO_VIEW, view < bound)
+    view == NO_VIEW || view < bound
 }
 
-fn each_in_range(views: usize, links: usize, records: [EndRecord; 64]) -> bool
+fn each_in_range(views: usize, links: usize, records: &[EndRecord; 64]) -> bool
     requires { links ≤ 32 }
-    ensures { result ≡ all_below (2 * links) (λ e. record_in_range views (get_or records e fresh_record)) }
+    ensures { result ≡ all_below (2 * links) (λ e. record_in_range views (get_or records.now e fresh_record)) }
 {
     let bound = view_bound(views);
     let mut ok = true;
-    let mut e = 0;
-    while e < 2 * links {
-        ok = both(ok, record_passes(bound, records[e].view));
-        e += 1;
+    for e in 0..2 * links {
+        ok &= record_passes(bound, records[e].view);
     }
     ok
 }
 
 // Are the records of the ends of so many links in range?
-pub fn records_in_range(views: usize, links: usize, records: [EndRecord; 64]) -> bool
-    ensures { result ≡ records_in_range views links records }
+#[tactic(auto, unfolding(crate::specs::Ranges::records_in_range))]
+pub fn records_in_range(views: usize, links: usize, records: &[EndRecord; 64]) -> bool
+    ensures { result ≡ records_in_range views links records.now }
 {
-    if links <= MOST_LINKS {
-        each_in_range(views, links, records)
-    } else {
-        false
-    }
+    links <= MOST_LINKS && each_in_range(views, links, records)
 }
 
-pub(crate) fn delivery_in_range(views: usize, view: u8, old: EndRecord, message: Agreement) -> bool
-    ensures { result ≡ delivery_in_range views view old message.view }
-{
-    let t = message.view as usize;
-    both(
-        is_view(views, view),
-        both(record_in_range(views, old), t < views),
-    )
-}
-
-pub(crate) fn port_in_range(
-    bridges: usize,
-    links: usize,
-    ends: &[u8],
-    costs: &[u32],
-    table: &[u32],
+#[tactic(auto, unfolding(crate::specs::Ranges::delivery_in_range))]
+pub(crate) fn delivery_in_range(
     views: usize,
-    records: [EndRecord; 64],
-    sent: usize,
-    held: usize,
+    at: u8,
+    end_record: &EndRecord,
+    message: Agreement,
+) -> bool
+    ensures { result ≡ delivery_in_range views at end_record.now message.view }
+{
+    is_view(views, at) && record_in_range(views, end_record) && (message.view as usize) < views
+}
+
+#[tactic(auto, unfolding(crate::specs::Ranges::port_in_range))]
+pub(crate) fn port_in_range(
+    view: &View,
+    views: usize,
+    records: &Records,
     bridge: usize,
     dest: usize,
 ) -> bool
-    ensures { result ≡ port_in_range bridges links ends.now costs.now table.now views records sent held bridge dest }
+    ensures passes { result ≡ lent_port_in_range (lent view.now) views records.now.records.now records.now.limits.sent.now records.now.limits.held.now bridge dest }
+    ensures ready { IsTrue result → PortReady (lent view.now) records.now.limits.sent.now records.now.limits.held.now bridge dest }
 {
-    let size = table.len();
-    if distances::ready::in_range(bridges, links, ends, costs, size) {
-        let long = both(LIMITS <= sent, LIMITS <= held);
-        let counted = both(1 <= views, views <= MOST_VIEWS);
-        let known = records_in_range(views, links, records);
-        both(
-            long,
-            both(counted, both(known, both(bridge < bridges, dest < bridges))),
-        )
-    } else {
-        false
-    }
+    let limits = &records.limits;
+    view_in_range(view)
+        && (LIMITS <= limits.sent.len() && LIMITS <= limits.held.len())
+        && (1 <= views && views <= MOST_VIEWS)
+        && records_in_range(views, view.graph.links, records.records)
+        && (bridge < view.graph.bridges && dest < view.graph.bridges)
 }

@@ -3,30 +3,27 @@ use Prim.Native.Nat.{ℕ, suc, ◌+◌, ◌-◌, ◌≤◌, ◌<◌}
 use native.Mathlib.Omega.{arith}
 use mathlib.Core.Path.{◌≡◌, refl, sym, ap, ◌∙◌}
 use mathlib.Core.Logic.{◌⊎◌, inl, inr}
-use mathlib.Core.Bool.{Bool, true, false, cond, false≢true}
+use mathlib.Core.Bool.{Bool, true, false, cond}
 use mathlib.Core.List.{List, [], ◌∷◌, ◌++◌, append_assoc, append-nil}
-use borrow.Author.Tests.{eqb-true}
 use lib.ListN.{length, get_or, take, drop, length-append, length-drop, take-append-drop, drop_of_length-le}
 use lib.Seq.{take_at, drop_at, drop-drop, drop-cons, length-take-le, take_all, take-append-add}
 use lib.Dec.{eqb, ltb}
 use Rattle.bench.specs.declared.Event.{Event}
 use Rattle.bench.specs.State.{State, network}
 use Rattle.bench.specs.Batches.{call_of}
-use Rattle.bench.specs.Batches.{reply_of, answers_of, answer_size, Batch, batch, event_batch, event_batch_in, batch_from, batch_outcome, batch_outcome_of}
+use Rattle.bench.specs.Batches.{Ending, complete, refused_with, out_of_room, reply_of, answers_of, answer_size, Batch, batch, event_batch, event_batch_in, batch_from, batch_outcome, batch_outcome_of}
 use Rattle.bench.specs.Standing.{step_in}
 use Rattle.bench.specs.Private.Steps.{BatchLeft}
-use Rattle.bench.specs.declared.Disposition.{Disposition}
-use Rattle.bench.specs.declared.Disposition.TheVariants.{Complete, Refused, Full}
 
 -- ---- one event is made, or nothing is changed
 
 pub record EventMade (b : Batch) : Type 0 where
   pub one : b.made ≡ 1
-  pub complete : b.disposition ≡ Complete
+  pub complete : b.ending ≡ complete
 
 pub record EventUnmade (s : State) (b : Batch) : Type 0 where
   pub none : b.made ≡ 0
-  pub same : b ≡ batch 0 b.disposition s []
+  pub same : b ≡ batch 0 b.ending s []
 
 pub made-or-not : (room : ℕ) (s : State) (e : Event) → EventMade (event_batch_in room s e) ⊎ EventUnmade s (event_batch_in room s e)
 unfolding event_batch_in event_batch
@@ -34,8 +31,8 @@ made-or-not room s e = go (ltb room (answer_size s.bench.bridges e)) (eqb (reply
   where
     go :
         (full accepted : Bool) →
-        let done : Batch = cond accepted (batch 1 Complete (step_in s (call_of e)) (answers_of (network s) e)) (batch 0 (Refused (reply_of s e)) s []) in
-        let b : Batch = cond full (batch 0 Full s []) done in
+        let done : Batch = cond accepted (batch 1 complete (step_in s (call_of e)) (answers_of (network s) e)) (batch 0 (refused_with (reply_of s e)) s []) in
+        let b : Batch = cond full (batch 0 out_of_room s []) done in
         EventMade b ⊎ EventUnmade s b
     go true accepted = inr (record { none = refl; same = refl })
     go false true = inl (record { one = refl; complete = refl })
@@ -43,24 +40,18 @@ made-or-not room s e = go (ltb room (answer_size s.bench.bridges e)) (eqb (reply
 
 -- ---- so far
 
--- the events that are still ahead, if the list goes on
-abbrev pub ahead : Bool → Disposition → ℕ → State → List Event → Batch
-ahead true how room s events = batch_from room s events
-ahead false how room s events = batch 0 how s []
-
 -- what is made after so many
 abbrev pub onto : ℕ → List ℕ → Batch → Batch
-onto made answers b = batch (made + b.made) b.disposition b.state (answers ++ b.answers)
+onto made answers b = batch (made + b.made) b.ending b.state (answers ++ b.answers)
 
-pub record Underway (all : Batch) (events : List Event) (first : List ℕ) (s : State) (made answered : ℕ) (answers : List ℕ) (going : Bool) (how : Disposition) : Type 0 where
-  pub same : all ≡ onto made (take answered answers) (ahead going how (length first - answered) s (drop made events))
+-- so many events are made, and the others are ahead
+pub record Underway (all : Batch) (events : List Event) (first : List ℕ) (s : State) (made answered : ℕ) (answers : List ℕ) : Type 0 where
+  pub same : all ≡ onto made (take answered answers) (batch_from (length first - answered) s (drop made events))
   pub behind : drop answered answers ≡ drop answered first
   pub long : length answers ≡ length first
   pub within : answered ≤ length first
-  pub few : made ≤ length events
-  pub complete : going ≡ true → how ≡ Complete
 
-pub begins : (events : List Event) (s : State) (answers : List ℕ) → Underway (batch_from (length answers) s events) events answers s 0 0 answers true Complete
+pub begins : (events : List Event) (s : State) (answers : List ℕ) → Underway (batch_from (length answers) s events) events answers s 0 0 answers
 begins events s answers =
     let whole : length answers - 0 ≡ length answers = omega arith in
     let zero : (b : Batch) → 0 + b.made ≡ b.made = λ b. omega arith in
@@ -69,20 +60,23 @@ begins events s answers =
       behind = refl;
       long = refl;
       within = omega arith;
-      few = omega arith;
-      complete = λ e. refl;
     }
 
--- in another form of its state
-pub stands :
-    {all : Batch} {events : List Event} {first : List ℕ} {x z : State} {made answered : ℕ} {answers : List ℕ} {going : Bool} {how : Disposition} →
-    x ≡ z →
-    Underway all events first z made answered answers going how →
-    Underway all events first x made answered answers going how
-stands same old = rw same old
-
-joins : {c d : ℕ} {h g : Disposition} {x y : State} {l k : List ℕ} → c ≡ d → h ≡ g → x ≡ y → l ≡ k → batch c h x l ≡ batch d g y k
+joins : {c d : ℕ} {h g : Ending} {x y : State} {l k : List ℕ} → c ≡ d → h ≡ g → x ≡ y → l ≡ k → batch c h x l ≡ batch d g y k
 joins counts how state answers = rw (counts, how, state, answers)
+
+-- the list ends with so many made
+settled :
+    (all : Batch) (first : List ℕ) (how : Ending) (s : State) (made answered : ℕ) (answers : List ℕ) →
+    all ≡ batch made how s (take answered answers) →
+    drop answered answers ≡ drop answered first →
+    length answers ≡ length first →
+    answered ≤ length first →
+    batch_outcome made answered how s answers ≡ batch_outcome_of all first
+settled all first how s made answered answers is behind long within =
+    let counted : length (take answered answers) ≡ answered = length-take-le answered answers (omega (arith, within, long)) in
+    let whole : answers ≡ take answered answers ++ drop answered first = sym (take-append-drop answered answers) ∙ ap (λ (l : List ℕ). take answered answers ++ l) behind in
+    rw (is, counted) (ap (batch_outcome made answered how s) whole)
 
 -- ---- one event more
 
@@ -93,8 +87,7 @@ module _
     (s : State)
     (made answered : ℕ)
     (answers : List ℕ)
-    (how : Disposition)
-    (old : Underway all events first s made answered answers true how)
+    (old : Underway all events first s made answered answers)
     (none e : Event)
     (is : e ≡ get_or events made none)
     (more : made < length events)
@@ -102,7 +95,7 @@ module _
     (part : lent ≡ drop answered answers)
     (kept : length after ≡ length lent)
     {m n : ℕ}
-    {by : Disposition}
+    {by : Ending}
     {next : State}
     (done : BatchLeft (event_batch_in (length lent) s e) lent m by next n after) where
   abbrev b : Batch
@@ -155,93 +148,59 @@ module _
   so_far : all ≡ onto made pre (batch_from (length lent) s (e ∷ drop (suc made) events))
   so_far = old.same ∙ rw (events-on, lent-long)
 
-  goes_on : EventMade b → Underway all events first next (made + m) (answered + n) (pre ++ after) true by
+  pub goes_on : m ≡ 1 → Underway all events first next (made + 1) (answered + n) (pre ++ after)
   unfolding batch_from
-  goes_on made_one =
-      let one : m ≡ 1 = done.made ∙ made_one.one in
+  goes_on one =
+      let one_made : b.made ≡ 1 = sym done.made ∙ one in
       let room : length lent - length b.answers ≡ length first - (answered + n) = omega (arith, done.counted, lent-long, fits) in
-      let sum : made + m ≡ suc made = omega (arith, one) in
+      let sum : made + 1 ≡ suc made = omega arith in
       let then : Batch = batch_from (length first - (answered + n)) next (drop (suc made) events) in
       let count : made + suc then.made ≡ suc made + then.made = omega arith in
       record {
-        same = so_far ∙ rw (made_one.one, room, sym done.state, sum, head, count, append_assoc pre b.answers then.answers);
+        same = so_far ∙ rw (one_made, room, sym done.state, sum, head, count, append_assoc pre b.answers then.answers);
         behind = tail;
         long = after-long;
         within = fits;
-        few = omega (arith, one, more);
-        complete = λ z. done.disposition ∙ made_one.complete;
       }
 
   runs-stop : EventUnmade s b → batch_from (length lent) s (e ∷ drop (suc made) events) ≡ b
   unfolding batch_from
   runs-stop unmade =
       let later : Batch = batch_from (length lent - length b.answers) b.state (drop (suc made) events) in
-      ap (λ (k : ℕ). cond (eqb k 0) b (batch (suc later.made) later.disposition later.state (b.answers ++ later.answers))) unmade.none
+      ap (λ (k : ℕ). cond (eqb k 0) b (batch (suc later.made) later.ending later.state (b.answers ++ later.answers))) unmade.none
 
-  stops : EventUnmade s b → Underway all events first next (made + m) (answered + n) (pre ++ after) false by
-  stops unmade =
-      let zero : m ≡ 0 = done.made ∙ unmade.none in
-      let silent : b.answers ≡ [] = ap (λ (x : Batch). x.answers) unmade.same in
-      let heads : take (answered + n) (pre ++ after) ≡ pre = head ∙ rw silent (append-nil pre) in
-      record {
-        same =
-            so_far
-            ∙ ap (onto made pre) (runs-stop unmade ∙ unmade.same)
-            ∙ joins (omega (arith, zero)) (sym done.disposition) (sym (done.state ∙ ap (λ (x : Batch). x.state) unmade.same))
-            (ap (λ (l : List ℕ). l ++ []) (sym heads));
-        behind = tail;
-        long = after-long;
-        within = fits;
-        few = omega (arith, zero, more);
-        complete = λ z. absurd (false≢true z);
-      }
-
-  pub turned : Underway all events first next (made + m) (answered + n) (pre ++ after) (eqb m 1) by
-  turned = go (made-or-not (length lent) s e)
+  pub stops : m ≡ 0 → batch_outcome made answered by next (pre ++ after) ≡ batch_outcome_of all first
+  stops zero = go (made-or-not (length lent) s e)
     where
-      go : EventMade b ⊎ EventUnmade s b → Underway all events first next (made + m) (answered + n) (pre ++ after) (eqb m 1) by
-      go (inl made_one) = rw (done.made, made_one.one) (rw (done.made, made_one.one) at (goes_on made_one))
-      go (inr unmade) = rw (done.made, unmade.none) (rw (done.made, unmade.none) at (stops unmade))
+      go : EventMade b ⊎ EventUnmade s b → batch_outcome made answered by next (pre ++ after) ≡ batch_outcome_of all first
+      go (inl made_one) = absurd (omega (arith, zero, done.made, made_one.one))
+      go (inr unmade) =
+          let silent : b.answers ≡ [] = ap (λ (x : Batch). x.answers) unmade.same in
+          let nothing : n ≡ 0 = omega (arith, done.counted, ap (λ (l : List ℕ). length l) silent) in
+          let same : answered + n ≡ answered = omega (arith, nothing) in
+          let sum : made + 0 ≡ made = omega arith in
+          let heads : take answered (pre ++ after) ≡ pre = rw same at head ∙ rw silent (append-nil pre) in
+          settled all first by next made answered (pre ++ after)
+          (so_far
+          ∙ ap (onto made pre) (runs-stop unmade ∙ unmade.same)
+          ∙ joins sum (sym done.ending) (sym (done.state ∙ ap (λ (x : Batch). x.state) unmade.same)) (append-nil pre ∙ sym heads))
+          (rw same at tail)
+          after-long
+          old.within
 
 -- ---- the end
 
 pub ended :
-    (all : Batch) (events : List Event) (first : List ℕ) (s : State) (made answered : ℕ) (answers : List ℕ) (going : Bool) (how : Disposition) →
-    Underway all events first s made answered answers going how →
-    (going ≡ true → length events ≤ made) →
-    batch_outcome made answered how s answers ≡ batch_outcome_of all first
+    (all : Batch) (events : List Event) (first : List ℕ) (s : State) (answered : ℕ) (answers : List ℕ) →
+    Underway all events first s (length events) answered answers →
+    batch_outcome (length events) answered complete s answers ≡ batch_outcome_of all first
 unfolding batch_from
-ended all events first s made answered answers going how w past = go going refl
-  where
-    counted : length (take answered answers) ≡ answered
-    counted = length-take-le answered answers (omega (arith, w.within, w.long))
-
-    whole : answers ≡ take answered answers ++ drop answered first
-    whole = sym (take-append-drop answered answers) ∙ ap (λ (l : List ℕ). take answered answers ++ l) w.behind
-
-    finish : all ≡ onto made (take answered answers) (batch 0 how s []) → batch_outcome made answered how s answers ≡ batch_outcome_of all first
-    finish is =
-        let sum : made + 0 ≡ made = omega arith in
-        rw (is, sum, append-nil (take answered answers), counted) (ap (batch_outcome made answered how s) whole)
-
-    go : (b : Bool) → going ≡ b → batch_outcome made answered how s answers ≡ batch_outcome_of all first
-    go false q = finish (rw q at w.same)
-    go true q =
-        let none : drop made events ≡ [] = drop_of_length-le events (past q) in
-        finish (rw (q, none, sym (w.complete q)) at w.same)
+ended all events first s answered answers w =
+    let none : drop (length events) events ≡ [] = drop_of_length-le events (omega arith) in
+    let sum : length events + 0 ≡ length events = omega arith in
+    settled all first complete s (length events) answered answers (w.same ∙ rw (none, sum, append-nil (take answered answers))) w.behind w.long w.within
 
 -- ---- for the loop
-
--- the events that are still ahead, and one more while the list goes on
-abbrev pub left : ℕ → ℕ → Bool → ℕ
-left count made going = cond going (suc (count - made)) 0
-
-pub shrinks : (count made m : ℕ) → made < count → left count (made + m) (eqb m 1) < left count made true
-shrinks count made m more = go (eqb m 1) refl
-  where
-    go : (b : Bool) → eqb m 1 ≡ b → left count (made + m) b < left count made true
-    go true q = let one : m ≡ 1 = eqb-true m 1 q in omega arith
-    go false q = omega arith
 
 -- the part of the lent numbers behind an answer, and the numbers with another part there
 pub behind-all : (answers : List ℕ) (answered : ℕ) → take (length answers - answered) (drop answered answers) ≡ drop answered answers

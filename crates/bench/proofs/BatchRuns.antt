@@ -4,7 +4,7 @@ use native.Mathlib.Omega.{arith}
 use mathlib.Core.Path.{◌≡◌, refl, sym, ap, ◌∙◌}
 use mathlib.Core.Bool.{Bool, true, false, cond, false≢true}
 use mathlib.Core.List.{List, [], ◌∷◌, ◌++◌}
-use borrow.Author.Tests.{eq-eqb, eqb-true, eqb-false, ltb-true, ltb-false, le-leb}
+use borrow.Author.Tests.{eq-eqb, eqb-true, eqb-false, ltb-true, ltb-false}
 use lib.ListN.{length, take, length-append}
 use lib.Dec.{eqb, ltb}
 use Rattle.distances.proofs.Booleans.{true-both}
@@ -18,11 +18,9 @@ use Rattle.bench.specs.Standing.{step_in}
 use Rattle.bench.specs.Outcomes.{left_by, path_numbers}
 use Rattle.bench.specs.Whole.{run_in}
 use Rattle.bench.specs.Ranges.{state_in_range}
-use Rattle.bench.specs.Batches.{call_of, reply_of, answers_of, answer_size, answer_sizes, Batch, batch, event_batch, event_batch_in, batch_from, batch_outcome, batch_outcome_of, batch_of, calls_of, each_accepted, answers_by, Ended, IsRun, BatchesAreRuns}
+use Rattle.bench.specs.Batches.{Ending, complete, refused_with, out_of_room, call_of, reply_of, answers_of, answer_size, answer_sizes, Batch, batch, event_batch, event_batch_in, batch_from, batch_outcome, batch_outcome_of, batch_of, calls_of, each_accepted, answers_by, Ended, IsRun, BatchesAreRuns}
 use Rattle.bench.specs.declared.Event.{Event}
 use Rattle.bench.specs.declared.Event.TheVariants.{Update, Send, Deliver, Repeat, Lose, Cut, Restore, Report, Path}
-use Rattle.bench.specs.declared.Disposition.{Disposition}
-use Rattle.bench.specs.declared.Disposition.TheVariants.{Complete, Refused, Full}
 use Rattle.bench.proofs.RunSteps.{step_kept, left-ready}
 use Rattle.bench.proofs.ReportRows.{report-length}
 use Rattle.bench.proofs.QueueCalls.{refusal-none}
@@ -32,9 +30,9 @@ use Rattle.bench.proofs.TieRefusals.{refusal-out}
 -- ---- one event: it has no room, it is refused, or it is made
 
 pub data First (room : ℕ) (s : State) (e : Event) : Batch → Type 0 where
-  full : room < answer_size s.bench.bridges e → First room s e (batch 0 Full s [])
-  refused : (reply_of s e ≡ 0 → ⊥) → First room s e (batch 0 (Refused (reply_of s e)) s [])
-  made : reply_of s e ≡ 0 → answer_size s.bench.bridges e ≤ room → First room s e (batch 1 Complete (step_in s (call_of e)) (answers_of (network s) e))
+  full : room < answer_size s.bench.bridges e → First room s e (batch 0 out_of_room s [])
+  refused : (reply_of s e ≡ 0 → ⊥) → First room s e (batch 0 (refused_with (reply_of s e)) s [])
+  made : reply_of s e ≡ 0 → answer_size s.bench.bridges e ≤ room → First room s e (batch 1 complete (step_in s (call_of e)) (answers_of (network s) e))
 
 pub first_of : (room : ℕ) (s : State) (e : Event) → First room s e (event_batch_in room s e)
 unfolding event_batch_in event_batch
@@ -42,7 +40,7 @@ first_of room s e = go (ltb room (answer_size s.bench.bridges e)) refl (eqb (rep
   where
     go :
         (b : Bool) → ltb room (answer_size s.bench.bridges e) ≡ b → (c : Bool) → eqb (reply_of s e) 0 ≡ c →
-        First room s e (cond b (batch 0 Full s []) (cond c (batch 1 Complete (step_in s (call_of e)) (answers_of (network s) e)) (batch 0 (Refused (reply_of s e)) s [])))
+        First room s e (cond b (batch 0 out_of_room s []) (cond c (batch 1 complete (step_in s (call_of e)) (answers_of (network s) e)) (batch 0 (refused_with (reply_of s e)) s [])))
     go true p c q = full (ltb-true _ _ p)
     go false p true q = made (eqb-true _ 0 q) (ltb-false _ _ p)
     go false p false q = refused (eqb-false _ 0 q)
@@ -52,7 +50,7 @@ pub accepted-ready : (s : State) (e : Event) → reply_of s e ≡ 0 → state_in
 unfolding reply_of
 accepted-ready s e none = (refusal-none _ _ (call_of e) none).0
 
--- and has document 01's number of bridges
+-- and has as many bridges as a network may have
 pub accepted-bridges : (s : State) (e : Event) → reply_of s e ≡ 0 → (2 ≤ s.bench.bridges) × (s.bench.bridges ≤ 16)
 accepted-bridges s e none =
     let graph = (plan-in-range s.bench s.costs (told s (accepted-ready s e none)).lasting).graph in
@@ -100,7 +98,7 @@ answers-length s (Path y d) = path-length (path (network s) y d)
 
 -- ---- the list
 
-pub runs_none : (room : ℕ) (s : State) → batch_from room s [] ≡ batch 0 Complete s []
+pub runs_none : (room : ℕ) (s : State) → batch_from room s [] ≡ batch 0 complete s []
 unfolding batch_from
 runs_none room s = refl
 
@@ -110,9 +108,9 @@ following room s e es = batch_from (room - length (answers_of (network s) e)) (s
 
 module _ (room : ℕ) (s : State) (e : Event) (es : List Event) where
   pub runs-made :
-      event_batch_in room s e ≡ batch 1 Complete (step_in s (call_of e)) (answers_of (network s) e) →
+      event_batch_in room s e ≡ batch 1 complete (step_in s (call_of e)) (answers_of (network s) e) →
       let b : Batch = following room s e es in
-      batch_from room s (e ∷ es) ≡ batch (suc b.made) b.disposition b.state (answers_of (network s) e ++ b.answers)
+      batch_from room s (e ∷ es) ≡ batch (suc b.made) b.ending b.state (answers_of (network s) e ++ b.answers)
   unfolding batch_from
   runs-made is = rw is
 
@@ -129,15 +127,15 @@ module _ (room : ℕ) (s : State) (e : Event) (es : List Event) (none : reply_of
   then = following room s e es
 
   abbrev whole : Batch
-  whole = batch (suc then.made) then.disposition then.state (own ++ then.answers)
+  whole = batch (suc then.made) then.ending then.state (own ++ then.answers)
 
   left : left_by s (call_of e) ≡ step_in s (call_of e)
   left = left-ready s (call_of e) (accepted-ready s e none)
 
-  ended-later : (d : Disposition) → Ended (room - length own) es then d → Ended room (e ∷ es) whole d
-  ended-later Complete all = ap suc all
-  ended-later (Refused k) w = w
-  ended-later Full w = (w.0, w.1, w.2, omega (arith, w.3, fits, answers-length s e, length-append own then.answers))
+  ended-later : (d : Ending) → Ended (room - length own) es then d → Ended room (e ∷ es) whole d
+  ended-later complete all = ap suc all
+  ended-later (refused_with k) w = w
+  ended-later out_of_room w = (w.0, w.1, w.2, omega (arith, w.3, fits, answers-length s e, length-append own then.answers))
 
   run-further : IsRun (room - length own) (step_in s (call_of e)) es then → IsRun room s (e ∷ es) whole
   unfolding run_in calls_of answer_sizes each_accepted answers_by
@@ -149,7 +147,7 @@ module _ (room : ℕ) (s : State) (e : Event) (es : List Event) (none : reply_of
         sizes =
             length-append own then.answers
             ∙ omega (arith, answers-length s e, later.sizes ∙ ap (λ (n : ℕ). answer_sizes n (take then.made es)) (step_kept s (call_of e)).bridges);
-        ended = ended-later then.disposition later.ended;
+        ended = ended-later then.ending later.ended;
       }
 
 -- the events that were made, their calls and their answers
@@ -190,26 +188,26 @@ runs-few room s (e ∷ es) = go (runs-few (room - length (answers_of (network s)
     go later b is (made none fits) = rw (runs-made room s e es is) (omega (arith, later))
 
 -- the parts of the outcome, in range and out of range
-module _ (s : State) (events : List Event) (count : ℕ) (answers : List ℕ) where
-  pub batch-in : state_in_range s ≡ true → count ≤ length events → batch_of s events count answers ≡ batch_outcome_of (batch_from (length answers) s (take count events)) answers
+module _ (s : State) (events : List Event) (answers : List ℕ) where
+  pub batch-in : state_in_range s ≡ true → batch_of s events answers ≡ batch_outcome_of (batch_from (length answers) s events) answers
   unfolding batch_of
-  batch-in ok few = rw (ok, le-leb count (length events) few)
+  batch-in ok = rw ok
 
-  pub batch-out : state_in_range s ≡ false → batch_of s events count answers ≡ batch_outcome 0 0 (Refused 17) s answers
+  pub batch-out : state_in_range s ≡ false → batch_of s events answers ≡ batch_outcome 0 0 (refused_with 17) s answers
   unfolding batch_of
   batch-out out = rw out
 
   -- out of range the first event is refused, if its answer has room
   pub batch-first :
-      (e : Event) (es : List Event) → take count events ≡ e ∷ es → count ≤ length events → answer_size s.bench.bridges e ≤ length answers →
-      batch_of s events count answers ≡ batch_outcome_of (batch_from (length answers) s (take count events)) answers
-  batch-first e es head few room = go (state_in_range s) refl
+      (e : Event) (es : List Event) → events ≡ e ∷ es → answer_size s.bench.bridges e ≤ length answers →
+      batch_of s events answers ≡ batch_outcome_of (batch_from (length answers) s events) answers
+  batch-first e es head room = go (state_in_range s) refl
     where
-      refused-first : state_in_range s ≡ false → (b : Batch) → event_batch_in (length answers) s e ≡ b → First (length answers) s e b → batch_outcome 0 0 (Refused 17) s answers ≡ batch_outcome_of (batch_from (length answers) s (e ∷ es)) answers
+      refused-first : state_in_range s ≡ false → (b : Batch) → event_batch_in (length answers) s e ≡ b → First (length answers) s e b → batch_outcome 0 0 (refused_with 17) s answers ≡ batch_outcome_of (batch_from (length answers) s (e ∷ es)) answers
       refused-first q b is (full less) = absurd (omega (arith, less, room))
       refused-first q b is (refused some) = rw (runs-unmade (length answers) s e es b is refl, refused-out s e q)
       refused-first q b is (made none fits) = absurd (false≢true (sym q ∙ accepted-ready s e none))
 
-      go : (b : Bool) → state_in_range s ≡ b → batch_of s events count answers ≡ batch_outcome_of (batch_from (length answers) s (take count events)) answers
-      go true q = batch-in q few
+      go : (b : Bool) → state_in_range s ≡ b → batch_of s events answers ≡ batch_outcome_of (batch_from (length answers) s events) answers
+      go true q = batch-in q
       go false q = rw (batch-out q, head) (refused-first q (event_batch_in (length answers) s e) refl (first_of (length answers) s e))

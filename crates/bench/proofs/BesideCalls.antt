@@ -3,9 +3,9 @@ use Prim.Native.Nat.{ℕ, zero, suc, ◌+◌, ◌*◌, ◌-◌, ◌/◌, ◌%◌
 use native.Mathlib.Omega.{arith}
 use mathlib.Core.Path.{◌≡◌, refl, ◌∙◌}
 use mathlib.Core.Bool.{Bool, true, false, cond, ◌&&◌}
-use mathlib.Core.List.{List, [], ◌∷◌}
-use lib.ListN.{length, get_or, set}
-use lib.Seq.{sets, length-sets, get_or-set_other}
+use mathlib.Core.List.{List}
+use lib.ListN.{length, get_or}
+use lib.Seq.{sets, length-sets}
 use lib.Dec.{eqb, ltb, leb}
 use borrow.Author.Tests.{ltb-false, lt-ltb, eqb-true}
 use Rattle.distances.specs.Table.{cell, is_in_row}
@@ -18,9 +18,10 @@ use Rattle.agreement.specs.Ranges.{is_view, record_in_range, delivery_in_range}
 use Rattle.agreement.specs.Call.{ViewData, Outcome, outcome, update_outcome, deliver_outcome, lent_offer, lent_end_in_range, says, refused}
 use Rattle.agreement.specs.declared.Agreement.{Agreement}
 use Rattle.agreement.specs.declared.EndRecord.{EndRecord}
-use Rattle.agreement.proofs.Limits.{with_limits-length}
+use Rattle.agreement.proofs.LimitLaws.{with_limits-length}
 use Rattle.bench.specs.Private.Changes.{Ends, Ended, ended, moved_end, moved_ends}
 use Rattle.bench.specs.Private.Queue.{taken_out}
+use Rattle.bench.proofs.TieQueue.{sets-after}
 use Rattle.bench.proofs.StandingLaws.{Part, below, in_rows, part_same, part-set, part-twice}
 
 -- ---- places that stay
@@ -47,13 +48,9 @@ taken-part count p m =
       same = λ q h out. rewritten-at (λ k. leb (5 * p) k && ltb k (5 * (count - 1))) (λ k. get_or m (k + 5) 0) m q h ∙ rw (not-both (leb (5 * p) q) (ltb q (5 * (count - 1))) out);
     }
 
-sets-after : (vs l : List ℕ) (i k : ℕ) → i + length vs ≤ k → get_or (sets l i vs) k 0 ≡ get_or l k 0
-sets-after [] l i k h = refl
-sets-after (a ∷ vs) l i k h = sets-after vs (set l i a) (suc i) k (omega arith) ∙ get_or-set_other l i k a 0 (omega arith)
-
 pub sets-part : (vs l : List ℕ) (i n : ℕ) → i + length vs ≤ n → Part (below n) 0 l (sets l i vs)
 sets-part vs l i n room =
-    record { long = length-sets l i vs; same = λ p h out. sets-after vs l i p (omega (arith, ltb-false p n out, room)) }
+    record { long = length-sets l i vs; same = λ p h out. sets-after 0 vs l i p (omega (arith, ltb-false p n out, room)) }
 
 -- ---- what layer 2 leaves of the limit tables
 

@@ -21,7 +21,8 @@ use Rattle.bench.specs.Ranges.{network_in_range}
 use Rattle.bench.specs.Private.Queue.{with_count, queue_outcome, send_of, lose_of}
 use Rattle.bench.specs.State.{numbers_of}
 use Rattle.bench.specs.Ranges.{state_in_range}
-use Rattle.bench.specs.Private.Deliveries.{bench_with_records, delivery_refused, delivery_at, received, deliver_of, repeat_of}
+use Rattle.bench.specs.Private.Changes.{bench_with_records}
+use Rattle.bench.specs.Private.Deliveries.{delivery_refused, delivery_at, received, deliver_of, repeat_of}
 use Rattle.bench.specs.Standing.{step_in}
 use Rattle.bench.proofs.Represents.{Typed, own-represents}
 use Rattle.bench.specs.Private.ListSteps.{step_by}

@@ -5,20 +5,19 @@ use native.Mathlib.Omega.{arith}
 use mathlib.Core.Path.{◌≡◌, refl, sym, ap, ◌∙◌}
 use mathlib.Core.Bool.{Bool, true, false}
 use mathlib.Core.List.{List}
-use mir.Syntax.{w64}
-use mir.Val.{Fits}
 use borrow.Author.Tests.{eqb-true, eqb-false}
 use lib.ListN.{length, get_or, set, replicate, length-replicate, length-set, get_or-replicate}
 use lib.Seq.{get_or-set_same, get_or-set_other}
 use lib.Dec.{eqb}
 use Rattle.bench.specs.Private.Chains.{IsNext, Chained}
+use Rattle.bench.specs.declared.tables.Chains.{Chains}
 
 -- the chains of the ends from e on
-pub record ChainedFrom (links : ℕ) (places : List ℕ) (e : ℕ) (chain : List ℕ) : Type 0 where
+pub record ChainedFrom (links : ℕ) (places : List ℕ) (e : ℕ) (first next : List ℕ) : Type 0 where
   pub low : e ≤ 2 * links
-  pub long : length chain ≡ 80
-  pub first : (y : ℕ) → y < 16 → IsNext links places y e (get_or chain (64 + y) 0)
-  pub next : (i : ℕ) → e ≤ i → i < 2 * links → IsNext links places (get_or places i 0) (suc i) (get_or chain i 0)
+  pub long : (length first ≡ 16) × (length next ≡ 64)
+  pub firsts : (y : ℕ) → y < 16 → IsNext links places y e (get_or first y 0)
+  pub nexts : (i : ℕ) → e ≤ i → i < 2 * links → IsNext links places (get_or places i 0) (suc i) (get_or next i 0)
 
 module _ (links : ℕ) (places : List ℕ) (few : links ≤ 32) where
   -- no end yet
@@ -26,25 +25,22 @@ module _ (links : ℕ) (places : List ℕ) (few : links ≤ 32) where
   no_end y n is =
       record { from = omega arith; most = omega arith; its = λ low. absurd (omega arith); none = λ i from low same. absurd (omega arith) }
 
-  pub chained-none : (n : ℕ) → n ≡ 2 * links → ChainedFrom links places (2 * links) (replicate 80 n)
+  pub chained-none : (n : ℕ) → n ≡ 2 * links → ChainedFrom links places (2 * links) (replicate 16 n) (replicate 64 n)
   chained-none n is =
       record {
         low = omega arith;
-        long = length-replicate {A = ℕ} 80 n;
-        first = λ y h. no_end y _ (get_or-replicate 80 (64 + y) n 0 (omega arith) ∙ is);
-        next = λ i from low. absurd (omega arith);
+        long = (length-replicate {A = ℕ} 16 n, length-replicate {A = ℕ} 64 n);
+        firsts = λ y h. no_end y _ (get_or-replicate 16 y n 0 h ∙ is);
+        nexts = λ i from low. absurd (omega arith);
       }
 
-  pub chained-all : (chain : List ℕ) → ChainedFrom links places 0 chain → Chained links places chain
-  chained-all chain h = record { long = h.long; first = h.first; next = λ e low. h.next e (omega arith) low }
+  pub chained-all : (chains : Chains) → ChainedFrom links places 0 chains.first chains.next → Chained links places chains
+  chained-all chains h = record { first = h.firsts; next = λ e low. h.nexts e (omega arith) low }
 
   -- end e, at bridge y, comes before those that follow it
-  module _ (chain : List ℕ) (e y n : ℕ) (is : n ≡ suc e) (at : get_or places e 0 ≡ y) (bridge : y < 16) (h : ChainedFrom links places n chain) where
+  module _ (first next : List ℕ) (e y n : ℕ) (is : n ≡ suc e) (at : get_or places e 0 ≡ y) (bridge : y < 16) (h : ChainedFrom links places n first next) where
     abbrev behind : ℕ
-    behind = get_or chain (64 + y) 0
-
-    abbrev with : List ℕ
-    with = set (set chain e behind) (64 + y) e
+    behind = get_or first y 0
 
     own : IsNext links places y e e
     own = record { from = omega arith; most = omega (arith, h.low); its = λ low. at; none = λ i from low same. absurd (omega arith) }
@@ -58,34 +54,28 @@ module _ (links : ℕ) (places : List ℕ) (few : links ≤ 32) where
         go i from low same true q = apart (sym same ∙ rw (eqb-true i e q) at)
         go i from low same false q = x.none i (omega (arith, eqb-false i e q)) low same
 
-    first-with : (z : ℕ) → z < 16 → IsNext links places z e (get_or with (64 + z) 0)
+    first-with : (z : ℕ) → z < 16 → IsNext links places z e (get_or (set first y e) z 0)
     first-with z low = go (eqb z y) refl
       where
-        go : (b : Bool) → eqb z y ≡ b → IsNext links places z e (get_or with (64 + z) 0)
-        go true q = rw (eqb-true z y q, get_or-set_same (set chain e behind) (64 + y) e 0 (rw (length-set chain e behind, h.long) (omega arith))) own
-        go false q =
-            let apart : z ≡ y → ⊥ = eqb-false z y q in
-            rw (
-              get_or-set_other (set chain e behind) (64 + y) (64 + z) e 0 (λ same. apart (omega arith)),
-              get_or-set_other chain e (64 + z) behind 0 (λ same. absurd (omega (arith, h.low))),
-            ) (past z _ apart (h.first z low))
+        go : (b : Bool) → eqb z y ≡ b → IsNext links places z e (get_or (set first y e) z 0)
+        go true q = rw (eqb-true z y q, get_or-set_same first y e 0 (rw h.long.0 bridge)) own
+        go false q = rw (get_or-set_other first y z e 0 (eqb-false z y q)) (past z _ (eqb-false z y q) (h.firsts z low))
 
-    next-with : (i : ℕ) → e ≤ i → i < 2 * links → IsNext links places (get_or places i 0) (suc i) (get_or with i 0)
-    next-with i from low =
-        rw (get_or-set_other (set chain e behind) (64 + y) i e 0 (λ same. absurd (omega arith))) (go (eqb i e) refl)
+    next-with : (i : ℕ) → e ≤ i → i < 2 * links → IsNext links places (get_or places i 0) (suc i) (get_or (set next e behind) i 0)
+    next-with i from low = go (eqb i e) refl
       where
-        go : (b : Bool) → eqb i e ≡ b → IsNext links places (get_or places i 0) (suc i) (get_or (set chain e behind) i 0)
+        go : (b : Bool) → eqb i e ≡ b → IsNext links places (get_or places i 0) (suc i) (get_or (set next e behind) i 0)
         go true q =
-            rw (eqb-true i e q, get_or-set_same chain e behind 0 (rw h.long (omega arith)), at, ← is) (h.first y bridge)
-        go false q = rw (get_or-set_other chain e i behind 0 (eqb-false i e q)) (h.next i (omega (arith, eqb-false i e q)) low)
+            rw (eqb-true i e q, get_or-set_same next e behind 0 (rw h.long.1 (omega (arith, h.low))), at, ← is) (h.firsts y bridge)
+        go false q = rw (get_or-set_other next e i behind 0 (eqb-false i e q)) (h.nexts i (omega (arith, eqb-false i e q)) low)
 
-    pub chained_more : ChainedFrom links places e with
+    pub chained_more : ChainedFrom links places e (set first y e) (set next e behind)
     chained_more =
         record {
           low = omega (arith, h.low);
-          long = length-set (set chain e behind) (64 + y) e ∙ length-set chain e behind ∙ h.long;
-          first = first-with;
-          next = next-with;
+          long = (length-set first y e ∙ h.long.0, length-set next e behind ∙ h.long.1);
+          firsts = first-with;
+          nexts = next-with;
         }
 
 -- what no end of another bridge changes is the same at the bridge's next end
@@ -107,26 +97,5 @@ module _ {A : Type 0} (f : ℕ → A) where
 
 -- ---- along the ends of a bridge
 
-module _ {links : ℕ} {places chain : List ℕ} (h : Chained links places chain) where
-  pub next-own : {e y : ℕ} → e < 2 * links → get_or places e 0 ≡ y → IsNext links places y (suc e) (get_or chain e 0)
-  next-own {e} {y} low own = rw own at (h.next e low)
-
-  pub first-there : {y : ℕ} → y < 16 → 64 + y < length chain
-  first-there low = omega (arith, h.long)
-
-  pub next-there : {e : ℕ} → e < 64 → e < length chain
-  next-there low = omega (arith, h.long)
-
-pub first_fits : {y : ℕ} → y < 16 → Fits w64 (64 + y)
-first_fits low = omega arith
-
-pub end_fits : {links : ℕ} {places : List ℕ} {y e n : ℕ} → IsNext links places y e n → links ≤ 32 → Fits w64 n
-end_fits x few = omega (arith, x.most)
-
-pub fewer-then : {links : ℕ} {places : List ℕ} {y e n : ℕ} → e < 2 * links → IsNext links places y (suc e) n → 2 * links - n < 2 * links - e
-fewer-then low x = omega (arith, x.from)
-
--- the same ends of as many links
-pub chained_same :
-    {links others : ℕ} {places ends chain : List ℕ} → links ≡ others → places ≡ ends → Chained links places chain → Chained others ends chain
-chained_same one two chained = rw (← one, ← two) chained
+pub next-own : {links : ℕ} {places : List ℕ} {chains : Chains} → Chained links places chains → {e y : ℕ} → e < 2 * links → get_or places e 0 ≡ y → IsNext links places y (suc e) (get_or chains.next e 0)
+next-own h {e} {y} low own = rw own at (h.next e low)

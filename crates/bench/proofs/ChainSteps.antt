@@ -4,29 +4,34 @@ use Prim.Native.Nat.{ℕ, suc, ◌+◌, ◌-◌, ◌*◌, ◌/◌, ◌≤◌, �
 use native.Mathlib.Omega.{arith}
 use native.Mathlib.Nat.{add-sub_cancel_left}
 use native.Mathlib.Numerals.{add-one}
-use mathlib.Core.Path.{◌≡◌, sym, ap, ◌∙◌}
-use mathlib.Core.Bool.{true}
+use mathlib.Core.Path.{◌≡◌, refl, sym, ap, ◌∙◌}
+use mathlib.Core.Bool.{Bool, true, false, cond, ◌&&◌}
 use mathlib.Core.List.{List}
 use borrow.Author.Tests.{eq-eqb, ne_eqb}
 use lib.ListN.{length, get_or, set, take, drop}
 use lib.Seq.{set-get_or}
 use Rattle.agreement.specs.Offer.{opposite}
-use Rattle.agreement.specs.Call.{ViewData, outcome, lent_end_in_range}
-use Rattle.agreement.specs.Ends.{Between, between, between_at, update_between}
-use Rattle.agreement.specs.Ranges.{end_in_range}
+use Rattle.distances.specs.Table.{cell}
+use Rattle.agreement.specs.Call.{ViewData, view_data, Outcome, outcome, lent_end_in_range}
+use Rattle.agreement.specs.Ends.{Between, between, between_at, between_in_range, near_offer, far_offer, update_between}
+use Rattle.agreement.specs.Limits.{with_limits}
+use Rattle.agreement.specs.Ranges.{end_in_range, is_view, record_in_range}
+use Rattle.agreement.specs.Record.{updated, sent_updated, held_updated}
+use Rattle.agreement.proofs.LimitLaws.{with_limits-length}
 use Rattle.agreement.specs.declared.Choice.{Choice}
 use Rattle.agreement.specs.declared.EndRecord.{EndRecord}
 use Rattle.agreement.proofs.BetweenLaws.{update-between}
 use Rattle.agreement.proofs.InRange.{end-passes}
-use Rattle.bench.specs.State.{State}
+use Rattle.bench.specs.State.{State, part}
 use Rattle.bench.specs.Ranges.{parts_in_range}
-use Rattle.bench.specs.Private.Changes.{Ends, ends, ended, moved_end, moved_ends}
+use Rattle.bench.specs.Private.Changes.{Ends, ends, ended, moved_end, moved_ends, ends_in, with_ends}
 use Rattle.bench.specs.Private.Chains.{IsNext}
 use Rattle.bench.specs.Private.Steps.{IsFilled, choice_in}
 use Rattle.bench.specs.declared.Bench.{Bench}
 use Rattle.bench.proofs.TieRanges.{few, are-bridges, lent-in-range}
 use Rattle.bench.proofs.ChainLaws.{same-until}
 use Rattle.bench.proofs.ChangeSteps.{moved_more}
+use Rattle.bench.proofs.TieMovedEnds.{records-long}
 use Rattle.bench.proofs.ChoiceSteps.{lasting, limits, choice-other}
 
 -- ---- choices
@@ -89,30 +94,79 @@ module _ (v : ViewData) (views y t : ℕ) (start : Ends) where
       ∙ ap (λ (i : ℕ). moved_ends v views y t i start) (add-one e)
       ∙ moved-until x
 
+-- no limit table becomes longer or shorter
+module _ (w : Between) (views t e : ℕ) (old : EndRecord) (sent held : List ℕ) where
+  pub update-lengths : (length (update_between w views t e old sent held).sent ≡ length sent) × (length (update_between w views t e old sent held).held ≡ length held)
+  unfolding update_between
+  update-lengths = go (between_in_range w sent held e && (is_view views t && record_in_range views old))
+    where
+      go :
+          (b : Bool) →
+          let o : Outcome ℕ = cond b
+          (outcome 0 (updated t old) (with_limits w.bridges e (sent_updated (near_offer w) (cell sent e)) sent)
+          (with_limits w.bridges e (held_updated t old (far_offer w) (cell held e)) held))
+          (outcome 17 old sent held) in
+          (length o.sent ≡ length sent) × (length o.held ≡ length held)
+      go true = (with_limits-length _ _ _ _, with_limits-length _ _ _ _)
+      go false = (refl, refl)
+
+-- ---- a state, as its ends are moved in their place
+
+module _ (s : State) (costs table : List ℕ) (y t : ℕ) where
+  abbrev pub lent_so : ViewData
+  lent_so = view_data s.bench.bridges s.bench.links s.bench.ends costs table
+
+  -- with the ends below e moved
+  abbrev pub at_end : ℕ → State
+  at_end e = with_ends s (moved_ends lent_so s.bench.views y t e (ends_in s))
+
+  pub ends-first : {n : ℕ} → IsNext s.bench.links s.bench.ends y 0 n → s ≡ at_end n
+  ends-first x = ap (with_ends s) (moved-first lent_so s.bench.views y t (ends_in s) x)
+
+  pub ends-next :
+      (d : EndRecord) {z : State} {e n o k : ℕ} {r : EndRecord} {sent' held' : List ℕ} →
+      z ≡ at_end e →
+      length s.bench.records ≡ 64 →
+      e < 64 →
+      lent_end_in_range lent_so z.sent z.held e ≡ true →
+      get_or s.bench.ends e 0 ≡ y →
+      o ≡ opposite e →
+      outcome k r sent' held'
+      ≡ update_between (between z.bench.bridges y (get_or z.bench.ends o 0) (get_or costs (e / 2) 0) table) z.bench.views t e (get_or z.bench.records e d) z.sent z.held →
+      IsNext s.bench.links s.bench.ends y (suc e) n →
+      with_ends z (ends (set z.bench.records e r) sent' held') ≡ at_end n
+  ends-next d {z} {e} {n} {o} {k} {r} {sent'} {held'} so long low ok own other is x =
+      let bridges : z.bench.bridges ≡ s.bench.bridges = ap (λ (q : State). q.bench.bridges) so in
+      let places : z.bench.ends ≡ s.bench.ends = ap (λ (q : State). q.bench.ends) so in
+      let views : z.bench.views ≡ s.bench.views = ap (λ (q : State). q.bench.views) so in
+      let room : length z.bench.records ≡ 64 = ap (λ (q : State). length q.bench.records) so ∙ records-long lent_so s.bench.views y t e (ends_in s) ∙ long in
+      let taken = rw (bridges, places, views) at is in
+      ap (λ (q : State). with_ends q (ends (set z.bench.records e r) sent' held')) so
+      ∙ ap (with_ends s) (moved-next lent_so s.bench.views y t (ends_in s) d (ap ends_in so) (rw room low) ok own other taken x)
+
 -- ---- what the entry check tells
 
 -- the ends of the links are bridges, for their chains
 pub ends-told :
     (b : Bench) (costs : List ℕ) (sent held : ℕ) →
     parts_in_range b costs sent held ≡ true →
-    (b.links ≤ 32) × (2 * b.links ≤ length b.ends) × ((e : ℕ) → e < 2 * b.links → get_or b.ends e 0 < 16)
+    (b.links ≤ 32) × ((e : ℕ) → e < 2 * b.links → get_or b.ends e 0 < 16)
 ends-told b costs sent held ok =
     let lasts = lasting b costs sent held ok in
     let counts = few b costs lasts in
-    (counts.1, counts.2, λ e low. omega (arith, counts.0, are-bridges b costs lasts e low))
+    (counts.1, λ e low. omega (arith, counts.0, are-bridges b costs lasts e low))
 
--- the parts of the costs and the tables that are lent are in range at each end
+-- the part of the costs and the table that are lent are in range at each end
 pub parts-in-range :
-    (b : Bench) (costs tables : List ℕ) (t sent held : ℕ) →
+    (b : Bench) (costs tables table : List ℕ) (t sent held : ℕ) →
     parts_in_range b costs sent held ≡ true →
     t < b.views →
     IsFilled b costs tables t →
+    table ≡ part 256 t tables →
     (e : ℕ) →
     e < 2 * b.links →
-    end_in_range b.bridges b.links b.ends (take (32 * t + 32 - 32 * t) (drop (32 * t) costs))
-    (take (256 * t + 256 - 256 * t) (drop (256 * t) tables)) sent held e
-    ≡ true
-parts-in-range b costs tables t sent held ok low filled e h =
+    end_in_range b.bridges b.links b.ends (take (32 * t + 32 - 32 * t) (drop (32 * t) costs)) table sent held e ≡ true
+parts-in-range b costs tables table t sent held ok low filled is e h =
     let long = limits b costs sent held ok in
-    rw (add-sub_cancel_left (32 * t) 32, add-sub_cancel_left (256 * t) 256, filled)
+    rw (add-sub_cancel_left (32 * t) 32, is, filled)
     (end-passes _ _ _ _ _ _ _ (lent-in-range b costs (lasting b costs sent held ok) t low) long.0 long.1 e h)

@@ -1,18 +1,14 @@
 -- One turn of each loop that rewrites a bench: the next end moved, the next end started, the next view filled. Assumes nothing.
-use Prim.Native.Nat.{ℕ, ◌+◌, ◌-◌, ◌*◌, ◌<◌}
-use native.Mathlib.Nat.{add-sub_cancel_left}
+use Prim.Native.Nat.{ℕ, ◌+◌, ◌<◌}
 use native.Mathlib.Numerals.{add-one}
 use mathlib.Core.List.{List, map}
-use mathlib.Core.Path.{◌≡◌, ◌∙◌, sym, ap}
-use lib.ListN.{length, length-map, get_or, set, take, drop}
-use Rattle.agreement.specs.Call.{ViewData, view_data, outcome, fresh_outcome}
+use mathlib.Core.Path.{◌≡◌, ◌∙◌, sym}
+use lib.ListN.{length, length-map, get_or, set}
+use Rattle.agreement.specs.Call.{ViewData, outcome, fresh_outcome}
 use Rattle.agreement.specs.Record.{fresh_record}
 use Rattle.agreement.specs.declared.EndRecord.{EndRecord}
 use Rattle.agreement.proofs.Basics.{get_d_default}
-use Rattle.bench.specs.Private.Views.{lent_view}
-use Rattle.bench.specs.Private.Changes.{Ends, ends, ended, moved_end, moved_ends, moved_bench, LimitTables, limit_tables, started_ends}
-use Rattle.bench.specs.Private.Steps.{IsFilled}
-use Rattle.bench.specs.declared.Bench.{Bench}
+use Rattle.bench.specs.Private.Changes.{Ends, ends, ended, moved_end, moved_ends, LimitTables, limit_tables, started_ends}
 
 -- a record is read with the array's own default
 pub moved_more :
@@ -24,19 +20,6 @@ pub moved_more :
     ends (set records e r) sent' held' ≡ moved_ends v views y t (e + 1) start
 unfolding moved_ends
 moved_more v views y t e start d {records} i h m = rw (add-one, ← i, get_d_default records e fresh_record d h, ← m)
-
--- all ends moved, by the parts of the costs and the tables that are lent
-pub moved_all :
-    (b : Bench) (costs tables : List ℕ) (y t : ℕ) (start : Ends) {records : List EndRecord} {sent held : List ℕ} →
-    IsFilled b costs tables t →
-    ends records sent held
-    ≡ moved_ends
-    (view_data b.bridges b.links b.ends (take (32 * t + 32 - 32 * t) (drop (32 * t) costs))
-    (take (256 * t + 256 - 256 * t) (drop (256 * t) tables)))
-    b.views y t (2 * b.links) start →
-    moved_bench b y t (ends records sent held) ≡ moved_bench b y t (moved_ends (lent_view b costs t) b.views y t (2 * b.links) start)
-moved_all b costs tables y t start filled e =
-    rw (add-sub_cancel_left (32 * t) 32, add-sub_cancel_left (256 * t) 256, filled) at (ap (moved_bench b y t) e)
 
 pub started-more :
     (v : ViewData) (e : ℕ) (start : LimitTables) {sent held sent' held' : List ℕ} {k : ℕ} {r : EndRecord} →

@@ -1,18 +1,13 @@
--- Laws of the tests that the entry checks and the refusals make, and what a bench that passes tells of its counts. Assumes nothing.
+-- What a bench that passes the entry check tells of its counts. Assumes nothing.
 use Prim.Native.Nat.{◌≤◌}
-use mathlib.Core.Path.{◌≡◌, refl}
-use mathlib.Core.Bool.{Bool, true, false, ◌&&◌, ◌||◌, not}
+use mathlib.Core.Path.{◌≡◌}
+use mathlib.Core.Bool.{true}
 use borrow.Author.Tests.{leb-true}
 use lib.Dec.{leb}
 use Rattle.distances.proofs.Booleans.{both_true}
 use Rattle.distances.proofs.Ranges.{counts}
 use Rattle.bench.specs.Ranges.{graph_in_range, bench_in_range}
 use Rattle.bench.specs.declared.Bench.{Bench}
-
--- neither of two tests holds
-pub neither : (p q : Bool) → not (p || q) ≡ (not p && not q)
-neither true q = refl
-neither false q = refl
 
 -- the counts of a bench in range
 pub record Counted (b : Bench) : Type 0 where

@@ -11,7 +11,7 @@ use Rattle.distances.proofs.Booleans.{below}
 use Rattle.protocol.specs.Net.{Network}
 use Rattle.protocol.specs.Calls.{Call, Check, refusal, refuse, no_such_bridge, no_such_link}
 use Rattle.bench.specs.Outcomes.{refusal_of, or_refused}
-use Rattle.distances.proofs.Refusals.{passed}
+use Rattle.distances.proofs.Checks.{passed}
 use Rattle.bench.proofs.TieRefusals.{refusal-ready}
 
 module _ {A : Type 0} (ok : Bool) (n : Network) (c : Call) (refused : ℕ → A) (done : A) where
@@ -39,17 +39,9 @@ module _
       go true e = zero (eqb-true k 0 e) ∙ sym (eqb-true k 0 e)
       go false e = says k
 
-  -- other than 0: it was refused
-  pub reply-some : (reply (or_refused k refused done) ≡ 0 → ⊥) → or_refused k refused done ≡ refused k
-  reply-some some = rw (ne_eqb k 0 (λ e. some (reply-is ∙ e)))
-
--- a call whose first checks come to the number k, and whose others are `rest`
-module _ (k : ℕ) (rest : List Check) (r : ℕ) (is : or_refused k (λ j. j) (refusal rest) ≡ r) where
-  pub first-refused : (k ≡ 0 → ⊥) → k ≡ r
-  first-refused some = rw (ne_eqb k 0 some) at is
-
-  pub first-passed : k ≡ 0 → {j : ℕ} → j ≡ refusal rest → j ≡ r
-  first-passed none same = same ∙ rw none at is
+-- a call that its first checks turn down
+pub first-refused : (k : ℕ) (rest : List Check) (r : ℕ) → or_refused k (λ j. j) (refusal rest) ≡ r → (k ≡ 0 → ⊥) → k ≡ r
+first-refused k rest r is some = rw (ne_eqb k 0 some) at is
 
 -- the link of a call that the table lets pass
 pub link-listed : (n : Network) (b l : ℕ) (cs : List Check) → refusal (no_such_bridge n b ∷ no_such_link n l ∷ cs) ≡ 0 → l < n.plan.graph.links

@@ -12,13 +12,13 @@ use lib.Dec.{eqb}
 use Rattle.distances.specs.View.{Graph, graph_of, costs_of}
 use Rattle.distances.specs.Table.{cell}
 use Rattle.distances.proofs.Booleans.{below}
-use Rattle.distances.proofs.Refusals.{passed}
+use Rattle.distances.proofs.Checks.{passed}
 use Rattle.distances.proofs.Tables.{cell-block}
 use Rattle.agreement.specs.Forwarding.{port_of}
 use Rattle.agreement.specs.Call.{ViewData, lent_graph, lent_records, verdict_outcome}
 use Rattle.agreement.specs.declared.EndRecord.{EndRecord}
-use Rattle.agreement.specs.declared.Port.{Port}
-use Rattle.agreement.specs.declared.Port.TheVariants.{Closed, Open}
+use Rattle.agreement.specs.Forwarding.{Port}
+use Rattle.std.specs.Prelude.{None, Some}
 use Rattle.agreement.proofs.Forwards.{open-forwards}
 use Rattle.agreement.proofs.Outcomes.{port_ready, verdict-accepted, verdict-refused}
 use Rattle.protocol.specs.Net.{Network}
@@ -27,7 +27,7 @@ use Rattle.protocol.specs.Ports.{Hop, stays, crosses, across, is_live, hop_by}
 use Rattle.protocol.specs.Paths.{delivered, stops, follow, onward}
 use Rattle.bench.specs.State.{State, network, part}
 use Rattle.bench.specs.Private.Views.{lent_view}
-use Rattle.bench.specs.Private.Answers.{found, verdict_in, port_in, hop_in, reported_row, reported}
+use Rattle.bench.specs.Private.Answers.{found, verdict_in, port_in, hop_in}
 use Rattle.bench.specs.Private.Steps.{Ready}
 use Rattle.bench.specs.declared.Bench.{Bench}
 
@@ -35,7 +35,7 @@ use Rattle.bench.specs.declared.Bench.{Bench}
 
 outcome-link :
     (v : ViewData) (views : ℕ) (down : List Bool) (records : List EndRecord) (sent held : List ℕ) (y d l : ℕ) →
-    port_of (found (verdict_outcome v views down records sent held y d).value) ≡ Open l →
+    port_of (found (verdict_outcome v views down records sent held y d).value) ≡ Some l →
     l < v.links
 unfolding found
 outcome-link v views down records sent held y d l o = go (port_ready v views down records sent held y d) refl
@@ -46,10 +46,10 @@ outcome-link v views down records sent held y d l o = go (port_ready v views dow
         let by = open-forwards (lent_graph v) (costs_of v.costs) (cell v.table) (lent_records down records sent held) y d l opens in
         omega (arith, by.1.chosen.listed, by.1.link)
     go false e =
-        let closed : Closed ≡ Open l = rw (verdict-refused v views down records sent held y d e) at o in
+        let closed : None ≡ Some l = rw (verdict-refused v views down records sent held y d e) at o in
         absurd (let z : ◌≡◌ {A = ℕ} 0 1 = cc in omega arith)
 
-pub open-link : (s : State) (y d l : ℕ) → port_in s y d ≡ Open l → l < s.bench.links
+pub open-link : (s : State) (y d l : ℕ) → port_in s y d ≡ Some l → l < s.bench.links
 unfolding verdict_in
 open-link s y d l =
     let b : Bench = s.bench in
@@ -83,8 +83,8 @@ hop-leads s ready d y l z = go (port_in s y d) refl
     live k false e = absurd (let o : ◌≡◌ {A = ℕ} 0 1 = cc in omega arith)
 
     go : (p : Port) → port_in s y d ≡ p → hop_by g (network s).records y p ≡ crosses l z → z < s.bench.bridges
-    go Closed at e = absurd (let o : ◌≡◌ {A = ℕ} 0 1 = cc in omega arith)
-    go (Open k) at e = rw (live k (is_live (network s).records k) e) at (across-below g ready.are_bridges k y (open-link s y d k at))
+    go None at e = absurd (let o : ◌≡◌ {A = ℕ} 0 1 = cc in omega arith)
+    go (Some k) at e = rw (live k (is_live (network s).records k) e) at (across-below g ready.are_bridges k y (open-link s y d k at))
 
 -- ---- a walk, hop by hop
 
@@ -139,7 +139,3 @@ bridges-listed n y d cs e =
 -- bridge y's distance, in the block of its view
 pub own-cell : (t y d : ℕ) (tables : List ℕ) → y < 16 → d < 16 → get_or tables (256 * t + 16 * y + d) 0 ≡ cell (part 256 t tables) y d
 own-cell t y d tables hy hd = sym (cell-block t y d tables hy hd)
-
-pub reported-more : (s : State) (d y : ℕ) (rows : List ℕ) → reported_row s d y (reported s d y rows) ≡ reported s d (y + 1) rows
-unfolding reported
-reported-more s d y rows = rw add-one

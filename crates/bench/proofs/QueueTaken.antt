@@ -1,20 +1,17 @@
--- Messages in flight as lent numbers: one taken out, as one run of stores. Assumes nothing.
-use Prim.Native.Nat.{ℕ, ◌+◌, ◌*◌, ◌-◌, ◌≤◌, ◌<◌, suc}
+-- Messages in flight as lent numbers: one taken out, as one run of stores, or as one copy within them. Assumes nothing.
+use Prim.Native.Nat.{ℕ, ◌+◌, ◌*◌, ◌-◌, ◌≤◌, ◌<◌}
 use native.Mathlib.Omega.{arith}
 use mathlib.Core.Path.{◌≡◌, refl, sym, ◌∙◌, ap}
 use mathlib.Core.Bool.{Bool, true, false, cond, ◌&&◌}
-use mathlib.Core.List.{List, [], ◌∷◌}
-use lib.ListN.{length, get_or, set, take, drop, length-drop}
-use lib.Seq.{sets, length-sets, length-take-le, get_or-take, get_or-drop, get_or-set_other}
+use mathlib.Core.List.{List}
+use lib.ListN.{length, get_or, take, drop, length-drop}
+use lib.Seq.{sets, sets-eq, length-sets, length-take-le, get_or-take, get_or-drop}
 use lib.Dec.{leb, ltb}
 use borrow.Author.Tests.{leb-true, leb-false, ltb-true, ltb-false}
+use Rattle.std.specs.List.{copy_within}
 use Rattle.distances.proofs.Tables.{rewritten-is}
 use Rattle.bench.specs.Private.Queue.{taken_out}
-use Rattle.bench.proofs.TieQueue.{sets-before, sets-within}
-
-pub sets-after : (vs l : List ℕ) (i k : ℕ) → i + length vs ≤ k → get_or (sets l i vs) k 0 ≡ get_or l k 0
-sets-after [] l i k h = refl
-sets-after (a ∷ vs) l i k h = sets-after vs (set l i a) (suc i) k (omega arith) ∙ get_or-set_other l i k a 0 (omega arith)
+use Rattle.bench.proofs.TieQueue.{sets-before, sets-after, sets-within}
 
 module _ (count p : ℕ) (m : List ℕ) (listed : p < count) (long : 5 * count ≤ length m) where
   abbrev moves : List ℕ
@@ -40,5 +37,10 @@ module _ (count p : ℕ) (m : List ℕ) (listed : p < count) (long : 5 * count �
           ∙ get_or-take (5 * (count - 1) - 5 * p) (drop (5 * p + 5) m) (k - 5 * p) 0 (omega arith)
           ∙ get_or-drop (5 * p + 5) m (k - 5 * p) 0
           ∙ ap (λ (j : ℕ). get_or m j 0) (omega arith)
-      go k true e false w = sets-after moves m (5 * p) k (omega (arith, many, leb-true (5 * p) k e, ltb-false k (5 * (count - 1)) w))
+      go k true e false w = sets-after 0 moves m (5 * p) k (omega (arith, many, leb-true (5 * p) k e, ltb-false k (5 * (count - 1)) w))
       go k false e y w = sets-before 0 moves m (5 * p) k (leb-false (5 * p) k e)
+
+  pub taken-moved : copy_within m (5 * p + 5) (5 * count) (5 * p) ≡ taken_out count p m
+  taken-moved =
+      let some : 5 * count - (5 * p + 5) ≡ 5 * (count - 1) - 5 * p = omega arith in
+      rw (taken-sets, sets-eq moves m (5 * p) (omega (arith, many)), many, some)

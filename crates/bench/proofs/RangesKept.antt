@@ -37,7 +37,7 @@ stored-keeps P (x ∷ l) (suc p) v (suc q) d new old = stored-keeps P l p v q d 
 -- ---- messages in flight
 
 -- one added
-pub added-told :
+added-told :
     (links views count : ℕ) (m : List ℕ) (x : Message) →
     5 * count + 5 ≤ length m →
     ((i : ℕ) → i < count → MessageFacts links views (message_from m i)) →

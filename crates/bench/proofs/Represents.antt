@@ -2,23 +2,12 @@
 use Prim.Native.Nat.{ℕ, ◌*◌, ◌<◌}
 use mathlib.Core.Path.{◌≡◌, refl}
 use mathlib.Core.Bool.{true}
-use lib.ListN.{length, get_or}
+use lib.ListN.{get_or}
 use Rattle.distances.specs.Table.{cell}
-use Rattle.agreement.specs.Record.{fresh_record}
 use Rattle.protocol.specs.Net.{Network}
 use Rattle.bench.specs.State.{State, network}
 use Rattle.bench.specs.Ranges.{state_in_range}
-use Rattle.bench.specs.declared.Bench.{Bench}
-
--- what the code's types tell of a bench, and its lists do not: the lengths of its arrays, and numbers of 16 bits
-pub record Typed (b : Bench) : Type 0 where
-  pub views : length b.view ≡ 16
-  pub numbers : length b.number ≡ 16
-  pub records : length b.records ≡ 64
-  pub flags : length b.down ≡ 64
-  pub number : (y : ℕ) → y < b.bridges → get_or b.number y 0 < 65536
-  pub received : (e : ℕ) → e < 2 * b.links → (get_or b.records e fresh_record).received < 65536
-  pub discarded : (e : ℕ) → e < 2 * b.links → (get_or b.records e fresh_record).discarded < 65536
+pub use Rattle.bench.specs.Private.Types.{Typed}
 
 -- the network n stands in the state s: what is there of the bridges, links, ends and destinations that there are
 pub record Represents (s : State) (n : Network) : Type 0 where

@@ -16,7 +16,7 @@ use Rattle.bench.specs.Ranges.{network_in_range}
 use Rattle.bench.specs.Standing.{step_in}
 use Rattle.bench.specs.Private.Changes.{bench_outcome, bench_with_end, own_end, switch, change_outcome, update_of}
 use Rattle.bench.specs.Private.Queue.{queue_outcome, with_count, taken_out}
-use Rattle.bench.specs.Private.Effects.{moved_to}
+use Rattle.bench.specs.Private.Changes.{moved_to}
 use Rattle.bench.proofs.Represents.{Typed}
 use Rattle.bench.proofs.TieRanges.{get_d-stored}
 use Rattle.bench.proofs.TieQueue.{taken-messages, added-messages}

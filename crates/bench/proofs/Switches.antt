@@ -1,7 +1,7 @@
 -- Cut and restore as one call: what turns it down, and what it does. Assumes nothing.
 use Prim.Native.Nat.{ℕ, ◌*◌, ◌<◌}
 use mathlib.Core.Path.{◌≡◌, refl, ◌∙◌, ap}
-use mathlib.Core.Bool.{Bool, true, false}
+use mathlib.Core.Bool.{Bool, true, false, cond, not, beq}
 use mathlib.Core.List.{List, [], ◌∷◌}
 use Rattle.protocol.specs.Net.{Network}
 use Rattle.protocol.specs.Calls.{change, refusal, no_such_bridge, no_such_link, not_on_link, already, change_checks, checks, refuse, end_of, with_end, after_change}
@@ -13,6 +13,13 @@ use Rattle.bench.specs.Ranges.{bench_in_range}
 use Rattle.bench.specs.Outcomes.{ready_for}
 use Rattle.bench.specs.declared.Bench.{Bench}
 use Rattle.bench.proofs.EntryOutcomes.{link-listed}
+
+-- a flag that is as wanted: it stands, or it does not
+pub as-flag : (x down : Bool) → beq x down ≡ cond down x (not x)
+as-flag true true = refl
+as-flag true false = refl
+as-flag false true = refl
+as-flag false false = refl
 
 module _ (y l : ℕ) where
   pub switch-checks : (n : Network) (down : Bool) → no_such_bridge n y ∷ no_such_link n l ∷ not_on_link n y l ∷ already n down (end_of n.plan.graph y l) ∷ [] ≡ change_checks n (switch down y l)

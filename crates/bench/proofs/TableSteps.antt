@@ -7,12 +7,12 @@ use mathlib.Core.List.{List, ◌++◌}
 use mathlib.Core.Logic.{◌⊎◌, inl, inr}
 use borrow.Author.Tests.{eqb-true, eqb-false, ltb-true, ltb-false}
 use lib.ListN.{length, get_or, set, take, drop, replicate, length-append, length-take, length-drop, length-replicate, length-set, get_or-replicate, get_or-append}
-use lib.Seq.{length-take-le, get_or-take, get_or-drop, take_at, drop_at, ext_get_or, get_or-append-add, get_or-set_same}
+use lib.Seq.{length-take-le, get_or-take, get_or-drop, take_at, drop_at, ext_get_or, get_or-append-add}
 use lib.Dec.{eqb, ltb}
 use Rattle.distances.proofs.Outcomes.{distances-length}
 use Rattle.bench.specs.State.{part}
 use Rattle.bench.specs.Private.Views.{distance_table}
-use Rattle.bench.specs.Private.Steps.{filled_view, IsFilled, AllFilled, Tables, TablesOf}
+use Rattle.bench.specs.Private.Steps.{filled_view, TablesOf}
 use Rattle.bench.specs.declared.Bench.{Bench}
 use Rattle.bench.proofs.TieRanges.{part_at, part_length, get_d-stored}
 
@@ -76,7 +76,7 @@ blank-block t low =
     wide : length (part 256 t (replicate 8192 0)) ≡ 256
     wide = part_length 256 t (replicate 8192 0) (rw (length-replicate {A = ℕ} 8192 0) (omega arith))
 
-pub tables-none : (b : Bench) (costs : List ℕ) → Tables b costs (replicate 8192 0) (replicate 32 false)
+pub tables-none : (b : Bench) (costs : List ℕ) → TablesOf b.bridges b.links b.ends costs (replicate 8192 0) (replicate 32 false)
 tables-none b costs =
     record {
       long = length-replicate {A = ℕ} 8192 0;
@@ -85,16 +85,6 @@ tables-none b costs =
     }
 
 -- ---- the tables with one view more
-
-module _ (b : Bench) (costs tables : List ℕ) (known : List Bool) (kept : Tables b costs tables known) where
-  pub tables-filled : (t : ℕ) → t < 32 → get_or known t false ≡ true → IsFilled b costs tables t
-  tables-filled t low so = kept.block t low ∙ rw so
-
-  pub all-filled :
-      ((y : ℕ) → y < b.bridges → get_or b.view y 0 < 32) →
-      ((y : ℕ) → y < b.bridges → get_or known (get_or b.view y 0) false ≡ true) →
-      AllFilled b costs tables
-  all-filled low so y h = tables-filled (get_or b.view y 0) (low y h) (so y h)
 
 module _
     (bridges links : ℕ)
@@ -145,28 +135,6 @@ module _
       go u h true q = rw (flag u, q, eqb-true u t q) (replaced-same t tables filled room filled-long)
       go u h false q =
           rw (flag u, q) (replaced-other t tables filled room filled-long u (eqb-false u t q) (omega (arith, kept.long)) ∙ kept.block u h)
-
-  -- it is known, and what was known still is
-  pub known-now : get_or (set known t true) t false ≡ true
-  known-now = get_or-set_same known t true false (omega (arith, kept.flags))
-
-  pub known-still : (u : ℕ) → get_or known u false ≡ true → get_or (set known t true) u false ≡ true
-  known-still u so = get_d-stored known t true u false (omega (arith, kept.flags)) ∙ go (eqb u t)
-    where
-      go : (c : Bool) → cond c true (get_or known u false) ≡ true
-      go true = refl
-      go false = so
-
--- another bench over the same graph
-pub tables-same :
-    (b c : Bench) (costs tables : List ℕ) (known : List Bool) →
-    b.bridges ≡ c.bridges →
-    b.links ≡ c.links →
-    b.ends ≡ c.ends →
-    Tables b costs tables known →
-    Tables c costs tables known
-tables-same b c costs tables known one two three kept =
-    record { long = kept.long; flags = kept.flags; block = λ t low. kept.block t low ∙ rw (one, two, three) }
 
 pub below_or : (k y : ℕ) → k < y + 1 → (k < y) ⊎ (k ≡ y)
 below_or k y low = go (ltb k y) refl

@@ -9,8 +9,8 @@ use Rattle.distances.specs.View.{InRange}
 use Rattle.distances.specs.Table.{cell}
 use Rattle.agreement.specs.Offer.{link_of}
 use Rattle.agreement.specs.Forwarding.{is_up, port_of}
-use Rattle.agreement.specs.declared.Port.{Port}
-use Rattle.agreement.specs.declared.Port.TheVariants.{Closed, Open}
+use Rattle.agreement.specs.Forwarding.{Port}
+use Rattle.std.specs.Prelude.{None, Some}
 use Rattle.agreement.proofs.PortCong.{verdict-cong}
 use Rattle.protocol.specs.Net.{Network, Plan}
 use Rattle.protocol.specs.Ports.{Hop, stays, crosses, is_live, hop, own_distance}
@@ -98,7 +98,7 @@ module _ (s : State) (n : Network) (r : Represents s n) where
   -- ---- path
 
   -- a port is open on a link that there is, and a link is live in the one where it is in the other
-  port-link : (y d l : ℕ) → ports.forwarding_port n y d ≡ Open l → l < s.bench.links
+  port-link : (y d l : ℕ) → ports.forwarding_port n y d ≡ Some l → l < s.bench.links
   port-link y d l e =
       let by = port-forwards n y d l e in
       rw r.plan at (links by.0 by.1.chosen.listed by.1.link)
@@ -115,8 +115,8 @@ module _ (s : State) (n : Network) (r : Represents s n) where
   hop-same d hd y hy = rw (port-same y d hy hd) (go (ports.forwarding_port n y d) refl)
     where
       go : (p : Port) → ports.forwarding_port n y d ≡ p → ports.hop_by (network s).plan.graph (network s).records y p ≡ ports.hop_by n.plan.graph n.records y p
-      go Closed e = refl
-      go (Open l) e = rw (live_same l (port-link y d l e), r.plan)
+      go None e = refl
+      go (Some l) e = rw (live_same l (port-link y d l e), r.plan)
 
   hop-below : (d y l z : ℕ) → y < s.bench.bridges → hop n d y ≡ crosses l z → z < s.bench.bridges
   hop-below d y l z hy e =

@@ -9,7 +9,7 @@ use lib.ListN.{length}
 use lib.Dec.{ltb}
 use borrow.Author.Tests.{ltb-true, lt-ltb}
 use Rattle.distances.proofs.Booleans.{both_true, true-both, below}
-use Rattle.distances.proofs.Refusals.{refusal-next}
+use Rattle.distances.proofs.Checks.{refusal-next}
 use Rattle.protocol.specs.Net.{Network, Message, receiver}
 use Rattle.protocol.specs.Calls.{Call, Change, change, update, cut, restore, send, deliver, repeat, lose, port, verdict, report, path, Check, refusal, no_such_bridge, no_such_view, no_such_link, no_number_left, not_on_link, end_down, no_room, no_message, already, message_at, end_of, change_checks, checks, refuse}
 use Rattle.protocol.proofs.Links.{end_of-below}

@@ -16,7 +16,7 @@ use Rattle.agreement.specs.Limits.{with_limits}
 use Rattle.agreement.specs.Ranges.{is_view, record_in_range}
 use Rattle.agreement.specs.Call.{ViewData, lent_in_range, lent_offer, update_outcome, outcome}
 use Rattle.agreement.specs.declared.EndRecord.{EndRecord}
-use Rattle.agreement.proofs.Limits.{with_limits-length, cell_same, cell_other}
+use Rattle.agreement.proofs.LimitLaws.{with_limits-length, cell_same, cell_other}
 use Rattle.agreement.proofs.RecordLaws.{sent-updated-same, held-updated-same}
 use Rattle.agreement.proofs.InRange.{end-passes}
 use Rattle.agreement.proofs.Outcomes.{update-accepted}

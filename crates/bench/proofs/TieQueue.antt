@@ -101,6 +101,10 @@ module _ (d : ℕ) where
   sets-before [] l i k h = refl
   sets-before (a ∷ vs) l i k h = sets-before vs (set l i a) (suc i) k (omega arith) ∙ get_or-set_other l i k a d (omega arith)
 
+  pub sets-after : (vs l : List ℕ) (i k : ℕ) → i + length vs ≤ k → get_or (sets l i vs) k d ≡ get_or l k d
+  sets-after [] l i k h = refl
+  sets-after (a ∷ vs) l i k h = sets-after vs (set l i a) (suc i) k (omega arith) ∙ get_or-set_other l i k a d (omega arith)
+
   pub sets-within : (vs l : List ℕ) (i j : ℕ) → j < length vs → i + length vs ≤ length l → get_or (sets l i vs) (i + j) d ≡ get_or vs j d
   sets-within [] l i j h fits = absurd (not-suc-le-zero h)
   sets-within (a ∷ vs) l i zero h fits =

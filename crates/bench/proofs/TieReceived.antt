@@ -13,10 +13,9 @@ use Rattle.agreement.specs.Record.{fresh_record, answer, recorded, sent_delivere
 use Rattle.agreement.specs.Limits.{with_limits}
 use Rattle.agreement.specs.Ranges.{record_in_range, delivery_in_range}
 use Rattle.agreement.specs.Call.{ViewData, lent_offer, lent_end_in_range, deliver_outcome, outcome, says}
-use Rattle.agreement.specs.declared.Answer.{Answer}
 use Rattle.agreement.specs.declared.EndRecord.{EndRecord}
 use Rattle.agreement.proofs.Ends.{opposite-below}
-use Rattle.agreement.proofs.Limits.{with_limits-length}
+use Rattle.agreement.proofs.LimitLaws.{with_limits-length}
 use Rattle.agreement.proofs.RecordLaws.{recorded-by, sent-delivered-same, held-delivered-same}
 use Rattle.agreement.proofs.InRange.{view-passes, recorded-passes, end-passes, delivery-passes}
 use Rattle.agreement.proofs.Outcomes.{deliver-accepted}
@@ -24,7 +23,8 @@ use Rattle.protocol.specs.Net.{Network, Message, offer_in}
 use Rattle.protocol.specs.Calls as calls
 use Rattle.bench.specs.State.{State, state}
 use Rattle.bench.specs.Private.Views.{lent_view}
-use Rattle.bench.specs.Private.Deliveries.{bench_with_records, delivery_at}
+use Rattle.bench.specs.Private.Changes.{bench_with_records}
+use Rattle.bench.specs.Private.Deliveries.{delivery_at}
 use Rattle.bench.proofs.Represents.{Represents, Typed}
 use Rattle.bench.proofs.CallSteps.{with_delivered}
 use Rattle.bench.proofs.TieRanges.{StateReady, ready, few, are-bridges, lent-in-range, lent-offer-in, get_d-stored}
@@ -87,10 +87,6 @@ module _
       ≡ outcome (says (answer view old x.agreement)) new sent_now held_now
   outcome-is = deliver-accepted lent_there e s.sent s.held s.bench.views view old number x.agreement taken
 
-  pub received-says : (a : Answer) × ((delivery_at s e x.agreement).reply ≡ says a)
-  unfolding delivery_at
-  received-says = (answer view old x.agreement, rw outcome-is)
-
   abbrev after : State
   after = state (bench_with_records s.bench (set s.bench.records e new)) s.costs sent_now held_now s.messages
 
@@ -116,11 +112,6 @@ module _
         messages_long = before.messages_long;
         message = before.message;
       }
-
-  -- the state is still in range
-  pub received-kept : StateReady (with_delivered s (delivery_at s e x.agreement))
-  unfolding delivery_at
-  received-kept = rw outcome-is after-ready
 
   module _ (n : Network) (r : Represents s n) where
     -- a record afterwards

@@ -4,7 +4,7 @@ use mathlib.Core.Path.{◌≡◌, refl}
 use mathlib.Core.Bool.{Bool, true, false, cond}
 use lib.Dec.{eqb}
 use borrow.Author.Tests.{eqb-true}
-use Rattle.distances.proofs.Refusals.{First.here, first, later}
+use Rattle.distances.proofs.Checks.{First.here, first, later}
 use Rattle.protocol.specs.Net.{Network}
 use Rattle.protocol.specs.Calls.{Call, checks, refuse, accepted, act, step}
 use Rattle.bench.specs.State.{State}

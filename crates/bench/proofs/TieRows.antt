@@ -9,7 +9,7 @@ use lib.Dec.{eqb}
 use borrow.Author.Tests.{eqb-true, eqb-false}
 use Rattle.distances.specs.Table.{cell}
 use Rattle.agreement.specs.Limits.{with_limits}
-use Rattle.agreement.proofs.Limits.{cell_same, cell_other}
+use Rattle.agreement.proofs.LimitLaws.{cell_same, cell_other}
 
 -- a table in which the row of e is rewritten, against rows in which that of e is another: at any row
 pub row_at :

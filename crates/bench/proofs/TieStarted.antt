@@ -12,7 +12,7 @@ use Rattle.distances.specs.Table.{cell}
 use Rattle.agreement.specs.Limits.{with_limits}
 use Rattle.agreement.specs.Record.{fresh_record}
 use Rattle.agreement.specs.Call.{ViewData, lent_in_range, lent_offer, fresh_outcome, outcome}
-use Rattle.agreement.proofs.Limits.{with_limits-length, cell_same, cell_other}
+use Rattle.agreement.proofs.LimitLaws.{with_limits-length, cell_same, cell_other}
 use Rattle.agreement.proofs.InRange.{end-passes}
 use Rattle.agreement.proofs.Outcomes.{fresh-accepted}
 use Rattle.bench.specs.Private.Changes.{LimitTables, limit_tables, started_ends}

@@ -10,17 +10,13 @@ use Rattle.bench.specs.State.{State}
 use Rattle.bench.specs.Private.Views.{network_of}
 use Rattle.bench.specs.Private.Changes.{ChangeOutcome, change_outcome, update_of}
 use Rattle.bench.specs.Ranges.{network_in_range}
-use Rattle.bench.specs.Private.Effects.{moved_to}
-use Rattle.bench.proofs.EntryOutcomes.{turned_down, goes_on}
+use Rattle.bench.specs.Private.Changes.{moved_to}
+use Rattle.bench.proofs.EntryOutcomes.{goes_on}
 use Rattle.bench.proofs.ChangeEntry.{update_same}
 
 module _ (s : State) (y t k : ℕ) (ok : network_in_range s ≡ true) (is : k ≡ refuse (network_of s.bench []) (change (update y t))) where
   abbrev unmoved : ℕ → ChangeOutcome
   unmoved j = change_outcome j s.bench s.sent s.held
-
-  pub turns_down : (k ≡ 0 → ⊥) → unmoved k ≡ update_of s y t
-  unfolding update_of
-  turns_down some = turned_down _ _ _ unmoved _ ok _ (is ∙ update_same s _ _) some
 
   pub changes-nothing : k ≡ 0 → get_or s.bench.view y 0 ≡ t → unmoved 0 ≡ update_of s y t
   unfolding update_of

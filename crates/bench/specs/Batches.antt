@@ -1,5 +1,7 @@
 -- A list of events as calls, made one after the other up to the first that is refused or whose answer has no room. Assumes nothing.
-use Rattle.std.specs.Prelude.{ℕ, suc, ◌+◌, ◌*◌, ◌-◌, ◌<◌, ◌≡◌, Bool, true, cond, ◌&&◌, List, [], ◌∷◌, ◌++◌, length, take, drop, eqb, leb, ltb}
+use Rattle.std.specs.Prelude.{ℕ, suc, ◌+◌, ◌*◌, ◌-◌, ◌<◌, ◌≡◌, Bool, true, cond, ◌&&◌, List, [], ◌∷◌, ◌++◌, length, take, drop, eqb, ltb, Option, None, Some}
+use Rattle.distances.specs.declared.refusals.Refusal.{Refusal}
+use Rattle.distances.specs.Refusal.{number}
 use Rattle.agreement.specs.Record.{answer_numbers}
 use Rattle.protocol.specs.Net.{Network}
 use Rattle.protocol.specs.Calls.{Call, change, update, cut, restore, send, deliver, repeat, lose, report, path, answer_at}
@@ -26,7 +28,7 @@ call_of (Restore y l) = change (restore y l)
 call_of (Report d) = report d
 call_of (Path s d) = path s d
 
--- its number in document 01, 0 where it is accepted: 17 where the state is out of range, then the table's checks of the call
+-- its number in the table of refusals, 0 where it is accepted: 17 where the state is out of range, then the table's checks of the call
 unfoldable pub reply_of : State → Event → ℕ
 reply_of s e = refusal_of (state_in_range s) (network s) (call_of e)
 
@@ -59,61 +61,72 @@ unfoldable pub answer_sizes : ℕ → List Event → ℕ
 answer_sizes bridges [] = 0
 answer_sizes bridges (e ∷ es) = answer_size bridges e + answer_sizes bridges es
 
+-- why a list ends: all its events are made; the next one is refused, or the list itself is, by this number; the next one's answer has no room
+pub data Ending : Type 0 where
+  complete : Ending
+  refused_with : ℕ → Ending
+  out_of_room : Ending
+
+abbrev pub ending_of : Disposition → Ending
+ending_of Complete = complete
+ending_of (Refused r) = refused_with (number r)
+ending_of Full = out_of_room
+
+-- the refusal, where there is one
+abbrev pub refusal_in : Disposition → Option Refusal
+refusal_in Complete = None
+refusal_in (Refused r) = Some r
+refusal_in Full = None
+
 -- after a list of calls: how many were made, why it ended, the state, and the answers one behind the other
 pub record Batch : Type 0 where
   pub made : ℕ
-  pub disposition : Disposition
+  pub ending : Ending
   pub state : State
   pub answers : List ℕ
 
-abbrev pub batch : ℕ → Disposition → State → List ℕ → Batch
-batch made disposition s answers = record { made = made; disposition = disposition; state = s; answers = answers }
-
--- document 01's number of the event that was refused, 17 where the list itself was, 0 where it ended otherwise
-abbrev pub refusal_in : Disposition → ℕ
-refusal_in Complete = 0
-refusal_in (Refused k) = k
-refusal_in Full = 0
+abbrev pub batch : ℕ → Ending → State → List ℕ → Batch
+batch made ending s answers = record { made = made; ending = ending; state = s; answers = answers }
 
 -- one event: refused, it changes nothing
 unfoldable pub event_batch : State → Event → Batch
 event_batch s e =
-    or_refused (reply_of s e) (λ k. batch 0 (Refused k) s []) (batch 1 Complete (step_in s (call_of e)) (answers_of (network s) e))
+    or_refused (reply_of s e) (λ k. batch 0 (refused_with k) s []) (batch 1 complete (step_in s (call_of e)) (answers_of (network s) e))
 
 -- where its answer has room: without, the list ends before the event's own refusal is looked at
 unfoldable pub event_batch_in : ℕ → State → Event → Batch
-event_batch_in room s e = cond (ltb room (answer_size s.bench.bridges e)) (batch 0 Full s []) (event_batch s e)
+event_batch_in room s e = cond (ltb room (answer_size s.bench.bridges e)) (batch 0 out_of_room s []) (event_batch s e)
 
 -- one after the other, with room for so many numbers
 unfoldable pub batch_from : ℕ → State → List Event → Batch
-batch_from room s [] = batch 0 Complete s []
+batch_from room s [] = batch 0 complete s []
 batch_from room s (e ∷ es) =
     let first : Batch = event_batch_in room s e in
     let then : Batch = batch_from (room - length first.answers) first.state es in
-    cond (eqb first.made 0) first (batch (suc then.made) then.disposition then.state (first.answers ++ then.answers))
+    cond (eqb first.made 0) first (batch (suc then.made) then.ending then.state (first.answers ++ then.answers))
 
 -- the counts, why it ended, the state, and the lent numbers
 pub record BatchOutcome : Type 0 where
   pub made : ℕ
   pub answered : ℕ
-  pub disposition : Disposition
+  pub ending : Ending
   pub state : State
   pub answers : List ℕ
 
-abbrev pub batch_outcome : ℕ → ℕ → Disposition → State → List ℕ → BatchOutcome
-batch_outcome made answered disposition s answers =
-    record { made = made; answered = answered; disposition = disposition; state = s; answers = answers }
+abbrev pub batch_outcome : ℕ → ℕ → Ending → State → List ℕ → BatchOutcome
+batch_outcome made answered ending s answers =
+    record { made = made; answered = answered; ending = ending; state = s; answers = answers }
 
 -- the answers stand at the head of the lent numbers, and the others are as they were
 abbrev pub batch_outcome_of : Batch → List ℕ → BatchOutcome
 batch_outcome_of b answers =
-    batch_outcome b.made (length b.answers) b.disposition b.state (b.answers ++ drop (length b.answers) answers)
+    batch_outcome b.made (length b.answers) b.ending b.state (b.answers ++ drop (length b.answers) answers)
 
--- the first `count` of a list of events: 17 where the state is out of range or there are fewer, and then nothing is changed
-unfoldable pub batch_of : State → List Event → ℕ → List ℕ → BatchOutcome
-batch_of s events count answers =
-    cond (state_in_range s && leb count (length events)) (batch_outcome_of (batch_from (length answers) s (take count events)) answers)
-    (batch_outcome 0 0 (Refused 17) s answers)
+-- a list of events: 17 where the state is out of range, and then nothing is changed
+unfoldable pub batch_of : State → List Event → List ℕ → BatchOutcome
+batch_of s events answers =
+    cond (state_in_range s) (batch_outcome_of (batch_from (length answers) s events) answers)
+    (batch_outcome 0 0 (refused_with 17) s answers)
 
 -- the calls of so many events, in order
 unfoldable pub calls_of : List Event → List Call
@@ -130,10 +143,10 @@ answers_by s [] = []
 answers_by s (e ∷ es) = answers_of (network s) e ++ answers_by (left_by s (call_of e)) es
 
 -- why a list ends where it does: there are no more events; the next is refused, and by which number; its answer has no room
-abbrev pub Ended : ℕ → List Event → Batch → Disposition → Type 0
-Ended room es b Complete = b.made ≡ length es
-Ended room es b (Refused k) = (e : Event) × (more : List Event) × (drop b.made es ≡ e ∷ more) × (reply_of b.state e ≡ k) × (k ≡ 0 → ⊥)
-Ended room es b Full = (e : Event) × (more : List Event) × (drop b.made es ≡ e ∷ more) × (room < length b.answers + answer_size b.state.bench.bridges e)
+abbrev pub Ended : ℕ → List Event → Batch → Ending → Type 0
+Ended room es b complete = b.made ≡ length es
+Ended room es b (refused_with k) = (e : Event) × (more : List Event) × (drop b.made es ≡ e ∷ more) × (reply_of b.state e ≡ k) × (k ≡ 0 → ⊥)
+Ended room es b out_of_room = (e : Event) × (more : List Event) × (drop b.made es ≡ e ∷ more) × (room < length b.answers + answer_size b.state.bench.bridges e)
 
 -- what becomes of a list: the events that it makes are accepted, its state is that after their calls, in that order (so what is said of lists
 -- of calls is said of it), its answers are theirs, and it ends for a reason
@@ -142,7 +155,7 @@ pub record IsRun (room : ℕ) (s : State) (es : List Event) (b : Batch) : Type 0
   pub state : b.state ≡ run_in s (calls_of (take b.made es))
   pub answers : b.answers ≡ answers_by s (take b.made es)
   pub sizes : length b.answers ≡ answer_sizes s.bench.bridges (take b.made es)
-  pub ended : Ended room es b b.disposition
+  pub ended : Ended room es b b.ending
 
 abbrev pub BatchesAreRuns : Type 0
 BatchesAreRuns = (room : ℕ) (s : State) (es : List Event) → IsRun room s es (batch_from room s es)

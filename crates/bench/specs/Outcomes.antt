@@ -2,9 +2,6 @@
 use Rattle.std.specs.Prelude.{ℕ, zero, suc, ◌≡◌, Bool, false, cond, ◌&&◌, not, List, [], ◌∷◌, ◌++◌, length, drop, replicate, eqb, leb}
 use Rattle.agreement.specs.Call.{Response, says}
 use Rattle.agreement.specs.Record.{fresh_record}
-use Rattle.agreement.specs.declared.Answer.{Answer}
-use Rattle.agreement.specs.declared.Port.{Port}
-use Rattle.agreement.specs.declared.Verdict.{Verdict}
 use Rattle.encoding.specs.Numbers.{link_number}
 use Rattle.protocol.specs.Net.{Network, fresh}
 use Rattle.protocol.specs.Calls.{Call, change, update, cut, restore, send, deliver, repeat, lose, port, verdict, report, path, refusal, checks}
@@ -14,38 +11,17 @@ use Rattle.bench.specs.State.{State, state, network}
 use Rattle.bench.specs.Ranges.{graph_in_range, bench_in_range, costs_in_range, limits_long, messages_in_range, network_in_range, state_in_range}
 use Rattle.bench.specs.Standing.{standing, step_in}
 use Rattle.bench.specs.declared.Bench.{Bench}
-use Rattle.bench.specs.declared.Reply.{Reply}
-use Rattle.bench.specs.declared.Reaction.{Reaction}
-use Rattle.bench.specs.declared.Forwarding.{Forwarding}
-use Rattle.bench.specs.declared.VerdictReply.{VerdictReply}
-use Rattle.bench.specs.declared.PathReply.{PathReply}
+use Rattle.bench.specs.declared.Path.{Path}
 
--- ---- replies as document 01 has them: the number, and the value where the call is accepted
+-- ---- replies: the number of a refusal, and the value where the call is accepted
 
 abbrev pub refused_by : {A : Type 0} → ℕ → Response A
 refused_by k = record { number = k; value = [] }
 
--- a call that is accepted with nothing to tell
-abbrev pub done_response : Reply → Response (Unit {0})
-done_response (Reply.Refused k) = refused_by k
-done_response Reply.Done = says tt
-
-abbrev pub reaction_response : Reaction → Response Answer
-reaction_response (Reaction.Refused k) = refused_by k
-reaction_response (Reaction.Answered a) = says a
-
-abbrev pub forwarding_response : Forwarding → Response Port
-forwarding_response (Forwarding.Refused k) = refused_by k
-forwarding_response (Forwarding.Found p) = says p
-
-abbrev pub verdict_response : VerdictReply → Response Verdict
-verdict_response (VerdictReply.Refused k) = refused_by k
-verdict_response (VerdictReply.Found v) = says v
-
-abbrev pub path_response : PathReply → Response paths.PathResult
-path_response (PathReply.Refused k) = refused_by k
-path_response (PathReply.Delivered h) = says (paths.delivered h)
-path_response (PathReply.Stops last h) = says (paths.stops last h)
+-- a path that is found, in the protocol's words
+abbrev pub path_told : Path → paths.PathResult
+path_told (Path.Delivered h) = paths.delivered h
+path_told (Path.Stops last h) = paths.stops last h
 
 -- ---- every call but `fresh`
 
@@ -71,7 +47,7 @@ refusal_of ready n c = refusal (record { when = not ready; number = 17 } ∷ che
 abbrev pub or_refused : {A : Type 0} → ℕ → (ℕ → A) → A → A
 or_refused k refused done = cond (eqb k 0) done (refused k)
 
--- the reply: 17 where what the call is handed is out of range, else document 01's number for it on the network, else its value there
+-- the reply: 17 where what the call is handed is out of range, else its number in the table of refusals on the network, else its value there
 unfoldable pub reply_to : {A : Type 0} → Bool → Network → Call → A → Response A
 reply_to ready n c value = or_refused (refusal_of ready n c) refused_by (says value)
 

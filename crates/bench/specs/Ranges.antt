@@ -1,4 +1,4 @@
--- Document 01's ranges of a bench and of what is lent beside it: 17 where one of these fails. Assumes nothing.
+-- The ranges of a bench and of what is lent beside it: 17 where one of these fails. Assumes nothing.
 use Rattle.std.specs.Prelude.{ℕ, ◌+◌, ◌*◌, Bool, ◌&&◌, List, length, get_or, leb, ltb}
 use Rattle.distances.specs.Call.{graph_passes, costs_pass, all_below}
 use Rattle.agreement.specs.Ranges.{records_in_range}

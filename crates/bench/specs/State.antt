@@ -1,9 +1,11 @@
 -- What a caller lends and hands over, and the network that stands in it. Assumes nothing.
-use Rattle.std.specs.Prelude.{ℕ, zero, suc, ◌+◌, ◌*◌, List, [], ◌∷◌, get_or, take, drop}
+use Rattle.std.specs.Prelude.{ℕ, zero, suc, ◌+◌, ◌*◌, ◌≡◌, List, [], ◌∷◌, get_or, take, drop}
 use Rattle.distances.specs.View.{graph_of, costs_of}
-use Rattle.agreement.specs.Call.{lent_records}
+use Rattle.agreement.specs.Call.{lent_records, SameTables}
 use Rattle.protocol.specs.Net.{Network, Message}
 use Rattle.bench.specs.declared.Bench.{Bench}
+use Rattle.bench.specs.declared.Lent.{Lent}
+use Rattle.bench.specs.declared.LentMut.{LentMut}
 
 -- the lent buffers, beside the bench itself: a row of 32 costs for each view, the two limit tables, and 5 numbers for each message in
 -- flight
@@ -17,6 +19,18 @@ pub record State : Type 0 where
 abbrev pub state : Bench → List ℕ → List ℕ → List ℕ → List ℕ → State
 state bench costs sent held messages =
     record { bench = bench; costs = costs; sent = sent; held = held; messages = messages }
+
+-- a network as it is lent, with the messages
+abbrev pub lent_state : Lent → List ℕ → State
+lent_state net messages = state net.bench.now net.costs.now net.limits.sent.now net.limits.held.now messages
+
+-- and as it is lent to be changed
+abbrev pub state_of : LentMut → List ℕ → State
+state_of net messages = state net.bench.now net.costs.now net.limits.now.sent.now net.limits.now.held.now messages
+
+-- the caller's bench and limit tables are the ones that it lent, so that it learns what they hold afterwards
+abbrev pub SameReferences : LentMut → LentMut → Type 0
+SameReferences before after = (after.bench.ghost_name ≡ before.bench.ghost_name) × (after.limits.ghost_name ≡ before.limits.ghost_name) × SameTables before.limits.now after.limits.now
 
 -- part k of a list that is cut into parts of a width
 abbrev pub part : ℕ → ℕ → List ℕ → List ℕ

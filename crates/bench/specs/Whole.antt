@@ -40,7 +40,7 @@ pub record Meets (s : State) (p : Plan) (cs : List Call) : Type 0 where
   pub holds : Holds p cs
   pub stands : Stands s (run (fresh p) cs)
   pub replies : Replies s (run (fresh p) cs)
-  -- and the limits that stand in it are those that document 01 defines, by the views that the calls tell
+  -- and the limits that stand in it are those that the protocol defines, by the views that the calls tell
   pub limits : (e d : ℕ) → e < 2 * p.graph.links → d < p.graph.bridges → Limits p (network s).records e d (views_run (fresh p) e fresh_views cs)
 
 -- whoever calls `fresh`, with room for 64 messages beside it, and it is accepted, and then makes any calls

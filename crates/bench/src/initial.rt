@@ -1,58 +1,34 @@
 // The parts of a fresh network.
 ghost use Rattle.std.specs.Prelude.{◌≡◌, ◌*◌, ◌≤◌};
-ghost use Rattle.agreement.specs.Call.{view_data};
+ghost use Rattle.agreement.specs.Call.{lent, SameTables};
 ghost use Rattle.bench.specs.Private.Changes.{limit_tables, started_ends};
 ghost use Rattle.bench.specs.Outcomes.{blank};
 
 use crate::Bench;
+use agreement::calls::start_end;
 use agreement::sizes::ENDS;
+use agreement::{LimitsMut, View};
 use distances::sizes::MOST_BRIDGES;
 
-pub(crate) fn start_ends(
-    bench: Bench,
-    costs: &[u32],
-    table: &[u32],
-    sent: &mut [u32],
-    held: &mut [u32],
-)
-    requires { bench.links ≤ 32 }
-    ensures { limit_tables sent.new held.new ≡ started_ends (view_data bench.bridges bench.links bench.ends costs.now table.now) (2 * bench.links) (limit_tables sent.old held.old) }
+// The limits of each end, from a view's offers.
+pub(crate) fn start_ends(view: &View, limits: &mut LimitsMut)
+    requires { view.now.graph.links ≤ 32 }
+    ensures limits { limit_tables limits.new.sent.now limits.new.held.now ≡ started_ends (lent view.now) (2 * view.now.graph.links) (limit_tables limits.old.sent.now limits.old.held.now) }
+    ensures same_tables { SameTables limits.old limits.new }
 {
-    let places = bench.ends;
-    let mut e = 0;
-    while e < 2 * bench.links {
-        agreement::calls::start_end(
-            bench.bridges,
-            bench.links,
-            &places,
-            costs,
-            table,
-            e,
-            sent,
-            held,
-        );
-        e += 1;
+    for e in 0..2 * view.graph.links {
+        // what is in range is not refused
+        let _ = start_end(view, e, limits);
     }
 }
 
-pub(crate) fn fresh_bench(bench: Bench) -> Bench
-    ensures { result ≡ blank bench }
+// All but the counts and the ends starts anew.
+pub(crate) fn clear(bench: &mut Bench)
+    ensures { bench.new ≡ blank bench.old }
 {
-    let ends = bench.ends;
-    let view = [0u8; MOST_BRIDGES];
-    let number = [1u16; MOST_BRIDGES];
-    let record = agreement::calls::fresh_record();
-    let records = [record; ENDS];
-    let down = [false; ENDS];
-    Bench {
-        bridges: bench.bridges,
-        links: bench.links,
-        views: bench.views,
-        messages: 0,
-        ends,
-        view,
-        number,
-        records,
-        down,
-    }
+    bench.messages = 0;
+    bench.view = [0; MOST_BRIDGES];
+    bench.number = [1; MOST_BRIDGES];
+    bench.records = [agreement::calls::fresh_record(); ENDS];
+    bench.down = [false; ENDS];
 }

@@ -1,28 +1,31 @@
-// Layer 3: the network bench, with messages in flight. A caller keeps a `Bench` by value and lends the buffers beside it: costs
-// (view t, link l at 32 t + l), two limit tables (a row of 16 for each end), and the messages (five numbers for each). The views'
-// distances follow from the costs: a call computes those that it uses.
+// Layer 3: the network bench, with messages in flight. A caller keeps a `Bench` and lends it with the buffers beside it: costs (view t,
+// link l at 32 t + l), two limit tables (a row of 16 for each end), and the messages (five numbers for each). The views' distances
+// follow from the costs: a call computes those that it uses.
 #![tactic(auto)]
 
-use agreement::{Answer, EndRecord, Port, Verdict};
+ghost use Rattle.std.specs.Prelude.{◌≡◌, ℕ, List};
+ghost use Rattle.bench.specs.State.{lent_state, state_of};
+
+use agreement::{EndRecord, Limits, LimitsMut};
+use distances::{Graph, Refusal};
 
 pub mod answers;
 pub mod batches;
 pub mod changes;
 mod deliveries;
-mod effects;
 mod initial;
 pub mod messages;
 mod ports;
 mod queue;
 mod ready;
 mod refusals;
-mod replies;
 pub mod sizes;
 mod tables;
 mod updates;
 
 // Link l joins ends[2 l] and ends[2 l + 1]; `messages` is how many are in flight; `view` and `number` are each bridge's view and agreement
 // number; `records` and `down` are each end's record and whether it is down.
+// The messages stand in a lent buffer with their count here: the C interface lends them so, and nothing is allocated.
 #[derive(Clone, Copy)]
 pub struct Bench {
     pub bridges: usize,
@@ -34,6 +37,49 @@ pub struct Bench {
     pub number: [u16; 16],
     pub records: [EndRecord; 64],
     pub down: [bool; 64],
+}
+
+impl Bench {
+    pub(crate) fn graph(&self) -> Graph<'_>
+        ensures bridges { result.bridges ≡ self.now.bridges }
+        ensures links { result.links ≡ self.now.links }
+        ensures ends { result.ends.now ≡ self.now.ends }
+    {
+        Graph {
+            bridges: self.bridges,
+            links: self.links,
+            ends: &self.ends,
+        }
+    }
+}
+
+// A network as a call that asks is lent it.
+#[derive(Clone, Copy)]
+pub struct Lent<'a> {
+    pub bench: &'a Bench,
+    pub costs: &'a [u32],
+    pub limits: Limits<'a>,
+}
+
+// And as one is that changes it.
+#[derive(Drop)]
+pub struct LentMut<'a, 'l> {
+    pub bench: &'a mut Bench,
+    pub costs: &'a [u32],
+    pub limits: &'a mut LimitsMut<'l>,
+}
+
+impl LentMut<'_, '_> {
+    // The same network, to be read.
+    pub fn shared(&self) -> Lent<'_>
+        ensures { (messages : List ℕ) → lent_state result messages ≡ state_of self.now messages }
+    {
+        Lent {
+            bench: self.bench,
+            costs: self.costs,
+            limits: self.limits.shared(),
+        }
+    }
 }
 
 // An event of a plan is one call, with its numbers.
@@ -50,63 +96,19 @@ pub enum Event {
     Path(u8, u8),
 }
 
-// Refused holds document 01's number, which is not 0.
+// The path of a frame: it is delivered after so many hops, or it stops at a bridge after so many.
 #[derive(Clone, Copy)]
-pub enum Reply {
-    Refused(u8),
-    Done,
-}
-
-#[derive(Clone, Copy)]
-pub enum Reaction {
-    Refused(u8),
-    Answered(Answer),
-}
-
-#[derive(Clone, Copy)]
-pub enum Forwarding {
-    Refused(u8),
-    Found(Port),
-}
-
-#[derive(Clone, Copy)]
-pub enum VerdictReply {
-    Refused(u8),
-    Found(Verdict),
-}
-
-#[derive(Clone, Copy)]
-pub enum PathReply {
-    Refused(u8),
+pub enum Path {
     Delivered(usize),
     Stops(usize, usize),
 }
 
-// Where a frame goes from a bridge: it crosses no link, or it crosses one to another bridge.
-#[derive(Clone, Copy)]
-pub enum Hop {
-    Stays,
-    Crosses(usize, usize),
-}
-
-// The bench after a call, beside the reply.
-#[derive(Clone, Copy)]
-pub struct Changed {
-    pub reply: Reply,
-    pub bench: Bench,
-}
-
-#[derive(Clone, Copy)]
-pub struct DeliveryResult {
-    pub reply: Reaction,
-    pub bench: Bench,
-}
-
-// Why a list of events ended: all were made; document 01's number for the next one, or 17 for the list itself; the next one's answer has no room.
+// Why a list of events ended: all were made; the next one is refused, or the list itself is; the next one's answer has no room.
+// No Result, which would be no plainer: to end before the last event is no failure of the call, and what was made stays made.
 #[derive(Clone, Copy)]
 pub enum Disposition {
     Complete,
-    Refused(u8),
+    Refused(Refusal),
     Full,
 }
 
@@ -114,7 +116,6 @@ pub enum Disposition {
 #[derive(Clone, Copy)]
 pub struct BatchResult {
     pub disposition: Disposition,
-    pub bench: Bench,
     pub made: usize,
     pub answered: usize,
 }

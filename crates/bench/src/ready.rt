@@ -1,50 +1,55 @@
-// The entry checks: document 01's ranges of a bench and of what is lent beside it.
-ghost use Rattle.std.specs.Prelude.{◌≡◌, ◌&&◌, ◌≤◌, length, get_or, ltb};
-ghost use Rattle.distances.specs.Call.{costs_pass, all_below};
-ghost use Rattle.bench.specs.State.{part};
-ghost use Rattle.bench.specs.Ranges.{graph_in_range, bench_in_range, costs_in_range, limits_long, message_passes, messages_in_range, parts_in_range};
+// The entry checks: the ranges of a bench and of what is lent beside it.
+ghost use Rattle.std.specs.Prelude.{◌≡◌, [], ◌+◌, ◌*◌, ◌≤◌, ◌<◌, length, get_or, ltb};
+ghost use Rattle.distances.specs.Call.{all_below, costs_pass};
+ghost use Rattle.bench.specs.State.{part, lent_state};
+ghost use Rattle.bench.specs.Ranges.{graph_in_range, bench_in_range, costs_in_range, limits_long, message_in_range, messages_in_range, network_in_range, state_in_range};
+ghost use Rattle.bench.specs.Outcomes.{plan_ready};
+ghost use Rattle.bench.specs.Private.Types.{Typed};
 
-use crate::Bench;
 use crate::sizes::{COST_ROW, COSTS, MESSAGE, MESSAGES, MOST_MESSAGES};
+use crate::{Bench, Lent};
+use agreement::Limits;
 use agreement::sizes::{LIMITS, NUMBERS};
-use distances::ready::both;
 use distances::sizes::MOST_VIEWS;
 
-pub(crate) fn graph_in_range(bench: Bench) -> bool
-    ensures { result ≡ graph_in_range bench }
+// What the types of a bench tell. Nothing is done: a proof that holds a bench behind a reference learns it here.
+pub(crate) fn typed(bench: &Bench)
+    ensures { Typed bench.now }
 {
-    let ends = bench.ends;
-    let listed = distances::ready::graph_passes(bench.bridges, bench.links, &ends);
-    both(1 <= bench.views, both(bench.views <= MOST_VIEWS, listed))
+    typed_value(*bench)
 }
 
-fn views_in_range(bench: Bench) -> bool
-    requires { bench.bridges ≤ 16 }
-    ensures { result ≡ all_below bench.bridges (λ y. ltb (get_or bench.view y 0) bench.views) }
+fn typed_value(_bench: Bench)
+    ensures { Typed _bench }
+{}
+
+#[tactic(auto, unfolding(crate::specs::Ranges::graph_in_range))]
+fn graph_in_range(bench: &Bench) -> bool
+    ensures { result ≡ graph_in_range bench.now }
+{
+    1 <= bench.views && bench.views <= MOST_VIEWS && distances::ready::graph_passes(&bench.graph())
+}
+
+#[tactic(auto, using(agreement::proofs::Basics::all_more), unfolding(distances::specs::Call::all_below))]
+fn views_in_range(bench: &Bench) -> bool
+    requires { bench.now.bridges ≤ 16 }
+    ensures { result ≡ all_below bench.now.bridges (λ y. ltb (get_or bench.now.view y 0) bench.now.views) }
 {
     let mut ok = true;
-    let mut y = 0;
-    while y < bench.bridges {
-        let t = bench.view[y] as usize;
-        ok = both(ok, t < bench.views);
-        y += 1;
+    for y in 0..bench.bridges {
+        ok &= (bench.view[y] as usize) < bench.views;
     }
     ok
 }
 
-pub(crate) fn bench_in_range(bench: Bench) -> bool
-    ensures { result ≡ bench_in_range bench }
+#[tactic(auto, using(crate::proofs::Counts::graph_bridges), unfolding(crate::specs::Ranges::bench_in_range))]
+pub(crate) fn bench_in_range(bench: &Bench) -> bool
+    ensures { result ≡ bench_in_range bench.now }
 {
-    if graph_in_range(bench) {
-        let records = bench.records;
-        let known = agreement::ready::records_in_range(bench.views, bench.links, records);
-        both(
-            bench.messages <= MOST_MESSAGES,
-            both(views_in_range(bench), known),
-        )
-    } else {
-        false
-    }
+    graph_in_range(bench)
+        && bench.messages <= MOST_MESSAGES
+        && views_in_range(bench)
+        && agreement::ready::records_in_range(bench.views, bench.links, &bench.records)
 }
 
 fn row_in_range(links: usize, costs: &[u32], t: usize) -> bool
@@ -52,115 +57,79 @@ fn row_in_range(links: usize, costs: &[u32], t: usize) -> bool
     ensures { result ≡ costs_pass links (part 32 t costs.now) }
 {
     let first = COST_ROW * t;
-    let past = first + COST_ROW;
-    distances::ready::costs_pass(links, &costs[first..past])
+    distances::ready::costs_pass(links, &costs[first..first + COST_ROW])
 }
 
-fn costs_in_range(bench: Bench, costs: &[u32]) -> bool
-    requires { bench.views ≤ 32 }
-    ensures { result ≡ costs_in_range bench costs.now }
+#[tactic(auto, using(agreement::proofs::Basics::all_more), unfolding(distances::specs::Call::all_below, crate::specs::Ranges::costs_in_range))]
+fn costs_in_range(bench: &Bench, costs: &[u32]) -> bool
+    requires { bench.now.views ≤ 32 }
+    ensures { result ≡ costs_in_range bench.now costs.now }
 {
     if costs.len() < COSTS {
         return false;
     }
     let mut ok = true;
-    let mut t = 0;
-    while t < bench.views {
-        ok = both(ok, row_in_range(bench.links, costs, t));
-        t += 1;
+    for t in 0..bench.views {
+        ok &= row_in_range(bench.links, costs, t);
     }
     ok
 }
 
-fn limits_long(sent: usize, held: usize) -> bool
-    ensures { result ≡ limits_long sent held }
+#[tactic(auto, unfolding(crate::specs::Ranges::limits_long))]
+fn limits_long(limits: &Limits) -> bool
+    ensures { result ≡ limits_long (length limits.now.sent.now) (length limits.now.held.now) }
 {
-    both(LIMITS <= sent, LIMITS <= held)
+    LIMITS <= limits.sent.len() && LIMITS <= limits.held.len()
 }
 
-pub(crate) fn plan_in_range(bench: Bench, costs: &[u32], sent: usize, held: usize) -> bool
-    ensures { result ≡ (graph_in_range bench && (costs_in_range bench costs.now && limits_long sent held)) }
+// What `fresh` is lent.
+#[tactic(auto, using(crate::proofs::Counts::graph_views))]
+pub(crate) fn plan_in_range(net: &Lent) -> bool
+    ensures { result ≡ plan_ready (lent_state net.now []) }
 {
-    if graph_in_range(bench) {
-        both(costs_in_range(bench, costs), limits_long(sent, held))
-    } else {
-        false
-    }
+    graph_in_range(net.bench) && costs_in_range(net.bench, net.costs) && limits_long(&net.limits)
 }
 
-pub(crate) fn network_in_range(bench: Bench, costs: &[u32], sent: usize, held: usize) -> bool
-    ensures { result ≡ parts_in_range bench costs.now sent held }
+#[tactic(auto, using(crate::proofs::Counts::bench_views), unfolding(crate::specs::Ranges::parts_in_range))]
+pub(crate) fn network_in_range(net: &Lent) -> bool
+    ensures { result ≡ network_in_range (lent_state net.now []) }
 {
-    if bench_in_range(bench) {
-        both(costs_in_range(bench, costs), limits_long(sent, held))
-    } else {
-        false
-    }
+    bench_in_range(net.bench) && costs_in_range(net.bench, net.costs) && limits_long(&net.limits)
 }
 
-fn message_passes(
-    links: usize,
-    views: usize,
-    link: u32,
-    direction: u32,
-    view: u32,
-    number: u32,
-    discarded: u32,
-) -> bool
-    ensures { result ≡ message_passes links views link direction view number discarded }
+#[tactic(auto, unfolding(crate::specs::Ranges::message_passes))]
+fn message_in_range(bench: &Bench, messages: &[u32], place: usize) -> bool
+    requires { (place < 64) × (320 ≤ length messages.now) }
+    ensures { result ≡ message_in_range bench.now messages.now place }
 {
-    let l = link as usize;
-    let t = view as usize;
-    both(
-        l < links,
-        both(
-            direction < 2,
-            both(t < views, both(number < NUMBERS, discarded < NUMBERS)),
-        ),
-    )
+    let at = MESSAGE * place;
+    (messages[at] as usize) < bench.links
+        && messages[at + 1] < 2
+        && (messages[at + 2] as usize) < bench.views
+        && messages[at + 3] < NUMBERS
+        && messages[at + 4] < NUMBERS
 }
 
-pub(crate) fn messages_in_range(bench: Bench, messages: &[u32]) -> bool
-    requires { bench.messages ≤ 64 }
-    ensures { result ≡ messages_in_range bench messages.now }
+// A loop of its own beside that of `costs_in_range`: the test of each place is another, and to hand it over as a closure is no plainer.
+#[tactic(auto, using(agreement::proofs::Basics::all_more), unfolding(distances::specs::Call::all_below, crate::specs::Ranges::messages_in_range))]
+pub(crate) fn messages_in_range(bench: &Bench, messages: &[u32]) -> bool
+    requires { bench.now.messages ≤ 64 }
+    ensures { result ≡ messages_in_range bench.now messages.now }
 {
     if messages.len() < MESSAGES {
         return false;
     }
     let mut ok = true;
-    let mut k = 0;
-    while k < bench.messages {
-        let at = MESSAGE * k;
-        ok = both(
-            ok,
-            message_passes(
-                bench.links,
-                bench.views,
-                messages[at],
-                messages[at + 1],
-                messages[at + 2],
-                messages[at + 3],
-                messages[at + 4],
-            ),
-        );
-        k += 1;
+    for place in 0..bench.messages {
+        ok &= message_in_range(bench, messages, place);
     }
     ok
 }
 
-// What a delivery is handed.
-pub(crate) fn delivery_in_range(
-    bench: Bench,
-    costs: &[u32],
-    sent: usize,
-    held: usize,
-    messages: &[u32],
-) -> bool
-    ensures { result ≡ (parts_in_range bench costs.now sent held && messages_in_range bench messages.now) }
+// What a delivery is lent.
+#[tactic(auto, using(crate::proofs::Counts::parts_messages))]
+pub(crate) fn delivery_in_range(net: &Lent, messages: &[u32]) -> bool
+    ensures { result ≡ state_in_range (lent_state net.now messages.now) }
 {
-    if network_in_range(bench, costs, sent, held) {
-        messages_in_range(bench, messages)
-    } else {
-        false
-    }
+    network_in_range(net) && messages_in_range(net.bench, messages)
 }

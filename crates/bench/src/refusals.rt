@@ -1,159 +1,125 @@
-// What turns a call down, by document 01's table and document 02's Changes 1 and 2, once the ranges are checked: its number, 0 where nothing does. Each takes the numbers that
-// it looks at, of a bench that has them.
-ghost use Rattle.std.specs.Prelude.{◌≡◌, cond, not, List, [], ◌∷◌, ◌≤◌, ◌<◌, length};
-ghost use Rattle.protocol.specs.Calls.{Check, change, update, send, deliver, lose, verdict, report, refusal, refuse, no_such_bridge, no_such_link, not_on_link};
-ghost use Rattle.bench.specs.Outcomes.{or_refused};
-ghost use Rattle.bench.specs.Private.Changes.{switch};
-ghost use Rattle.bench.specs.Private.Effects.{LinkFits};
-ghost use Rattle.bench.specs.Private.Views.{network_of};
-ghost use Rattle.bench.specs.declared.Bench.{Bench};
+// What turns a call down, by the table of refusals (docs/PROTOCOL.md), once the ranges are checked.
+#![tactic(auto, unfolding(distances::specs::Refusal::refusal, protocol::specs::Calls::refuse, protocol::specs::Calls::checks, protocol::specs::Calls::change_checks, protocol::specs::Calls::no_such_bridge, protocol::specs::Calls::no_such_view, protocol::specs::Calls::no_such_link, protocol::specs::Calls::no_number_left, protocol::specs::Calls::not_on_link, protocol::specs::Calls::already))]
 
+ghost use Rattle.std.specs.Prelude.{◌≡◌, List, [], ◌∷◌, ◌*◌, ◌≤◌, ◌<◌, length, IfOk};
+ghost use Rattle.distances.specs.Refusal.{Check, refusal, reply_number};
+ghost use Rattle.protocol.specs.Calls.{change, update, send, deliver, lose, verdict, report, refuse, no_such_bridge, no_such_link, not_on_link};
+ghost use Rattle.bench.specs.Outcomes.{or_refused};
+ghost use Rattle.bench.specs.Private.Changes.{switch, IsOwnEnd};
+ghost use Rattle.bench.specs.Private.Deliveries.{LinkFits, arrival_end};
+ghost use Rattle.bench.specs.Private.Views.{network_of};
+
+use crate::Bench;
 use crate::queue::{arrival_end, end_of};
 use crate::sizes::MOST_MESSAGES;
 use agreement::ready::numbers_used_up;
-use distances::ready::both;
+use distances::Refusal;
 
-pub(crate) fn update_refusal(
-    bridges: usize,
-    views: usize,
-    view: [u8; 16],
-    number: [u16; 16],
-    bridge: usize,
-    to: usize,
-) -> u8
-    requires { bridges ≤ 16 }
-    ensures { (b : Bench) → b.bridges ≡ bridges → b.views ≡ views → b.view ≡ view → b.number ≡ number → result ≡ refuse (network_of b []) (change (update bridge to)) }
+pub(crate) fn update(bench: &Bench, bridge: usize, to: usize) -> Result<(), Refusal>
+    requires { bench.now.bridges ≤ 16 }
+    ensures { reply_number result ≡ refuse (network_of bench.now []) (change (update bridge to)) }
 {
-    if bridges <= bridge {
-        return 10;
+    if bench.bridges <= bridge || bench.views <= to {
+        return Err(Refusal::NotThere);
     }
-    if views <= to {
-        return 10;
+    if numbers_used_up(bench.number[bridge], bench.view[bridge] as usize, to) {
+        return Err(Refusal::NumbersUsedUp);
     }
-    let last = number[bridge];
-    let present = view[bridge] as usize;
-    if numbers_used_up(last, present, to) {
-        return 16;
-    }
-    0
+    Ok(())
 }
 
-// Of the end that a send, a cut or a restore names, ahead of its other checks: no such bridge or link, or the bridge is not on the link.
-fn end_refusal(bridges: usize, links: usize, ends: [u8; 64], bridge: usize, link: usize) -> u8
-    requires { links ≤ 32 }
-    ensures rest_value { (b : Bench) → b.bridges ≡ bridges → b.links ≡ links → b.ends ≡ ends → (rest : List Check) → or_refused result (λ k. k) (refusal rest) ≡ refusal (no_such_bridge (network_of b []) bridge ∷ no_such_link (network_of b []) link ∷ not_on_link (network_of b []) bridge link ∷ rest) }
-    ensures link_lt_links { result ≡ 0 → link < links }
+// The end that a send, a cut or a restore names: no such bridge or link, or the bridge is not on the link.
+fn own_end(bench: &Bench, bridge: usize, link: usize) -> Result<usize, Refusal>
+    requires { (bench.now.bridges ≤ 16) × (bench.now.links ≤ 32) }
+    ensures first { (rest : List Check) → or_refused (reply_number result) (λ k. k) (refusal rest) ≡ refusal (no_such_bridge (network_of bench.now []) bridge ∷ no_such_link (network_of bench.now []) link ∷ not_on_link (network_of bench.now []) bridge link ∷ rest) }
+    ensures end { IfOk result (IsOwnEnd bench.now bridge link) }
 {
-    if bridges <= bridge {
-        return 10;
+    if bench.bridges <= bridge || bench.links <= link {
+        return Err(Refusal::NotThere);
     }
-    if links <= link {
-        return 10;
+    let near = bench.ends[2 * link] as usize;
+    let far = bench.ends[2 * link + 1] as usize;
+    if near != bridge && far != bridge {
+        return Err(Refusal::NotOnLink);
     }
-    let first = 2 * link;
-    let near = ends[first] as usize;
-    let far = ends[first + 1] as usize;
-    if both(near != bridge, far != bridge) {
-        return 11;
-    }
-    0
+    Ok(end_of(bench, bridge, link))
 }
 
-// An end with this flag is down, or up, already.
-fn already(flag: bool, down: bool) -> bool
-    ensures { result ≡ cond down flag (not flag) }
-{
-    if down { flag } else { !flag }
-}
-
-// A cut, by which the end goes down, or a restore.
-pub(crate) fn switch_refusal(
-    bridges: usize,
-    links: usize,
-    ends: [u8; 64],
-    flags: [bool; 64],
+// A cut, by which the end goes down, or a restore: else which end it is.
+pub(crate) fn switch(
+    bench: &Bench,
     bridge: usize,
     link: usize,
     down: bool,
-) -> u8
-    requires { links ≤ 32 }
-    ensures { (b : Bench) → b.bridges ≡ bridges → b.links ≡ links → b.ends ≡ ends → b.down ≡ flags → result ≡ refuse (network_of b []) (change (switch down bridge link)) }
+) -> Result<usize, Refusal>
+    requires { (bench.now.bridges ≤ 16) × (bench.now.links ≤ 32) }
+    ensures number { reply_number result ≡ refuse (network_of bench.now []) (change (switch down bridge link)) }
+    ensures end { IfOk result (IsOwnEnd bench.now bridge link) }
 {
-    let refusal = end_refusal(bridges, links, ends, bridge, link);
-    if refusal != 0 {
-        return refusal;
+    let end = own_end(bench, bridge, link)?;
+    if bench.down[end] == down {
+        return Err(Refusal::AlreadySo);
     }
-    let end = end_of(&ends, bridge, link);
-    if already(flags[end], down) {
-        return 12;
-    }
-    0
+    Ok(end)
 }
 
-pub(crate) fn send_refusal(
-    bridges: usize,
-    links: usize,
-    count: usize,
-    ends: [u8; 64],
-    flags: [bool; 64],
-    bridge: usize,
-    link: usize,
-) -> u8
-    requires { links ≤ 32 }
-    ensures { (b : Bench) → b.bridges ≡ bridges → b.links ≡ links → b.messages ≡ count → b.ends ≡ ends → b.down ≡ flags → result ≡ refuse (network_of b []) (send bridge link) }
+// Else the end that the message leaves.
+pub(crate) fn send(bench: &Bench, bridge: usize, link: usize) -> Result<usize, Refusal>
+    requires { (bench.now.bridges ≤ 16) × (bench.now.links ≤ 32) }
+    ensures number { reply_number result ≡ refuse (network_of bench.now []) (send bridge link) }
+    ensures end { IfOk result (IsOwnEnd bench.now bridge link) }
+    ensures room { IfOk result (λ e. bench.now.messages < 64) }
 {
-    let refusal = end_refusal(bridges, links, ends, bridge, link);
-    if refusal != 0 {
-        return refusal;
+    let own = own_end(bench, bridge, link)?;
+    if bench.down[own] {
+        return Err(Refusal::EndDown);
     }
-    let own = end_of(&ends, bridge, link);
-    if flags[own] {
-        return 13;
+    if MOST_MESSAGES <= bench.messages {
+        return Err(Refusal::QueueFull);
     }
-    if MOST_MESSAGES <= count {
-        return 14;
-    }
-    0
+    Ok(own)
 }
 
-pub(crate) fn deliver_refusal(count: usize, flags: [bool; 64], messages: &[u32], place: usize) -> u8
-    requires { (count ≤ 64) × (320 ≤ length messages.now) × (place < count → LinkFits messages.now place) }
-    ensures { (b : Bench) → b.messages ≡ count → b.down ≡ flags → result ≡ refuse (network_of b messages.now) (deliver place) }
+// A delivery or a repeat: else the end where the message arrives.
+pub(crate) fn deliver(bench: &Bench, messages: &[u32], place: usize) -> Result<usize, Refusal>
+    requires { (bench.now.messages ≤ 64) × (320 ≤ length messages.now) × (place < bench.now.messages → LinkFits messages.now place) }
+    ensures number { reply_number result ≡ refuse (network_of bench.now messages.now) (deliver place) }
+    ensures end { IfOk result (λ e. (e ≡ arrival_end messages.now place) × (place < bench.now.messages)) }
 {
-    if count <= place {
-        return 15;
+    if bench.messages <= place {
+        return Err(Refusal::NoMessage);
     }
     let there = arrival_end(messages, place);
-    if flags[there] {
-        return 13;
+    if bench.down[there] {
+        return Err(Refusal::EndDown);
     }
-    0
+    Ok(there)
 }
 
-pub(crate) fn lose_refusal(count: usize, place: usize) -> u8
-    ensures { (b : Bench) → b.messages ≡ count → result ≡ refuse (network_of b []) (lose place) }
+pub(crate) fn lose(bench: &Bench, place: usize) -> Result<(), Refusal>
+    ensures { reply_number result ≡ refuse (network_of bench.now []) (lose place) }
 {
-    if count <= place {
-        return 15;
+    if bench.messages <= place {
+        return Err(Refusal::NoMessage);
     }
-    0
+    Ok(())
 }
 
-pub(crate) fn report_refusal(bridges: usize, dest: usize) -> u8
-    ensures { (b : Bench) → b.bridges ≡ bridges → result ≡ refuse (network_of b []) (report dest) }
+pub(crate) fn report(bench: &Bench, dest: usize) -> Result<(), Refusal>
+    ensures { reply_number result ≡ refuse (network_of bench.now []) (report dest) }
 {
-    if bridges <= dest {
-        return 10;
+    if bench.bridges <= dest {
+        return Err(Refusal::NotThere);
     }
-    0
+    Ok(())
 }
 
 // For `verdict` and `port`, and for `path`, which has the same checks.
-pub(crate) fn verdict_refusal(bridges: usize, bridge: usize, dest: usize) -> u8
-    ensures { (b : Bench) → b.bridges ≡ bridges → result ≡ refuse (network_of b []) (verdict bridge dest) }
+pub(crate) fn verdict(bench: &Bench, bridge: usize, dest: usize) -> Result<(), Refusal>
+    ensures { reply_number result ≡ refuse (network_of bench.now []) (verdict bridge dest) }
 {
-    if bridges <= bridge {
-        return 10;
+    if bench.bridges <= bridge || bench.bridges <= dest {
+        return Err(Refusal::NotThere);
     }
-    report_refusal(bridges, dest)
+    Ok(())
 }

@@ -17,11 +17,8 @@ pub const MESSAGES: usize = 320;
 // A report: a distance and a link for each of 16 bridges.
 pub const REPORT: usize = 32;
 
-// The events of one list.
+// The most events of a list that is read from a plan.
 pub const MOST_EVENTS: usize = 2048;
 
 // A block of 256 distances for each of 32 views.
 pub(crate) const TABLES: usize = 8192;
-
-// The next end of each of 64 ends, and the first of each of 16 bridges.
-pub(crate) const CHAIN: usize = 80;

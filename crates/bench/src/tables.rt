@@ -1,96 +1,124 @@
-// The distances of the views, a block of 256 numbers for each, in tables that belong to a call or to a list of calls: each view is computed
-// at its first use, and `known` says which are there. And the ends of each bridge, one behind the other.
-ghost use Rattle.std.specs.Prelude.{◌≡◌, true, false, ℕ, ◌*◌, ◌≤◌, ◌<◌, length, get_or};
-ghost use Rattle.bench.specs.Private.Steps.{filled_view, Tables, TablesOf, Ready};
+// What a call, or a list of calls, works out of a bench ahead: the distances of its views and the ends of each bridge.
+ghost use Rattle.std.specs.Prelude.{◌≡◌, true, false, ℕ, List, ◌*◌, ◌≤◌, ◌<◌, length, get_or};
+ghost use Rattle.bench.specs.State.{part};
+ghost use Rattle.bench.specs.Private.Steps.{filled_view, Tables, Ready};
 ghost use Rattle.bench.specs.Private.Chains.{Chained};
+ghost use Rattle.bench.specs.declared.Bench.{Bench};
 
 use crate::Bench;
-use crate::sizes::{CHAIN, COST_ROW};
+use crate::sizes::{COST_ROW, TABLES};
 use agreement::sizes::ENDS;
-use distances::sizes::TABLE;
+use distances::sizes::{MOST_BRIDGES, MOST_VIEWS, TABLE};
 
-fn fill_view(
-    bridges: usize,
-    links: usize,
-    ends: &[u8],
-    costs: &[u32],
-    tables: &mut [u32],
-    view: usize,
-)
+// The distances of the views, a block of 256 numbers for each: each view is computed at its first use, and `known` says which are there.
+// No Option for each view: a block is filled in its place and is never moved, and nothing is allocated.
+#[derive(Drop)]
+pub(crate) struct Distances {
+    pub(crate) numbers: [u32; TABLES],
+    pub(crate) known: [bool; MOST_VIEWS],
+}
+
+impl Distances {
+    pub(crate) fn none() -> Distances
+        ensures { (b : Bench) (costs : List ℕ) → Tables b costs result }
+    {
+        Distances {
+            numbers: [0; TABLES],
+            known: [false; MOST_VIEWS],
+        }
+    }
+
+    // A view's distances, unless they are there.
+    pub(crate) fn need(&mut self, bench: &Bench, costs: &[u32], view: usize)
+        requires { (view < 32) × (1024 ≤ length costs.now) × Tables bench.now costs.now self.old }
+        ensures tables { Tables bench.now costs.now self.new }
+        ensures known { get_or self.new.known view false ≡ true }
+        ensures still { (t : ℕ) → get_or self.old.known t false ≡ true → get_or self.new.known t false ≡ true }
+    {
+        if !self.known[view] {
+            fill_view(bench, costs, &mut self.numbers, view);
+            self.known[view] = true;
+        }
+    }
+
+    // The views that the bridges are on.
+    pub(crate) fn need_all(&mut self, bench: &Bench, costs: &[u32])
+        requires { Ready bench.now costs.now × Tables bench.now costs.now self.old }
+        ensures tables { Tables bench.now costs.now self.new }
+        ensures known { (y : ℕ) → y < bench.now.bridges → get_or self.new.known (get_or bench.now.view y 0) false ≡ true }
+    {
+        for y in 0..bench.bridges {
+            self.need(bench, costs, bench.view[y] as usize);
+        }
+    }
+
+    // A view's table.
+    pub(crate) fn table(&self, view: usize) -> &[u32]
+        requires { view < 32 }
+        ensures { result.now ≡ part 256 view self.now.numbers }
+    {
+        let block = TABLE * view;
+        &self.numbers[block..block + TABLE]
+    }
+}
+
+fn fill_view(bench: &Bench, costs: &[u32], tables: &mut [u32], view: usize)
     requires { (view < 32) × (1024 ≤ length costs.now) × (8192 ≤ length tables.old) }
-    ensures { tables.new ≡ filled_view bridges links ends.now costs.now view tables.old }
+    ensures { tables.new ≡ filled_view bench.now.bridges bench.now.links bench.now.ends costs.now view tables.old }
 {
     let row = COST_ROW * view;
-    let row_past = row + COST_ROW;
     let block = TABLE * view;
-    let block_past = block + TABLE;
-    distances::distances(
-        bridges,
-        links,
-        ends,
-        &costs[row..row_past],
-        &mut tables[block..block_past],
+    // what is in range is not refused
+    let _ = distances::distances(
+        &bench.graph(),
+        &costs[row..row + COST_ROW],
+        &mut tables[block..block + TABLE],
     );
 }
 
-// A view's distances, unless they are there.
-pub(crate) fn need_view(
-    bridges: usize,
-    links: usize,
-    ends: &[u8],
-    costs: &[u32],
-    view: usize,
-    tables: &mut [u32],
-    known: &mut [bool],
-)
-    requires { (view < 32) × (1024 ≤ length costs.now) × TablesOf bridges links ends.now costs.now tables.old known.old }
-    ensures tables_of { TablesOf bridges links ends.now costs.now tables.new known.new × (get_or known.new view false ≡ true) }
-    ensures by_index { (t : ℕ) → get_or known.old t false ≡ true → get_or known.new t false ≡ true }
-{
-    if known[view] {
-        return;
-    }
-    fill_view(bridges, links, ends, costs, tables, view);
-    known[view] = true;
+// The ends of each bridge one behind the other, so that a call looks at those of one bridge only: each bridge's lowest end, and at each end
+// the next end of its bridge; 2 × links where there is none. Numbers of ends and no lists: nothing is allocated;
+// and no Option: that the next end is below 2 × links is the loop's test and the bound of what it reads.
+#[derive(Drop)]
+pub(crate) struct Chains {
+    pub(crate) first: [u8; MOST_BRIDGES],
+    pub(crate) next: [u8; ENDS],
 }
 
-// The views that the bridges are on.
-pub(crate) fn need_views(bench: Bench, costs: &[u32], tables: &mut [u32], known: &mut [bool])
-    requires { Ready bench costs.now × Tables bench costs.now tables.old known.old }
-    ensures tables { Tables bench costs.now tables.new known.new }
-    ensures by_index { (y : ℕ) → y < bench.bridges → get_or known.new (get_or bench.view y 0) false ≡ true }
-{
-    let ends = bench.ends;
-    let mut y = 0;
-    while y < bench.bridges {
-        let view = bench.view[y] as usize;
-        need_view(
-            bench.bridges,
-            bench.links,
-            &ends,
-            costs,
-            view,
-            tables,
-            known,
-        );
-        y += 1;
+impl Chains {
+    pub(crate) fn of(bench: &Bench) -> Chains
+        requires { (bench.now.links ≤ 32) × ((e : ℕ) → e < 2 * bench.now.links → get_or bench.now.ends e 0 < 16) }
+        ensures { Chained bench.now.links bench.now.ends result }
+    {
+        let none = (2 * bench.links) as u8;
+        let mut first = [none; MOST_BRIDGES];
+        let mut next = [none; ENDS];
+        for e in (0..2 * bench.links).rev() {
+            let y = bench.ends[e] as usize;
+            next[e] = first[y];
+            first[y] = e as u8;
+        }
+        Chains { first, next }
     }
 }
 
-// The ends of each bridge one behind the other, so that a call looks at those of one bridge only: at 64 + y stands bridge y's lowest end, at
-// e the next end of e's bridge; 2 × links where there is none.
-pub(crate) fn end_chains(links: usize, ends: &[u8]) -> [u8; CHAIN]
-    requires { (links ≤ 32) × (2 * links ≤ length ends.now) × ((e : ℕ) → e < 2 * links → get_or ends.now e 0 < 16) }
-    ensures { Chained links ends.now result }
-{
-    let none = (2 * links) as u8;
-    let mut chain = [none; CHAIN];
-    let mut e = 2 * links;
-    while 0 < e {
-        e -= 1;
-        let y = ENDS + ends[e] as usize;
-        chain[e] = chain[y];
-        chain[y] = e as u8;
+#[derive(Drop)]
+pub(crate) struct Prepared {
+    pub(crate) distances: Distances,
+    pub(crate) chains: Chains,
+}
+
+impl Prepared {
+    // Nothing is worked out yet. The chains are set apart: a whole value that is returned is long to copy.
+    pub(crate) fn none() -> Prepared
+        ensures { (b : Bench) (costs : List ℕ) → Tables b costs result.distances }
+    {
+        Prepared {
+            distances: Distances::none(),
+            chains: Chains {
+                first: [0; MOST_BRIDGES],
+                next: [0; ENDS],
+            },
+        }
     }
-    chain
 }

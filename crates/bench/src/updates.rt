@@ -1,94 +1,73 @@
 // Update of a bridge, end by end.
-ghost use Rattle.std.specs.Prelude.{◌≡◌, true, ℕ, ◌*◌, ◌≤◌, ◌<◌, length, get_or};
+ghost use Rattle.std.specs.Prelude.{◌≡◌, true, [], ℕ, List, ◌*◌, ◌≤◌, ◌<◌, length, get_or};
 ghost use Rattle.agreement.specs.Call.{view_data};
 ghost use Rattle.agreement.specs.Ranges.{end_in_range};
-ghost use Rattle.bench.specs.Private.Changes.{ends, moved_ends, change_outcome, moved_bench};
+ghost use Rattle.bench.specs.State.{state_of, SameReferences};
+ghost use Rattle.bench.specs.Ranges.{network_in_range};
+ghost use Rattle.bench.specs.Private.Changes.{ends_in, with_ends, moved_ends, moved_to, with_rewritten};
 ghost use Rattle.bench.specs.Private.Chains.{Chained};
-ghost use Rattle.bench.specs.Ranges.{parts_in_range};
-ghost use Rattle.bench.specs.Private.Views.{lent_view};
-ghost use Rattle.bench.specs.Private.Steps.{IsFilled};
+ghost use Rattle.bench.specs.Private.Steps.{Ready, IsFilled, IsPrepared};
 
-use crate::Bench;
 use crate::sizes::COST_ROW;
-use agreement::EndRecord;
+use crate::tables::{Chains, Prepared};
+use crate::{LentMut, ready};
+use agreement::Across;
 use agreement::between::update_between;
 use agreement::ready::opposite_end;
-use agreement::sizes::ENDS;
-use distances::sizes::TABLE;
 
-// The bridge's ends, one behind the other, as layer 2 updates them.
+// The bridge's ends, one behind the other, each in its place, as layer 2 updates them by these costs and distances.
 fn move_ends(
-    bench: Bench,
+    net: &mut LentMut,
     costs: &[u32],
     table: &[u32],
-    chain: &[u8],
+    chains: &Chains,
     bridge: usize,
     view: u8,
-    sent: &mut [u32],
-    held: &mut [u32],
-) -> [EndRecord; 64]
-    requires links_bound { (bench.links ≤ 32) × (bridge < 16) × Chained bench.links bench.ends chain.now }
-    requires by_index { (e : ℕ) → e < 2 * bench.links → end_in_range bench.bridges bench.links bench.ends costs.now table.now (length sent.old) (length held.old) e ≡ true }
-    ensures { ends result sent.new held.new ≡ moved_ends (view_data bench.bridges bench.links bench.ends costs.now table.now) bench.views bridge view (2 * bench.links) (ends bench.records sent.old held.old) }
+)
+    requires chained { (net.old.bench.now.links ≤ 32) × (bridge < 16) × Chained net.old.bench.now.links net.old.bench.now.ends chains.now }
+    requires ends { (e : ℕ) → e < 2 * net.old.bench.now.links → end_in_range net.old.bench.now.bridges net.old.bench.now.links net.old.bench.now.ends costs.now table.now (length net.old.limits.now.sent.now) (length net.old.limits.now.held.now) e ≡ true }
+    ensures state { state_of net.new [] ≡ with_ends (state_of net.old []) (moved_ends (view_data net.old.bench.now.bridges net.old.bench.now.links net.old.bench.now.ends costs.now table.now) net.old.bench.now.views bridge view (2 * net.old.bench.now.links) (ends_in (state_of net.old []))) }
+    ensures same_references { SameReferences net.old net.new }
 {
-    let places = bench.ends;
-    let mut records = bench.records;
-    let mut e = chain[ENDS + bridge] as usize;
-    while e < 2 * bench.links {
-        let other = opposite_end(e);
-        let far = places[other] as usize;
-        let moved = update_between(
-            bench.bridges,
-            bridge,
-            far,
-            costs[e / 2],
+    ready::typed(net.bench);
+    let mut e = chains.first[bridge] as usize;
+    // no `for`: it goes along the chain of the bridge's ends, whose iterator would need a proof of its own and be no plainer
+    while e < 2 * net.bench.links {
+        let across = Across {
+            bridges: net.bench.bridges,
+            near: bridge,
+            far: net.bench.ends[opposite_end(e)] as usize,
+            cost: costs[e / 2],
             table,
-            bench.views,
+        };
+        let views = net.bench.views;
+        // what is in range is not refused
+        let _ = update_between(
+            &across,
+            views,
             view,
             e,
-            records[e],
-            sent,
-            held,
+            &mut net.bench.records[e],
+            net.limits,
         );
-        let after = moved.end;
-        records[e] = after;
-        e = chain[e] as usize;
+        e = chains.next[e] as usize;
     }
-    records
 }
 
-pub(crate) fn moved(
-    bench: Bench,
-    costs: &[u32],
-    tables: &[u32],
-    chain: &[u8],
-    bridge: usize,
-    view: usize,
-    sent: &mut [u32],
-    held: &mut [u32],
-) -> Bench
-    requires held_value { (parts_in_range bench costs.now (length sent.old) (length held.old) ≡ true) × (bridge < bench.bridges) × (view < bench.views) × (8192 ≤ length tables.now) × (get_or bench.number bridge 0 < 65535) }
-    requires filled { IsFilled bench costs.now tables.now view × Chained bench.links bench.ends chain.now }
-    ensures { change_outcome 0 result sent.new held.new ≡ moved_bench bench bridge view (moved_ends (lent_view bench costs.now view) bench.views bridge view (2 * bench.links) (ends bench.records sent.old held.old)) }
+// A bridge goes to a view whose distances are there.
+pub(crate) fn move_bridge(net: &mut LentMut, prepared: &Prepared, bridge: usize, view: usize)
+    requires in_range { network_in_range (state_of net.old []) ≡ true }
+    requires ready { Ready net.old.bench.now net.old.costs.now }
+    requires listed { (bridge < net.old.bench.now.bridges) × (view < net.old.bench.now.views) × (get_or net.old.bench.now.number bridge 0 < 65535) }
+    requires prepared { IsPrepared net.old.bench.now net.old.costs.now prepared.now × IsFilled net.old.bench.now net.old.costs.now prepared.now.distances.numbers view }
+    ensures state { state_of net.new [] ≡ with_rewritten (state_of net.old []) (moved_to (state_of net.old []) bridge view) }
+    ensures same_references { SameReferences net.old net.new }
 {
     let row = COST_ROW * view;
-    let row_past = row + COST_ROW;
-    let block = TABLE * view;
-    let block_past = block + TABLE;
-    let t = view as u8;
-    let records = move_ends(
-        bench,
-        &costs[row..row_past],
-        &tables[block..block_past],
-        chain,
-        bridge,
-        t,
-        sent,
-        held,
-    );
-    let mut next = bench;
-    next.view[bridge] = t;
-    next.number[bridge] = bench.number[bridge] + 1;
-    next.records = records;
-    next
+    let costs = &net.costs[row..row + COST_ROW];
+    let table = prepared.distances.table(view);
+    let to = view as u8;
+    move_ends(net, costs, table, &prepared.chains, bridge, to);
+    net.bench.view[bridge] = to;
+    net.bench.number[bridge] += 1;
 }

@@ -1,4 +1,4 @@
--- What the claims of layer 3 tell of document 01's examples in a caller's numbers: each is applied, and only numbers are computed.
+-- What the claims of layer 3 tell of the protocol's examples in a caller's numbers: each is applied, and only numbers are computed.
 -- Assumes nothing.
 use Prim.Native.Nat.{ℕ, ◌<◌, ◌≤◌}
 use native.Mathlib.Omega.{arith}
@@ -9,11 +9,11 @@ use lib.ListN.{length, get_or, take, drop, replicate, length-replicate}
 use Rattle.distances.specs.View.{NONE}
 use Rattle.distances.specs.Call.{link_passes, link_in_range, graph_passes, costs_pass}
 use Rattle.distances.specs.Table.{rewritten_from, rewritten}
+use Rattle.std.specs.Prelude.{Some}
 use Rattle.agreement.specs.Call.{says}
 use Rattle.agreement.specs.Offer.{opposite}
 use Rattle.agreement.specs.Ranges.{record_in_range, records_in_range}
 use Rattle.agreement.specs.declared.Answer.TheVariants.{Stale}
-use Rattle.agreement.specs.declared.Port.TheVariants.{Open}
 use Rattle.agreement.specs.declared.Verdict.TheVariants.{SentNotAbove}
 use Rattle.encoding.specs.Numbers.{link_number}
 use Rattle.protocol.specs.Net.{Network, Plan, offer_in, fresh}
@@ -32,10 +32,9 @@ use Rattle.bench.specs.Standing.{with_first, with_rows, number_in, standing_benc
 use Rattle.bench.specs.Outcomes.{ready_for, refusal_of, outcome, report_numbers, fresh_of}
 use Rattle.bench.specs.Demand2.{Tells}
 use Rattle.bench.specs.Whole.{run_in, Meets}
-use Rattle.bench.specs.Batches.{reply_of, answers_of, answer_size, answer_sizes, event_batch, event_batch_in, batch_from, calls_of, each_accepted, answers_by, Ended}
+use Rattle.bench.specs.Batches.{reply_of, answers_of, answer_size, answer_sizes, event_batch, event_batch_in, batch_from, calls_of, each_accepted, answers_by, refused_with, Ended}
 use Rattle.bench.specs.declared.Event.{Event}
 use Rattle.bench.specs.declared.Event.TheVariants.{Cut}
-use Rattle.bench.specs.declared.Disposition.TheVariants.{Refused}
 use Rattle.messages.specs.SliceLists.{Kept, numbered, Lead, Starts}
 use Rattle.claims.specs.Claims.{Claims}
 use Rattle.claims.specs.WorkedCalls.{lent_state, started, left, leftover, lent_slice, events, WorkedCalls}
@@ -83,10 +82,10 @@ module _ (claims : Claims) where
 record Facts : Type 0 where
   bridges : ((made calls_e3).plan.graph.bridges ≡ 3) × ((made calls_e4).plan.graph.bridges ≡ 3) × ((made calls_one_end).plan.graph.bridges ≡ 3)
   none : (refuse (made calls_e3) (calls.port 2 0) ≡ 0) × (refuse (made calls_e3) (calls.report 0) ≡ 0) × (refuse (made calls_e6) (calls.port 2 0) ≡ 0)
-  port : forwarding_port (made calls_e3) 2 0 ≡ Open 1
+  port : forwarding_port (made calls_e3) 2 0 ≡ Some 1
   verdict : ((made calls_e6).plan.graph.bridges ≡ 3) × (forwarding_verdict (made calls_e6) 1 0 ≡ SentNotAbove 1)
   path : path (made calls_e3) 2 0 ≡ delivered 2
-  dies : (forwarding_port (made calls_one_end) 1 0 ≡ Open 0) × (paths.path (made calls_one_end) 2 0 ≡ stops 1 1)
+  dies : (forwarding_port (made calls_one_end) 1 0 ≡ Some 0) × (paths.path (made calls_one_end) 2 0 ≡ stops 1 1)
   distance : (own_distance (made calls_e3) 2 0 ≡ 2) × (own_distance (made calls_e4) 1 0 ≡ 4)
   accepted : refuse (made calls_e7) (calls.deliver 0) ≡ 0
   stale : answer_at (made calls_e7) 0 ≡ Stale
@@ -136,14 +135,14 @@ unfolding all answers_by
 report-answers = refl
 
 -- the list ended at the second cut
-twelve : (batch_from 6 started events).disposition ≡ Refused 12
+twelve : (batch_from 6 started events).ending ≡ refused_with 12
 unfolding all
 twelve = refl
 
 next-refused : Claims → reply_of (batch_from 6 started events).state (Cut 0 0) ≡ 12
 next-refused claims =
     let b = batch_from 6 started events in
-    let end : Ended 6 events b (Refused 12) = subst (Ended 6 events b) twelve (claims.batches 6 started events).ended in
+    let end : Ended 6 events b (refused_with 12) = subst (Ended 6 events b) twelve (claims.batches 6 started events).ended in
     let at : drop 2 events ≡ end.0 ∷ end.1 = ap (λ (k : ℕ). drop k events) (sym two_made) ∙ end.2 in
     ap (reply_of b.state) (ap (λ (l : List Event). get_or l 0 (Cut 0 0)) at) ∙ end.3
 
@@ -166,7 +165,7 @@ slice-accepted : (fresh_of (numbered lent_slice)).reply ≡ says tt
 unfolding all
 slice-accepted = refl
 
-slice-port : Claims → (first t : Kept) × Starts lent_slice first × Lead first calls_e3 t × (forwarding_port (network (numbered t)) 2 0 ≡ Open 1)
+slice-port : Claims → (first t : Kept) × Starts lent_slice first × Lead first calls_e3 t × (forwarding_port (network (numbered t)) 2 0 ≡ Some 1)
 slice-port claims =
     let begun = claims.slices_lead.begin lent_slice (omega (arith, length-replicate 64 leftover)) slice-accepted in
     let led = claims.slices_lead.go begun.0 begun.1 calls_e3 in

@@ -5,7 +5,7 @@ use mathlib.Core.Path.{◌≡◌, refl, ◌∙◌}
 use mathlib.Core.Bool.{Bool, true}
 use mathlib.Core.List.{List, [], ◌∷◌, ◌++◌}
 use lib.ListN.{length, length-replicate}
-use Rattle.agreement.specs.declared.Port.TheVariants.{Open}
+use Rattle.std.specs.Prelude.{Some}
 use Rattle.protocol.specs.Net.{fresh}
 use Rattle.protocol.specs.Calls as calls
 use Rattle.protocol.specs.Ports.{crosses, forwarding_port, hop}
@@ -54,7 +54,7 @@ line : Claims → LinesHold plan_e3 rounds (last ∷ [])
 line claims = claims.lines plan_e3 (omega arith) rounds last [] read.0 read.1
 
 -- bridge 2's port, and its frame
-over : (forwarding_port reported 2 0 ≡ Open 1) × (hop reported 0 2 ≡ crosses 1 1)
+over : (forwarding_port reported 2 0 ≡ Some 1) × (hop reported 0 2 ≡ crosses 1 1)
 unfolding all
 over = (refl, refl)
 

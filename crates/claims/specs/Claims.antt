@@ -36,7 +36,7 @@ pub record Claims : Type 0 where
   pub lent_offers : LentOffersAreOffers
   pub lent_verdict : LentVerdictIsVerdict
   pub plain_ends : PlainEndsAreEnds
-  -- networks: demands 2 and 3, the limits among them; a path's hops are the links that it crosses; document 01's examples E1 to E8, two of links with one end down and those of verdicts
+  -- networks: demands 2 and 3, the limits among them; a path's hops are the links that it crosses; the protocol's examples E1 to E8, two of links with one end down and those of verdicts
   pub demand2 : Demand2
   pub demand3 : Demand3
   pub hops : HopsAreLinks

@@ -1,11 +1,10 @@
--- Worked cases of layer 3: document 01's examples in a caller's numbers. Assumes nothing.
-use Rattle.std.specs.Prelude.{ℕ, ◌≡◌, true, ◌&&◌, List, [], ◌∷◌, ◌++◌, length, get_or, take, replicate, leb}
+-- Worked cases of layer 3: the protocol's examples (docs/PROTOCOL.md) in a caller's numbers. Assumes nothing.
+use Rattle.std.specs.Prelude.{ℕ, ◌≡◌, true, ◌&&◌, List, [], ◌∷◌, ◌++◌, length, get_or, take, replicate, leb, Some}
 use Rattle.distances.specs.View.{NONE}
 use Rattle.distances.specs.Table.{cell}
 use Rattle.agreement.specs.Call.{says}
 use Rattle.agreement.specs.Record.{fresh_record}
 use Rattle.agreement.specs.declared.Answer.TheVariants.{Stale}
-use Rattle.agreement.specs.declared.Port.TheVariants.{Open}
 use Rattle.agreement.specs.declared.Verdict.TheVariants.{SentNotAbove}
 use Rattle.protocol.specs.Net.{fresh}
 use Rattle.protocol.specs.Calls as calls
@@ -66,16 +65,16 @@ events = Report 0 ∷ Cut 0 0 ∷ Cut 0 0 ∷ Cut 1 0 ∷ []
 
 pub record WorkedCalls : Type 0 where
   -- E3: the call replies that bridge 2's port is open on link 1, that its path is delivered after two hops, and that its distance is 2
-  pub port : outcome_of (left calls_e3) (calls.port 2 0) (λ n. forwarding_port n 2 0) ≡ outcome (says (Open 1)) (left calls_e3)
+  pub port : outcome_of (left calls_e3) (calls.port 2 0) (λ n. forwarding_port n 2 0) ≡ outcome (says (Some 1)) (left calls_e3)
   pub path : outcome_of (left calls_e3) (calls.path 2 0) (λ n. path n 2 0) ≡ outcome (says (delivered 2)) (left calls_e3)
   pub report : (let rows = (report_of (left calls_e3) 0 (replicate 32 5)).rows in (get_or rows 4 0 ≡ 2) × (get_or rows 5 0 ≡ 1))
-  -- by document 01's conditions, on what stands in the caller's numbers; and one message is in flight there
+  -- by the conditions of demand 2, on what stands in the caller's numbers; and one message is in flight there
   pub rule : (e : ℕ) × ForwardsBy (network (left calls_e3)) 2 0 1 e
   pub in_flight : (left calls_e3).bench.messages ≡ 1
   -- E4: bridge 1 has distance 4
   pub distance : own_distance (network (left calls_e4)) 1 0 ≡ 4
   -- of link 0 bridge 0's end alone is cut: bridge 1's port is open on it, and the path from 2 stops at bridge 1 after one hop
-  pub dies : (forwarding_port (network (left calls_one_end)) 1 0 ≡ Open 0) × (paths.path (network (left calls_one_end)) 2 0 ≡ stops 1 1)
+  pub dies : (forwarding_port (network (left calls_one_end)) 1 0 ≡ Some 0) × (paths.path (network (left calls_one_end)) 2 0 ≡ stops 1 1)
   -- E6: at bridge 1's end of link 1 the caller's tables have the limits 2, sent, and 4, held
   pub sent : cell (left calls_e6).sent 2 0 ≡ 2
   pub held : cell (left calls_e6).held 2 0 ≡ 4
@@ -101,4 +100,4 @@ pub record WorkedCalls : Type 0 where
   pub sizes : length (batch_from 6 started events).answers ≡ 6
   pub ended : reply_of (batch_from 6 started events).state (Cut 0 0) ≡ 12
   -- over the slice, after `fresh` and the calls of E3: bridge 2's port is open on link 1
-  pub slices : (first t : Kept) × Starts lent_slice first × Lead first calls_e3 t × (forwarding_port (network (numbered t)) 2 0 ≡ Open 1)
+  pub slices : (first t : Kept) × Starts lent_slice first × Lead first calls_e3 t × (forwarding_port (network (numbered t)) 2 0 ≡ Some 1)

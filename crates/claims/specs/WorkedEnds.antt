@@ -1,5 +1,5 @@
--- Worked cases of layers 1 and 2, on the triangle of document 01's examples. Assumes nothing.
-use Rattle.std.specs.Prelude.{ℕ, ◌≤◌, ◌<◌, ◌≡◌, List, [], ◌∷◌, length, replicate}
+-- Worked cases of layers 1 and 2, on the triangle of the protocol's examples (docs/PROTOCOL.md). Assumes nothing.
+use Rattle.std.specs.Prelude.{ℕ, ◌≤◌, ◌<◌, ◌≡◌, List, [], ◌∷◌, length, replicate, None, Some}
 use Rattle.distances.specs.View.{NONE, max_distance, costs_of}
 use Rattle.distances.specs.Meaning.{IsPath, IsDistance}
 use Rattle.distances.specs.Distance.{dist}
@@ -15,7 +15,6 @@ use Rattle.agreement.specs.Rule as rules
 use Rattle.agreement.specs.Rule.{Reaches}
 use Rattle.agreement.specs.Reasons.{Means}
 use Rattle.agreement.specs.declared.Agreement.{Agreement}
-use Rattle.agreement.specs.declared.Port.TheVariants.{Closed, Open}
 use Rattle.agreement.specs.declared.Verdict.{Verdict}
 use Rattle.agreement.specs.declared.Verdict.TheVariants.{NoLink, SentNotAbove, Forwards}
 use Rattle.protocol.specs.Calls as calls
@@ -44,8 +43,8 @@ pub record WorkedEnds : Type 0 where
   pub none : ((ls : List ℕ) → IsPath triangle view1 1 ls 0 → ⊥) → ⊥
   -- E3: bridge 2 uses link 1: by the rule, both ways, and by the choice of one end after another; E2: fresh, it uses none
   pub rule : (e : ℕ) × rules.Forwards triangle view0 (dist triangle view0) (after calls_e3).records 2 0 1 e
-  pub opens : port triangle view0 (dist triangle view0) (after calls_e3).records 2 0 ≡ Open 1
-  pub closes : port triangle view0 (dist triangle view0) (after []).records 2 0 ≡ Closed
+  pub opens : port triangle view0 (dist triangle view0) (after calls_e3).records 2 0 ≡ Some 1
+  pub closes : port triangle view0 (dist triangle view0) (after []).records 2 0 ≡ None
   pub choice : verdict_by (choice_below triangle view0 (dist triangle view0) (after calls_e3).records 2 0 6) ≡ Forwards 1
   -- E6: of bridge 1 it is said that its sent limit on link 1 is not above its distance, and nothing else is so. By numbers that are no distances no link
   -- of it reaches its own

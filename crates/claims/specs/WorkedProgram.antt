@@ -1,4 +1,4 @@
--- Worked cases of the program: document 01's plan, its example E3 as a plan, and plans that are refused. Assumes nothing.
+-- Worked cases of the program: the sample plan (plans/cases/sample.hex), example E3 as a plan, and plans that are refused. Assumes nothing.
 use Rattle.std.specs.Prelude.{ℕ, suc, ◌≤◌, ◌<◌, ◌≡◌, List, [], ◌∷◌, ◌++◌, length, get_or, take, drop, replicate}
 use Rattle.distances.specs.View.{NONE}
 use Rattle.protocol.specs.Net.{Network, PlanInRange, fresh}
@@ -14,7 +14,7 @@ use Rattle.runner.specs.Fills.{buffers_with_out, fields_at_once, fill_of, prints
 use Rattle.runner.specs.Program.{nothing_set_up, reading, PlanEvent, read_from, read_plan, output}
 use Rattle.runner.specs.Whole.{calls_in}
 
--- document 01's plan
+-- the sample plan (plans/cases/sample.hex)
 abbrev pub pair : List ℕ
 pair = 1 ∷ 0 ∷ 1 ∷ 2 ∷ 2 ∷ 0 ∷ 2 ∷ 0 ∷ 1 ∷ 3 ∷ 0 ∷ 4 ∷ 0 ∷ 0 ∷ 0 ∷ 5 ∷ []
 
@@ -72,7 +72,7 @@ reported = calls.run (fresh (read_plan plan_e3).setup) (calls_in rounds)
 abbrev pub printed_by : List ℕ → List ℕ
 printed_by plan = prints_filled (suc (length plan)) first_runner (buffers_with_out (replicate 600 7) first_buffers) plan
 
--- behind the first event of document 01's plan, with 700 bytes to fill, and the bytes of the plan that are left
+-- behind the first event of the sample plan, with 700 bytes to fill, and the bytes of the plan that are left
 abbrev pub behind_first : Runner
 behind_first =
     record { bench = with_view (with_link (with_bridges first_runner.bench 2) 0 1); stage = 3; events = 1; offset = 20 }
@@ -93,7 +93,7 @@ pub record WorkedProgram : Type 0 where
   pub filled : printed_by plan01 ≡ printed01
   pub filled_cut : printed_by plan_cut ≡ printed_cut
   pub filled_none : printed_by [] ≡ printed_none
-  -- E3's report: what was set up is in the ranges; bridge 2 forwards on link 1, as the report says, by document 01's conditions; its frame goes to
+  -- E3's report: what was set up is in the ranges; bridge 2 forwards on link 1, as the report says, by the conditions of demand 2; its frame goes to
   -- bridge 1, and so none of bridge 1 goes to bridge 2
   pub in_range : PlanInRange (read_plan plan_e3).setup
   pub rule : (e : ℕ) × ForwardsBy reported 2 0 1 e

@@ -9,5 +9,5 @@ pub mod Known
 pub mod Tables
 pub mod Steps
 pub mod Ranges
-pub mod Refusals
+pub mod Checks
 pub mod Outcomes

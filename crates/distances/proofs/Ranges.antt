@@ -75,12 +75,12 @@ each-end P links both e h = go (side e) (both (e / 2) (omega arith))
     go (inr q) b = subst P (sym q) b.1
 
 -- every link joins two different bridges: every end is at a bridge, and the ends of each link differ
-pub links-apart :
+pub links_apart :
     (bridges links : ℕ) (ends : List ℕ) →
     (all_below (2 * links) (λ e. ltb (get_or ends e 0) bridges) && all_below links (λ l. not (eqb (get_or ends (2 * l) 0) (get_or ends (2 * l + 1) 0))))
     ≡ all_below links (link_in_range bridges ends)
 unfolding link_in_range link_passes
-links-apart bridges links ends = same_test _ _ whole parts
+links_apart bridges links ends = same_test _ _ whole parts
   where
     below : ℕ → Bool
     below e = ltb (get_or ends e 0) bridges

@@ -1,15 +1,8 @@
--- What the call does, for every input: its reply by document 01's number, and the lent table. Assumes nothing.
+-- What the call does, for every input: the number of its reply in the table of refusals, and the lent table. Assumes nothing.
 use Rattle.std.specs.Prelude.{ℕ, zero, suc, ◌+◌, ◌*◌, Bool, true, cond, ◌&&◌, not, List, [], ◌∷◌, length, get_or, leb, ltb, eqb}
 use Rattle.distances.specs.View.{graph_of, costs_of, max_cost, table_numbers}
 use Rattle.distances.specs.Distance.{dist}
 use Rattle.distances.specs.Table.{with_pairs}
-use Rattle.distances.specs.declared.Reply.{Reply}
-use Rattle.distances.specs.declared.Reply.TheVariants.{Refused, Filled}
-
--- each reply's number in document 01: 17 in the table at "entry", 0 where nothing is refused
-abbrev pub number : Reply → ℕ
-number Refused = 17
-number Filled = 0
 
 -- every test of a list holds
 unfoldable pub every : List Bool → Bool
@@ -43,7 +36,7 @@ graph_passes bridges links ends =
 unfoldable pub costs_pass : ℕ → List ℕ → Bool
 costs_pass links costs = leb links (length costs) && all_below links (λ l. leb (get_or costs l 0) max_cost)
 
--- document 01's ranges and the lengths that the call needs, the table's being `size`
+-- the ranges of a network and the lengths that the call needs, the table's being `size`
 unfoldable pub in_range : ℕ → ℕ → List ℕ → List ℕ → ℕ → Bool
 in_range bridges links ends costs size = graph_passes bridges links ends && (costs_pass links costs && leb table_numbers size)
 

@@ -10,8 +10,7 @@ use crate::sizes::ROW;
 fn shorter(old: u32, near: u32, far: u32) -> u32
     ensures { result ≡ min old (near + far) }
 {
-    let sum = near as u64 + far as u64;
-    if sum < old as u64 { sum as u32 } else { old }
+    u64::from(old).min(u64::from(near) + u64::from(far)) as u32
 }
 
 fn relax_row(n: usize, k: usize, i: usize, table: &mut [u32])
@@ -19,10 +18,8 @@ fn relax_row(n: usize, k: usize, i: usize, table: &mut [u32])
     ensures { table.new ≡ with_row n k i table.old }
 {
     let near = table[ROW * i + k];
-    let mut j = 0;
-    while j < n {
+    for j in 0..n {
         table[ROW * i + j] = shorter(table[ROW * i + j], near, table[ROW * k + j]);
-        j += 1;
     }
 }
 
@@ -30,10 +27,8 @@ fn pass(n: usize, k: usize, table: &mut [u32])
     requires { (n ≤ 16) × (k < n) × (256 ≤ length table.old) }
     ensures { table.new ≡ with_pairs n (relaxed (cell table.old) k) table.old }
 {
-    let mut i = 0;
-    while i < n {
+    for i in 0..n {
         relax_row(n, k, i, table);
-        i += 1;
     }
 }
 
@@ -41,9 +36,7 @@ pub(crate) fn passes(n: usize, table: &mut [u32])
     requires { (n ≤ 16) × (256 ≤ length table.old) }
     ensures { table.new ≡ with_pairs n (relaxed_below (cell table.old) n) table.old }
 {
-    let mut k = 0;
-    while k < n {
+    for k in 0..n {
         pass(n, k, table);
-        k += 1;
     }
 }

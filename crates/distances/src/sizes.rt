@@ -1,4 +1,4 @@
-// What document 01 lets a network have, and what it calls NONE.
+// How much a network may have (docs/PROTOCOL.md), and the number that stands for none.
 
 pub const LEAST_BRIDGES: usize = 2;
 

@@ -1,12 +1,11 @@
 -- Records, agreements, flags and ports as numbers in lists. Views have 8 bits and other numbers 16; any number but 0 stands for true.
 -- A list holds a record or an agreement where each number fits its field, and there the remainders change nothing. Assumes nothing.
-use Rattle.std.specs.Prelude.{ℕ, zero, suc, ◌+◌, ◌*◌, ◌%◌, Bool, cond, ◌&&◌, not, List, [], ◌∷◌, ◌++◌, length, get_or, eqb, leb, ltb}
+use Rattle.std.specs.Prelude.{ℕ, zero, suc, ◌+◌, ◌*◌, ◌%◌, Bool, cond, ◌&&◌, not, List, [], ◌∷◌, ◌++◌, length, get_or, eqb, leb, ltb, None, Some}
 use Rattle.distances.specs.View.{NONE}
 use Rattle.distances.specs.Call.{all_below}
 use Rattle.agreement.specs.declared.EndRecord.{EndRecord}
 use Rattle.agreement.specs.declared.Agreement.{Agreement}
-use Rattle.agreement.specs.declared.Port.{Port}
-use Rattle.agreement.specs.declared.Port.TheVariants.{Closed, Open}
+use Rattle.agreement.specs.Forwarding.{Port}
 
 -- does a number stand for true
 abbrev pub is_set : ℕ → Bool
@@ -63,8 +62,8 @@ agreement_numbers m = m.view ∷ m.number ∷ m.discarded ∷ []
 
 -- the link, NONE where the port is closed
 abbrev pub link_number : Port → ℕ
-link_number Closed = NONE
-link_number (Open link) = link
+link_number None = NONE
+link_number (Some link) = link
 
 abbrev pub port_numbers : Port → List ℕ
 port_numbers port = link_number port ∷ []

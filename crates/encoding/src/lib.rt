@@ -1,9 +1,10 @@
 // Records, agreements, answers, flags, ports and verdicts as numbers in lent slices. Views have 8 bits and other numbers 16; any number but 0
 // stands for true. A list holds a record or an agreement where each number fits its field, and there the remainders change nothing. Past the
 // end of a list a number is read as 0, and nothing is written.
+// Functions and no `From`: the C interface lends slices of any length, in which a record stands at a place.
 #![tactic(auto)]
 
-ghost use Rattle.std.specs.Prelude.{◌≡◌, cond, [], ◌∷◌, get_or, set};
+ghost use Rattle.std.specs.Prelude.{◌≡◌, cond, [], ◌∷◌, get_or};
 ghost use Rattle.std.proofs.lemmas.List.Edits.{sets};
 ghost use Rattle.agreement.specs.Record.{answer_numbers};
 ghost use Rattle.agreement.specs.Reasons.{verdict_numbers};
@@ -11,7 +12,6 @@ ghost use Rattle.encoding.specs.Numbers.{is_set, record_at, agreement_in, record
 
 use agreement::sizes::{ENDS, NUMBERS};
 use agreement::{Agreement, Answer, EndRecord, Port, Verdict, calls};
-use distances::ready::both;
 use distances::sizes::NONE;
 
 // The numbers of an agreement: view, number, discarded number.
@@ -23,72 +23,56 @@ pub const ANSWER: usize = 3;
 // The numbers of a verdict.
 pub const VERDICT: usize = 2;
 
-// The ends that have records, and the numbers of these.
-const RECORDS: u16 = ENDS as u16;
-
+// The numbers of the records of all ends.
 const RECORD_NUMBERS: usize = 4 * ENDS;
 
-fn read_at(numbers: &[u32], k: usize) -> u32
-    ensures { result ≡ get_or numbers.now k 0 }
+// The number at place k, 0 past the end.
+fn number_at<T: Copy>(numbers: &[T], k: usize, zero: T) -> T
+    ensures { result ≡ get_or numbers.now k zero }
 {
-    if k < numbers.len() {
-        return numbers[k];
-    }
-    0
-}
-
-fn write_at(out: &mut [u32], k: usize, value: u32)
-    ensures { out.new ≡ set out.old k value }
-{
-    if k < out.len() {
-        out[k] = value;
-    }
+    numbers.get(k).copied().unwrap_or(zero)
 }
 
 // The record in the four numbers from place `first` on: received, view, discarded, holding. A place of 16 bits, so that the sums are in range.
+#[tactic(auto, unfolding(crate::specs::Numbers::record_at))]
 pub fn record_at(numbers: &[u32], first: u16) -> EndRecord
     ensures { result ≡ record_at numbers.now first }
 {
     let k = first as usize;
     EndRecord {
-        received: (read_at(numbers, k) % NUMBERS) as u16,
-        view: (read_at(numbers, k + 1) % 256) as u8,
-        discarded: (read_at(numbers, k + 2) % NUMBERS) as u16,
-        holding: read_at(numbers, k + 3) != 0,
+        received: (number_at(numbers, k, 0) % NUMBERS) as u16,
+        view: (number_at(numbers, k + 1, 0) % 256) as u8,
+        discarded: (number_at(numbers, k + 2, 0) % NUMBERS) as u16,
+        holding: number_at(numbers, k + 3, 0) != 0,
     }
 }
 
+#[tactic(auto, unfolding(crate::specs::Numbers::record_fits))]
 fn record_fits(numbers: &[u32], first: u16) -> bool
     ensures { result ≡ record_fits numbers.now first }
 {
     let k = first as usize;
-    both(
-        read_at(numbers, k) < NUMBERS,
-        both(
-            read_at(numbers, k + 1) < 256,
-            read_at(numbers, k + 2) < NUMBERS,
-        ),
-    )
+    number_at(numbers, k, 0) < NUMBERS
+        && number_at(numbers, k + 1, 0) < 256
+        && number_at(numbers, k + 2, 0) < NUMBERS
 }
 
 // Does the list begin with a record?
 pub fn holds_record(numbers: &[u32]) -> bool
     ensures { result ≡ holds_record numbers.now }
 {
-    if numbers.len() < 4 {
-        return false;
-    }
-    record_fits(numbers, 0)
+    4 <= numbers.len() && record_fits(numbers, 0)
 }
 
 // The agreement in the first three numbers: view, number, discarded.
+#[tactic(auto, unfolding(crate::specs::Numbers::agreement_in))]
 pub fn agreement_in(numbers: &[u32]) -> Agreement
     ensures { result ≡ agreement_in numbers.now }
 {
     Agreement {
-        view: (read_at(numbers, 0) % 256) as u8,
-        number: (read_at(numbers, 1) % NUMBERS) as u16,
-        discarded: (read_at(numbers, 2) % NUMBERS) as u16,
+        view: (number_at(numbers, 0, 0) % 256) as u8,
+        number: (number_at(numbers, 1, 0) % NUMBERS) as u16,
+        discarded: (number_at(numbers, 2, 0) % NUMBERS) as u16,
     }
 }
 
@@ -96,24 +80,17 @@ pub fn agreement_in(numbers: &[u32]) -> Agreement
 pub fn holds_agreement(numbers: &[u32]) -> bool
     ensures { result ≡ holds_agreement numbers.now }
 {
-    if numbers.len() < AGREEMENT {
-        return false;
-    }
-    both(
-        numbers[0] < 256,
-        both(numbers[1] < NUMBERS, numbers[2] < NUMBERS),
-    )
+    AGREEMENT <= numbers.len() && numbers[0] < 256 && numbers[1] < NUMBERS && numbers[2] < NUMBERS
 }
 
 // The records of 64 ends, four numbers each.
 pub fn records_in(numbers: &[u32]) -> [EndRecord; 64]
     ensures { result ≡ records_in numbers.now }
 {
+    // `from_fn` was tried: by its contract a later call of the closure may find something else captured, and the proof did not close.
     let mut records = [calls::fresh_record(); ENDS];
-    let mut e: u16 = 0;
-    while e < RECORDS {
-        records[e as usize] = record_at(numbers, 4 * e);
-        e += 1;
+    for e in 0..ENDS {
+        records[e] = record_at(numbers, 4 * e as u16);
     }
     records
 }
@@ -126,115 +103,99 @@ pub fn holds_records(numbers: &[u32]) -> bool
         return false;
     }
     let mut ok = true;
-    let mut e: u16 = 0;
-    while e < RECORDS {
-        ok = both(ok, record_fits(numbers, 4 * e));
-        e += 1;
+    for e in 0..ENDS {
+        ok &= record_fits(numbers, 4 * e as u16);
     }
     ok
-}
-
-fn flag_at(numbers: &[u8], k: usize) -> bool
-    ensures { result ≡ is_set (get_or numbers.now k 0) }
-{
-    if k < numbers.len() {
-        return numbers[k] != 0;
-    }
-    false
 }
 
 // A flag for each of 64 ends.
 pub fn flags_in(numbers: &[u8]) -> [bool; 64]
     ensures { result ≡ flags_in numbers.now }
 {
+    // A loop, as for the records.
     let mut flags = [false; ENDS];
-    let mut e = 0;
-    while e < ENDS {
-        flags[e] = flag_at(numbers, e);
-        e += 1;
+    for e in 0..ENDS {
+        flags[e] = number_at(numbers, e, 0) != 0;
     }
     flags
 }
 
 // To the front of `out`, as far as it reaches; so do the others that put.
-fn put_two(first: u32, second: u32, out: &mut [u32])
-    ensures { out.new ≡ sets out.old 0 (first ∷ second ∷ []) }
+fn put(numbers: &[u32], out: &mut [u32])
+    ensures { out.new ≡ sets out.old 0 numbers.now }
 {
-    write_at(out, 0, first);
-    write_at(out, 1, second);
+    // `get_mut` was tried, whose contract says nothing of what the slice ends as, and `copy_from_slice` of as many as have room: neither proved.
+    for (k, number) in numbers.iter().enumerate() {
+        if k < out.len() {
+            out[k] = *number;
+        }
+    }
 }
 
 pub fn put_three(first: u32, second: u32, third: u32, out: &mut [u32])
     ensures { out.new ≡ sets out.old 0 (first ∷ second ∷ third ∷ []) }
 {
-    put_two(first, second, out);
-    write_at(out, 2, third);
+    put(&[first, second, third], out);
 }
 
 // 1 for true, 0 for false.
 pub fn flag_number(flag: bool) -> u32
     ensures { result ≡ cond flag 1 0 }
 {
-    if flag { 1 } else { 0 }
+    u32::from(flag)
 }
 
 pub fn put_record(end: EndRecord, out: &mut [u32])
     ensures { out.new ≡ sets out.old 0 (record_numbers end) }
 {
-    put_three(
-        end.received as u32,
-        end.view as u32,
-        end.discarded as u32,
-        out,
-    );
-    write_at(out, 3, flag_number(end.holding));
+    let received = u32::from(end.received);
+    let discarded = u32::from(end.discarded);
+    let holding = flag_number(end.holding);
+    put(&[received, u32::from(end.view), discarded, holding], out);
 }
 
 pub fn put_agreement(message: Agreement, out: &mut [u32])
     ensures { out.new ≡ sets out.old 0 (agreement_numbers message) }
 {
-    put_three(
-        message.view as u32,
-        message.number as u32,
-        message.discarded as u32,
-        out,
-    );
+    let number = u32::from(message.number);
+    let discarded = u32::from(message.discarded);
+    put(&[u32::from(message.view), number, discarded], out);
 }
 
 // 0 stale, 1 agreed, 2 noted; then the number and the view taken, zeros for stale.
 pub fn put_answer(answer: Answer, out: &mut [u32])
     ensures { out.new ≡ sets out.old 0 (answer_numbers answer) }
 {
-    match answer {
-        Answer::Stale => put_three(0, 0, 0, out),
-        Answer::Agreed(number, view) => put_three(1, number as u32, view as u32, out),
-        Answer::Noted(number, view) => put_three(2, number as u32, view as u32, out),
-    }
+    let numbers = match answer {
+        Answer::Stale => [0, 0, 0],
+        Answer::Agreed(number, view) => [1, u32::from(number), u32::from(view)],
+        Answer::Noted(number, view) => [2, u32::from(number), u32::from(view)],
+    };
+    put(&numbers, out);
 }
 
 // The link, NONE where the port is closed.
 pub fn link_number(port: Port) -> u32
     ensures { result ≡ link_number port }
 {
-    match port {
-        Port::Closed => NONE,
-        Port::Open(link) => link as u32,
-    }
+    port.map_or(NONE, u32::from)
 }
 
-// The place of the condition in document 02's list, 0 where the port forwards, 7 where no link reaches the distance; then the link, NONE where
-// none is named.
+// The number of the verdict (docs/PROTOCOL.md, "Why a port is shut"), 0 where the port forwards, 7 where no link reaches the distance; then the
+// link, NONE where none is named.
 pub fn put_verdict(verdict: Verdict, out: &mut [u32])
     ensures { out.new ≡ sets out.old 0 (verdict_numbers verdict) }
 {
-    match verdict {
-        Verdict::IsDestination => put_two(1, NONE, out),
-        Verdict::NoPath => put_two(2, NONE, out),
-        Verdict::LinkDown(link) => put_two(3, link as u32, out),
-        Verdict::NothingHeld(link) => put_two(4, link as u32, out),
-        Verdict::HeldTooGreat(link) => put_two(5, link as u32, out),
-        Verdict::SentNotAbove(link) => put_two(6, link as u32, out),
-        Verdict::NoLink => put_two(7, NONE, out),
-        Verdict::Forwards(link) => put_two(0, link as u32, out),
-    }
+    let (number, link) = match verdict {
+        Verdict::IsDestination => (1, NONE),
+        Verdict::NoPath => (2, NONE),
+        Verdict::LinkDown(link) => (3, u32::from(link)),
+        Verdict::NothingHeld(link) => (4, u32::from(link)),
+        Verdict::HeldTooGreat(link) => (5, u32::from(link)),
+        Verdict::SentNotAbove(link) => (6, u32::from(link)),
+        Verdict::NoLink => (7, NONE),
+        Verdict::Forwards(link) => (0, u32::from(link)),
+    };
+    put(&[number, link], out);
 }

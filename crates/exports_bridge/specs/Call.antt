@@ -4,7 +4,7 @@
 use Rattle.std.specs.Prelude.{ℕ, cond, ◌&&◌, List, [], ◌∷◌, length, leb}
 use Rattle.agreement.specs.Record.{answer_numbers}
 use Rattle.agreement.specs.Reasons.{verdict_numbers}
-use Rattle.agreement.specs.Update.{bridge_update_outcome}
+use Rattle.agreement.specs.Update.{bridge_update_numbers, bridge_update_outcome}
 use Rattle.agreement.specs.Call.{
   Response,
   refused,
@@ -57,7 +57,7 @@ fresh_reply v e fields sent held =
 
 unfoldable pub bridge_update_reply : ℕ → ℕ → ℕ → ℕ → List ℕ → CallOutcome
 bridge_update_reply views present number t out =
-    if_long (leb 2 (length out)) (out ∷ []) (value_reply (λ x. x) out (bridge_update_outcome views present number t))
+    if_long (leb 2 (length out)) (out ∷ []) (value_reply bridge_update_numbers out (bridge_update_outcome views present number t))
 
 unfoldable pub update_reply : ViewData → ℕ → ℕ → ℕ → List ℕ → List ℕ → List ℕ → CallOutcome
 update_reply v views t e fields sent held =

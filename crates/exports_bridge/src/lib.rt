@@ -1,4 +1,4 @@
-// What Rust and C may call of layers 1 and 2: the public calls, each reply as document 01's number.
+// What Rust and C may call of layers 1 and 2: the public calls, each reply as its number in the table of refusals.
 #![tactic(auto)]
 
 pub mod records;
@@ -6,7 +6,9 @@ pub mod records;
 ghost use Rattle.std.specs.Prelude.{◌≡◌};
 ghost use Rattle.distances.specs.Call.{outcome, distances_of};
 
-// `distances::distances`: 17 where it refuses, 0 where it filled the table.
+use distances::Graph;
+
+// `distances::distances`: 0 where it filled the table.
 #[unsafe(no_mangle)]
 pub extern "C" fn bench_distances(
     bridges: usize,
@@ -17,9 +19,13 @@ pub extern "C" fn bench_distances(
 ) -> u8
     ensures { outcome result table.new ≡ distances_of bridges links ends.now costs.now table.old }
 {
-    let reply = distances::distances(bridges, links, ends, costs, table);
-    match reply {
-        distances::Reply::Refused => 17,
-        distances::Reply::Filled => 0,
+    let graph = Graph {
+        bridges,
+        links,
+        ends,
+    };
+    match distances::distances(&graph, costs, table) {
+        Ok(()) => 0,
+        Err(refusal) => refusal.number(),
     }
 }

@@ -10,10 +10,10 @@ use lib.Seq.{sets}
 use lib.Dec.{eqb}
 use Rattle.bench.specs.declared.Event.{Event}
 use Rattle.bench.specs.declared.Event.TheVariants.{Update, Send, Deliver, Repeat, Lose, Cut, Restore, Report, Path}
-use Rattle.plan.specs.Tags.{tags, known}
+use Rattle.plan.specs.Tags.{known}
 use Rattle.plan.specs.Fields.{byte, tag, value, event_by, field_of}
 use Rattle.plan.specs.declared.Field.{Field}
-use Rattle.plan.proofs.TagTable.{rules_of, rules, in-range}
+use Rattle.plan.proofs.TagTable.{in-range}
 use Rattle.exports_network.specs.Reading.{event_numbers, field_numbers}
 
 -- three numbers put in front, and a fourth behind them
@@ -62,7 +62,7 @@ field_tag f = get_or (field_numbers f) 0 0
 
 -- the first number of a field with a known tag is its first byte
 pub tag-told : (rest : List ℕ) → known (tag rest) ≡ true → get_or (field_numbers (field_of rest)) 0 0 ≡ byte rest 0
-unfolding field_of field_tag event_tag rules rules_of tags
+unfolding field_of field_tag event_tag
 tag-told rest named =
     let t = tag rest in
     let inside = in-range t named in

@@ -1,4 +1,5 @@
-pub mod Room
-pub mod Refusals
+pub mod Parts
+pub mod Loaded
 pub mod PathNumbers
 pub mod FieldNumbers
+pub mod Frame

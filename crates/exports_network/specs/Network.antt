@@ -1,7 +1,7 @@
 -- A bench as numbers in a list, and what each exported call of layer 3 does, for every input: its reply and every list that it may
 -- write. Each is the call of the same name in `bench`; a list too short for the bench or for the answer, and a number that does not
 -- fit its field, are refused first. Assumes nothing.
-use Rattle.std.specs.Prelude.{ℕ, ◌+◌, ◌/◌, ◌%◌, ◌-◌, Bool, false, cond, ◌&&◌, List, [], ◌∷◌, length, get_or, take, drop, eqb, leb, ltb}
+use Rattle.std.specs.Prelude.{ℕ, ◌+◌, ◌/◌, ◌%◌, ◌-◌, ◌≡◌, ◌≤◌, Bool, true, false, cond, ◌&&◌, List, [], ◌∷◌, length, get_or, take, drop, eqb, leb, ltb}
 use Rattle.distances.specs.Table.{rewritten}
 use Rattle.distances.specs.Call.{all_below}
 use Rattle.agreement.specs.Record.{fresh_record, answer_numbers}
@@ -48,6 +48,12 @@ abbrev pub holds_bench : List ℕ → Bool
 holds_bench xs =
     leb bench_numbers (length xs) && (each_below 80 4 256 xs && (each_below 16 84 65536 xs && holds_records (take 256 (drop 100 xs))))
 
+-- for private functions: the list holds this bench
+pub record Holds (xs : List ℕ) (b : Bench) : Type 0 where
+  pub test : holds_bench xs ≡ true
+  pub room : bench_numbers ≤ length xs
+  pub bench : b ≡ bench_in xs
+
 -- a count as a number of 32 bits
 abbrev pub low : ℕ → ℕ
 low x = x % 4294967296
@@ -86,26 +92,26 @@ change_reply {A} test xs s call others =
 abbrev pub done : Call → State → Outcome (Unit {0})
 done c s = outcome_of s c (λ n. tt)
 
-unfoldable pub net_cut_reply : List ℕ → ℕ → ℕ → CallOutcome
+abbrev pub net_cut_reply : List ℕ → ℕ → ℕ → CallOutcome
 net_cut_reply xs y l = change_reply (holds_bench xs) xs (state (bench_in xs) [] [] [] []) (done (change (cut y l))) (λ o. [])
 
-unfoldable pub net_restore_reply : List ℕ → ℕ → ℕ → CallOutcome
+abbrev pub net_restore_reply : List ℕ → ℕ → ℕ → CallOutcome
 net_restore_reply xs y l = change_reply (holds_bench xs) xs (state (bench_in xs) [] [] [] []) (done (change (restore y l))) (λ o. [])
 
-unfoldable pub net_fresh_reply : List ℕ → List ℕ → List ℕ → List ℕ → CallOutcome
+abbrev pub net_fresh_reply : List ℕ → List ℕ → List ℕ → List ℕ → CallOutcome
 net_fresh_reply xs costs sent held =
     change_reply (holds_bench xs) xs (state (bench_in xs) costs sent held []) fresh_of (λ o. o.state.sent ∷ o.state.held ∷ [])
 
-unfoldable pub net_update_reply : List ℕ → List ℕ → List ℕ → List ℕ → ℕ → ℕ → CallOutcome
+abbrev pub net_update_reply : List ℕ → List ℕ → List ℕ → List ℕ → ℕ → ℕ → CallOutcome
 net_update_reply xs costs sent held y t =
     change_reply (holds_bench xs) xs (state (bench_in xs) costs sent held []) (done (change (update y t)))
     (λ o. o.state.sent ∷ o.state.held ∷ [])
 
-unfoldable pub net_send_reply : List ℕ → List ℕ → ℕ → ℕ → CallOutcome
+abbrev pub net_send_reply : List ℕ → List ℕ → ℕ → ℕ → CallOutcome
 net_send_reply xs messages y l =
     change_reply (holds_bench xs) xs (state (bench_in xs) [] [] [] messages) (done (send y l)) (λ o. o.state.messages ∷ [])
 
-unfoldable pub net_lose_reply : List ℕ → List ℕ → ℕ → CallOutcome
+abbrev pub net_lose_reply : List ℕ → List ℕ → ℕ → CallOutcome
 net_lose_reply xs messages p =
     change_reply (holds_bench xs) xs (state (bench_in xs) [] [] [] messages) (done (lose p)) (λ o. o.state.messages ∷ [])
 
@@ -115,10 +121,10 @@ delivery_reply c p xs s out =
     change_reply (holds_bench xs && leb 3 (length out)) xs s (λ s. outcome_of s c (λ n. answer_at n p))
     (λ o. with_value answer_numbers out o.reply.value ∷ o.state.sent ∷ o.state.held ∷ o.state.messages ∷ [])
 
-unfoldable pub net_deliver_reply : List ℕ → List ℕ → List ℕ → List ℕ → List ℕ → List ℕ → ℕ → CallOutcome
+abbrev pub net_deliver_reply : List ℕ → List ℕ → List ℕ → List ℕ → List ℕ → List ℕ → ℕ → CallOutcome
 net_deliver_reply xs costs sent held messages out p = delivery_reply (deliver p) p xs (state (bench_in xs) costs sent held messages) out
 
-unfoldable pub net_repeat_reply : List ℕ → List ℕ → List ℕ → List ℕ → List ℕ → List ℕ → ℕ → CallOutcome
+abbrev pub net_repeat_reply : List ℕ → List ℕ → List ℕ → List ℕ → List ℕ → List ℕ → ℕ → CallOutcome
 net_repeat_reply xs costs sent held messages out p = delivery_reply (repeat p) p xs (state (bench_in xs) costs sent held messages) out
 
 -- a call that only asks: its value's numbers, `size` of them, go to `out`; 17 first where the list holds no bench or `out` is shorter
@@ -126,19 +132,19 @@ abbrev pub ask_reply : {A : Type 0} → ℕ → (A → List ℕ) → Call → (N
 ask_reply size numbers c value xs s out =
     if_long (holds_bench xs && leb size (length out)) (out ∷ []) (value_reply numbers out (outcome_of s c value).reply)
 
-unfoldable pub net_port_reply : List ℕ → List ℕ → List ℕ → List ℕ → ℕ → ℕ → List ℕ → CallOutcome
+abbrev pub net_port_reply : List ℕ → List ℕ → List ℕ → List ℕ → ℕ → ℕ → List ℕ → CallOutcome
 net_port_reply xs costs sent held y d out =
     ask_reply 1 port_numbers (port y d) (λ n. forwarding_port n y d) xs (state (bench_in xs) costs sent held []) out
 
-unfoldable pub net_verdict_reply : List ℕ → List ℕ → List ℕ → List ℕ → ℕ → ℕ → List ℕ → CallOutcome
+abbrev pub net_verdict_reply : List ℕ → List ℕ → List ℕ → List ℕ → ℕ → ℕ → List ℕ → CallOutcome
 net_verdict_reply xs costs sent held y d out =
     ask_reply 2 verdict_numbers (verdict y d) (λ n. forwarding_verdict n y d) xs (state (bench_in xs) costs sent held []) out
 
-unfoldable pub net_path_reply : List ℕ → List ℕ → List ℕ → List ℕ → ℕ → ℕ → List ℕ → CallOutcome
+abbrev pub net_path_reply : List ℕ → List ℕ → List ℕ → List ℕ → ℕ → ℕ → List ℕ → CallOutcome
 net_path_reply xs costs sent held y d out =
     ask_reply 3 path_numbers (path y d) (λ n. paths.path n y d) xs (state (bench_in xs) costs sent held []) out
 
-unfoldable pub net_report_reply : List ℕ → List ℕ → List ℕ → List ℕ → ℕ → List ℕ → CallOutcome
+abbrev pub net_report_reply : List ℕ → List ℕ → List ℕ → List ℕ → ℕ → List ℕ → CallOutcome
 net_report_reply xs costs sent held d rows =
     let o : ReportOutcome = report_of (state (bench_in xs) costs sent held []) d rows in
     if_long (holds_bench xs) (rows ∷ []) (call_outcome o.reply.number (o.rows ∷ []))

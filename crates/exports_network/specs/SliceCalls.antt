@@ -6,7 +6,7 @@ use Rattle.exports_network.specs.Network.{net_send_reply, net_lose_reply, net_de
 use Rattle.bench.specs.Sizes.{flight_numbers}
 
 -- the rest behind the last list
-unfoldable pub followed : List ℕ → List (List ℕ) → List (List ℕ)
+abbrev pub followed : List ℕ → List (List ℕ) → List (List ℕ)
 followed rest [] = []
 followed rest (l ∷ []) = (l ++ rest) ∷ []
 followed rest (l ∷ m ∷ ls) = l ∷ followed rest (m ∷ ls)
@@ -17,16 +17,16 @@ over_first lists messages call =
     let t : CallOutcome = call (take flight_numbers messages) in
     if_long (leb flight_numbers (length messages)) lists (call_outcome t.reply (followed (drop flight_numbers messages) t.lists))
 
-unfoldable pub slice_send_reply : List ℕ → List ℕ → ℕ → ℕ → CallOutcome
+abbrev pub slice_send_reply : List ℕ → List ℕ → ℕ → ℕ → CallOutcome
 slice_send_reply xs messages y l = over_first (xs ∷ messages ∷ []) messages (λ m. net_send_reply xs m y l)
 
-unfoldable pub slice_lose_reply : List ℕ → List ℕ → ℕ → CallOutcome
+abbrev pub slice_lose_reply : List ℕ → List ℕ → ℕ → CallOutcome
 slice_lose_reply xs messages p = over_first (xs ∷ messages ∷ []) messages (λ m. net_lose_reply xs m p)
 
-unfoldable pub slice_deliver_reply : List ℕ → List ℕ → List ℕ → List ℕ → List ℕ → List ℕ → ℕ → CallOutcome
+abbrev pub slice_deliver_reply : List ℕ → List ℕ → List ℕ → List ℕ → List ℕ → List ℕ → ℕ → CallOutcome
 slice_deliver_reply xs costs sent held messages out p =
     over_first (xs ∷ out ∷ sent ∷ held ∷ messages ∷ []) messages (λ m. net_deliver_reply xs costs sent held m out p)
 
-unfoldable pub slice_repeat_reply : List ℕ → List ℕ → List ℕ → List ℕ → List ℕ → List ℕ → ℕ → CallOutcome
+abbrev pub slice_repeat_reply : List ℕ → List ℕ → List ℕ → List ℕ → List ℕ → List ℕ → ℕ → CallOutcome
 slice_repeat_reply xs costs sent held messages out p =
     over_first (xs ∷ out ∷ sent ∷ held ∷ messages ∷ []) messages (λ m. net_repeat_reply xs costs sent held m out p)

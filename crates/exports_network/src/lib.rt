@@ -1,4 +1,4 @@
-// What Rust and C may call of layer 3 and of the plan's reader: the public calls, each reply as document 01's number.
+// What Rust and C may call of layer 3 and of the plan's reader: the public calls, each reply as its number in the table of refusals.
 #![tactic(auto)]
 
 mod benches;

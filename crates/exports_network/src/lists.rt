@@ -1,35 +1,45 @@
 // The list of calls of layer 3 over numbers, a bench as `benches` has it, as the single calls of `network` are.
 ghost use Rattle.std.specs.Prelude.{◌≡◌, [], ◌∷◌, ◌≤◌, length};
 ghost use Rattle.std.proofs.lemmas.List.Edits.{sets};
-ghost use Rattle.bench.specs.Batches.{refusal_in};
+ghost use Rattle.bench.specs.Batches.{ending_of};
 ghost use Rattle.encoding.specs.Replies.{call_outcome};
-ghost use Rattle.exports_network.specs.Lists.{stored_if_made, counts_of, net_run_reply};
+ghost use Rattle.exports_network.specs.Lists.{stored_if_made, counts_of, ending_number, net_run_reply};
 
-use crate::benches;
-use bench::BatchResult;
+use crate::benches::{self, low_of};
+use crate::network::OUT_OF_RANGE;
+use agreement::LimitsMut;
 use bench::batches::refusal_in;
+use bench::{BatchResult, Bench, LentMut};
 use encoding::put_three;
-use plan::sizes::EVENT_ENDS;
+use plan::events::{list_progress, read_events};
 
 // The events made, the bytes used and the numbers answered with.
 const COUNTS: usize = 3;
 
-// The new bench goes to `numbers` where an event was made, and the counts to `out`.
-fn store_batch(batch: BatchResult, used: usize, numbers: &mut [u32], out: &mut [u32]) -> u8
+// The bench goes to `numbers` where an event was made, and the counts to `out`.
+fn store_batch(
+    batch: &BatchResult,
+    used: usize,
+    bench: &Bench,
+    numbers: &mut [u32],
+    out: &mut [u32],
+) -> u8
     requires { (420 ≤ length numbers.old) × (3 ≤ length out.old) }
-    ensures { (result ≡ refusal_in batch.disposition) × (numbers.new ≡ stored_if_made batch.made batch.bench numbers.old) × (out.new ≡ sets out.old 0 (counts_of batch.made used batch.answered)) }
+    ensures { (result ≡ ending_number (ending_of batch.now.disposition)) × (numbers.new ≡ stored_if_made batch.now.made bench.now numbers.old) × (out.new ≡ sets out.old 0 (counts_of batch.now.made used batch.now.answered)) }
 {
-    let how = batch.disposition;
-    let bench = batch.bench;
-    let made = benches::low_of(batch.made);
-    let bytes = benches::low_of(used);
-    let answered = benches::low_of(batch.answered);
-    put_three(made, bytes, answered, out);
-    if batch.made == 0 {
-        return refusal_in(how);
+    put_three(
+        low_of(batch.made),
+        low_of(used),
+        low_of(batch.answered),
+        out,
+    );
+    if batch.made != 0 {
+        benches::store(bench, numbers);
     }
-    benches::store(bench, numbers);
-    refusal_in(how)
+    match refusal_in(batch.disposition) {
+        Some(refusal) => refusal.number(),
+        None => 0,
+    }
 }
 
 // `bench::batches::run` of the events at the head of a plan's bytes, as many as have room for what they answer with: the number of the
@@ -48,18 +58,19 @@ pub extern "C" fn bench_net_run(
 ) -> u8
     ensures { call_outcome result (bench.new ∷ out.new ∷ sent.new ∷ held.new ∷ messages.new ∷ answers.new ∷ []) ≡ net_run_reply bench.old costs.now sent.old held.old messages.old rest.now answers.old out.old }
 {
-    if !benches::holds(bench) {
-        return 17;
-    }
+    let Some(mut old) = benches::load(bench) else {
+        return OUT_OF_RANGE;
+    };
     if out.len() < COUNTS {
-        return 17;
+        return OUT_OF_RANGE;
     }
-    let old = benches::load(bench);
-    let mut ends = [0u16; EVENT_ENDS];
-    let progress = plan::events::list_progress(old);
-    let events = plan::events::read_events(rest, progress, answers.len(), &mut ends);
-    let count = ends[0] as usize;
-    let batch = bench::batches::run(old, costs, sent, held, messages, events, count, answers);
-    let used = plan::events::bytes_of(&ends, batch.made);
-    store_batch(batch, used, bench, out)
+    let events = read_events(rest, list_progress(&old), answers.len());
+    let mut limits = LimitsMut { sent, held };
+    let mut net = LentMut {
+        bench: &mut old,
+        costs,
+        limits: &mut limits,
+    };
+    let batch = bench::batches::run(&mut net, messages, events.list(), answers);
+    store_batch(&batch, events.bytes_of(batch.made), &old, bench, out)
 }

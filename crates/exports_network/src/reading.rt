@@ -1,19 +1,21 @@
-// The plan file's reader over numbers. Each call answers document 01's number, 0 where nothing is refused; a refused call changes nothing.
+// The plan file's reader over numbers. Each call answers its number in the table of refusals, 0 where nothing is refused; a refused call changes nothing.
 ghost use Rattle.std.specs.Prelude.{◌≡◌, [], ◌∷◌};
 ghost use Rattle.std.proofs.lemmas.List.Edits.{sets};
 ghost use Rattle.encoding.specs.Replies.{call_outcome};
 ghost use Rattle.exports_network.specs.Reading.{event_numbers, field_numbers, read_field_reply, tell_field_reply, read_costs_reply};
-ghost use Rattle.plan.specs.Reading.{storing_number};
 
-use crate::benches;
+use crate::benches::low_of;
+use crate::network::{OUT_OF_RANGE, number_of};
 use bench::Event;
 use encoding::put_three;
-use plan::{Field, Progress, Read, Storing};
+use plan::fields::{read_costs, read_field};
+use plan::{Field, Progress};
 
 // The numbers of a field that was read: its tag, its two numbers, the bytes that it takes.
 const FIELD_NUMBERS: usize = 4;
 
-// The tag, and the numbers of the value, 0 for a second that there is not.
+// The tag, and the numbers of the value, 0 for a second that there is not. The C interface has the tags as these numbers; plan's own enum of
+// them is private.
 fn put_event(event: Event, out: &mut [u32])
     ensures { out.new ≡ sets out.old 0 (event_numbers event) }
 {
@@ -56,7 +58,7 @@ pub extern "C" fn bench_read_field(
     ensures { call_outcome result (out.new ∷ []) ≡ read_field_reply rest.now stage bridges links views out.old }
 {
     if out.len() < 1 {
-        return 17;
+        return OUT_OF_RANGE;
     }
     let progress = Progress {
         stage,
@@ -64,19 +66,12 @@ pub extern "C" fn bench_read_field(
         links,
         views,
     };
-    let read = plan::fields::read_field(rest, progress);
-    match read {
-        Read::Field(_, used) => {
-            out[0] = benches::low_of(used);
-            0
-        }
-        Read::Stop(number) => {
-            if number == 0 {
-                out[0] = 0;
-            }
-            number
-        }
-    }
+    out[0] = match read_field(rest, progress) {
+        Ok(Some((_, used))) => low_of(used),
+        Ok(None) => 0,
+        Err(refusal) => return refusal.number(),
+    };
+    0
 }
 
 // The same, and the field goes to `out`, so that a caller can compare it with the one that it wrote: its tag, its two numbers, the bytes that it takes; four zeros where the plan properly ends. An `out` of fewer than
@@ -93,7 +88,7 @@ pub extern "C" fn bench_tell_field(
     ensures { call_outcome result (out.new ∷ []) ≡ tell_field_reply rest.now stage bridges links views out.old }
 {
     if out.len() < FIELD_NUMBERS {
-        return 17;
+        return OUT_OF_RANGE;
     }
     let progress = Progress {
         stage,
@@ -101,29 +96,18 @@ pub extern "C" fn bench_tell_field(
         links,
         views,
     };
-    let read = plan::fields::read_field(rest, progress);
-    match read {
-        Read::Field(field, used) => {
+    match read_field(rest, progress) {
+        Ok(Some((field, used))) => {
             put_field(field, out);
-            out[3] = benches::low_of(used);
+            out[3] = low_of(used);
             0
         }
-        Read::Stop(number) => {
-            if number == 0 {
-                put_three(0, 0, 0, out);
-                out[3] = 0;
-            }
-            number
+        Ok(None) => {
+            put_three(0, 0, 0, out);
+            out[3] = 0;
+            0
         }
-    }
-}
-
-fn costs_number(reply: Storing) -> u8
-    ensures { result ≡ storing_number reply }
-{
-    match reply {
-        Storing::Refused(by) => by,
-        Storing::Stored => 0,
+        Err(refusal) => refusal.number(),
     }
 }
 
@@ -132,5 +116,5 @@ fn costs_number(reply: Storing) -> u8
 pub extern "C" fn bench_read_costs(rest: &[u8], links: usize, row: &mut [u32]) -> u8
     ensures { call_outcome result (row.new ∷ []) ≡ read_costs_reply rest.now links row.old }
 {
-    costs_number(plan::fields::read_costs(rest, links, row))
+    number_of(read_costs(rest, links, row))
 }

@@ -1,105 +1,100 @@
--- The slice's messages and their numbers: what the two writes of the slice, `shifted_up` and `put_from`, make of the numbers of its first 64, and what they leave alone.
---     numbers-…        the numbers of a part, and of a run of stores
---     moved-flight     the messages moved up, in the numbers        moved-rest, put_rest     what lies past the first 64
---     written-front    what `numbers_of` leaves in the front of a lent table
--- Assumes nothing.
-use mathlib.Core.Path.{◌≡◌, refl, sym, ◌∙◌, ap}
-use Prim.Native.Nat.{ℕ, zero, suc, ◌+◌, ◌-◌, ◌*◌, ◌≤◌, min}
-use native.Mathlib.Omega.{arith}
-use mathlib.Core.List.{List, [], ◌∷◌}
-use lib.ListN.{length, set, take, drop, length-take}
-use lib.Seq.{sets, take_at, take-nil, drop-nil, length-take-le, sets-eq}
+-- A slice's messages and their numbers. Assumes nothing.
+--     numbers-length, numbers-append    the numbers of messages one behind the other
+--     in-flight, flight_all             all that a call reads of a slice
+--     five, five-at                     five numbers, and those of a list that is cut into fives
+--     read-one, in-place, behind        a turn of the loop that reads a slice, and of the one that writes it
+use Rattle.std.proofs.Common.{◌≡◌, ℕ, zero, suc, ◌+◌, ◌*◌, ◌<◌, ◌≤◌, ◌-◌, min, List, [], ◌∷◌, ◌++◌, length, get_or, take, drop, set, refl, sym, ◌∙◌, ap, arith, length-take}
+use Rattle.std.proofs.lemmas.List.{take_more, take_more_set, take-append-drop, drop-take}
+use Rattle.std.proofs.lemmas.Slice.{take-put_mid}
+use Rattle.std.specs.Simd.{first_chunks}
+use lib.Seq.{take-take, take_all, drop-drop}
+use borrow.Rule.Slice.PartMut.{put_mid}
 use Rattle.messages.specs.declared.Message.{Message}
 use Rattle.messages.specs.Slices.{numbers_in, flight}
-use Rattle.messages.specs.Steps.{shifted, shifted_up, messages_of, put_from}
-use Rattle.messages.proofs.Stores.{take-sets, drop-sets, part-of-front}
 
--- ---- the numbers of a part
-
--- the place of the next message's numbers
-pub five-more : (k : ℕ) → 5 * suc k ≡ suc (suc (suc (suc (suc (5 * k)))))
-five-more k = omega arith
+-- ---- the numbers of messages
 
 pub numbers-length : (ms : List Message) → length (numbers_in ms) ≡ 5 * length ms
 unfolding numbers_in
 numbers-length [] = refl
-numbers-length (m ∷ ms) = ap (λ (n : ℕ). suc (suc (suc (suc (suc n))))) (numbers-length ms) ∙ sym (five-more (length ms))
+numbers-length (m ∷ ms) = let next : 5 * suc (length ms) ≡ suc (suc (suc (suc (suc (5 * length ms))))) = omega arith in ap (λ (n : ℕ). suc (suc (suc (suc (suc n))))) (numbers-length ms) ∙ sym next
 
-pub numbers-take : (n : ℕ) (ms : List Message) → numbers_in (take n ms) ≡ take (5 * n) (numbers_in ms)
+-- the numbers of messages one behind the other
+pub numbers-append : (ms ns : List Message) → numbers_in (ms ++ ns) ≡ numbers_in ms ++ numbers_in ns
 unfolding numbers_in
-numbers-take zero ms = refl
-numbers-take (suc n) [] = sym (take-nil (5 * suc n))
-numbers-take (suc n) (m ∷ ms) =
-    ap (λ (r : List ℕ). m.link ∷ m.direction ∷ m.view ∷ m.number ∷ m.discarded ∷ r) (numbers-take n ms)
-    ∙ sym (ap (λ (k : ℕ). take k (numbers_in (m ∷ ms))) (five-more n))
+numbers-append [] ns = refl
+numbers-append (m ∷ ms) ns = ap (λ (r : List ℕ). m.link ∷ m.direction ∷ m.view ∷ m.number ∷ m.discarded ∷ r) (numbers-append ms ns)
 
-pub numbers-drop : (n : ℕ) (ms : List Message) → numbers_in (drop n ms) ≡ drop (5 * n) (numbers_in ms)
+-- all of a slice that a call reads
+pub in-flight : (ms : List Message) (k : ℕ) → k ≡ min (length ms) 64 → numbers_in (take k ms) ≡ flight ms
+in-flight ms k e =
+    ap numbers_in (sym (take-take k 64 ms (omega (arith, e))) ∙ take_all k (take 64 ms) (omega (arith, e, length-take 64 ms)))
+
+-- 64 messages are all that a call reads of them
+pub flight_all : (ms : List Message) → length ms ≡ 64 → numbers_in ms ≡ flight ms
+flight_all ms e = ap numbers_in (sym (take_all 64 ms (omega (arith, e))))
+
+-- ---- lists that are cut into fives
+
+-- the message that five numbers are
+abbrev pub message : List ℕ → Message
+message l = record { link = get_or l 0 0; direction = get_or l 1 0; view = get_or l 2 0; number = get_or l 3 0; discarded = get_or l 4 0 }
+
+-- and its numbers
+pub five : (l : List ℕ) → length l ≡ 5 → numbers_in (message l ∷ []) ≡ l
 unfolding numbers_in
-numbers-drop zero ms = refl
-numbers-drop (suc n) [] = sym (drop-nil (5 * suc n))
-numbers-drop (suc n) (m ∷ ms) = numbers-drop n ms ∙ sym (ap (λ (k : ℕ). drop k (numbers_in (m ∷ ms))) (five-more n))
+five [] e = absurd (omega arith)
+five (a ∷ []) e = absurd (omega arith)
+five (a ∷ b ∷ []) e = absurd (omega arith)
+five (a ∷ b ∷ c ∷ []) e = absurd (omega arith)
+five (a ∷ b ∷ c ∷ d ∷ []) e = absurd (omega arith)
+five (a ∷ b ∷ c ∷ d ∷ f ∷ []) e = refl
+five (a ∷ b ∷ c ∷ d ∷ f ∷ g ∷ l) e = absurd (omega arith)
 
-numbers-set : (ms : List Message) (i : ℕ) (m : Message) → numbers_in (set ms i m) ≡ sets (numbers_in ms) (5 * i) (numbers_in (m ∷ []))
-unfolding numbers_in
-numbers-set [] i m = refl
-numbers-set (x ∷ ms) zero m = refl
-numbers-set (x ∷ ms) (suc i) m =
-    ap (λ (r : List ℕ). x.link ∷ x.direction ∷ x.view ∷ x.number ∷ x.discarded ∷ r) (numbers-set ms i m)
-    ∙ sym (ap (λ (k : ℕ). sets (numbers_in (x ∷ ms)) k (numbers_in (m ∷ []))) (five-more i))
+-- the front of a list in two parts
+pub take_two : (m n : ℕ) (l : List ℕ) → take m l ++ take n (drop m l) ≡ take (m + n) l
+take_two m n l = sym (λ i. take-take m (m + n) l (omega arith) i ++ drop-take m n l i) ∙ take-append-drop m (take (m + n) l)
 
-pub numbers-sets : (vs ms : List Message) (i : ℕ) → numbers_in (sets ms i vs) ≡ sets (numbers_in ms) (5 * i) (numbers_in vs)
-unfolding numbers_in
-numbers-sets [] ms i = refl
-numbers-sets (m ∷ vs) ms i =
-    numbers-sets vs (set ms i m) (suc i)
-    ∙ ap (λ (r : List ℕ). sets r (5 * suc i) (numbers_in vs)) (numbers-set ms i m)
-    ∙ ap (λ (k : ℕ). sets (sets (numbers_in ms) (5 * i) (numbers_in (m ∷ []))) k (numbers_in vs)) (five-more i)
+-- the fives of a list that is cut
+pub five-at : (n k : ℕ) (l : List ℕ) → k < n → get_or (first_chunks 5 n l) k [] ≡ take 5 (drop (5 * k) l)
+five-at zero k l h = absurd (omega arith)
+five-at (suc n) zero l h = refl
+five-at (suc n) (suc k) l h =
+    let next : 5 + 5 * k ≡ 5 * suc k = omega arith in
+    five-at n k (drop 5 l) (omega arith)
+    ∙ ap (take 5) (drop-drop (5 * k) 5 l ∙ ap (λ (j : ℕ). drop j l) next)
 
--- ---- messages moved up
+-- ---- the turns of the loops
 
--- how many move is at most how many there are to move
-pub moved-count : (at past : ℕ) (ms : List Message) → length (take (past - at) (drop (suc at) ms)) ≤ past - at
-moved-count at past ms = omega (arith, length-take (past - at) (drop (suc at) ms))
+-- a turn of `copies::read`: the part that holds message k's numbers is written
+pub read-one :
+    (ms : List Message) (m : Message) (k j : ℕ) (l five : List ℕ) →
+    k < length ms → 5 * k + 5 ≤ length l → take (5 * k) l ≡ numbers_in (take k ms) → five ≡ numbers_in (get_or ms k m ∷ []) →
+    take (5 * (k + 1)) (put_mid (5 * k) j l five) ≡ numbers_in (take (k + 1) ms)
+read-one ms m k j l five h fits e f =
+    take-put_mid (5 * k) j l five (5 * (k + 1)) (omega (arith, ap length f, numbers-length (get_or ms k m ∷ []))) (omega arith)
+    ∙ (λ i. e i ++ f i)
+    ∙ sym (ap numbers_in (take_more ms k m h) ∙ numbers-append (take k ms) (get_or ms k m ∷ []))
 
-pub moved-rest : (ms : List Message) (at past : ℕ) → at ≤ past → past ≤ 63 → drop 64 (shifted_up at past ms) ≡ drop 64 ms
-moved-rest ms at past h few = drop-sets 64 (take (past - at) (drop (suc at) ms)) ms at (omega (arith, moved-count at past ms))
+-- a turn of `copies::write`: message k is put in its place
+pub in-place :
+    (ms : List Message) (m : Message) (k : ℕ) (l : List ℕ) →
+    k < length ms → numbers_in (take k ms) ≡ take (5 * k) l → numbers_in (m ∷ []) ≡ take 5 (drop (5 * k) l) →
+    numbers_in (take (k + 1) (set ms k m)) ≡ take (5 * (k + 1)) l
+in-place ms m k l h e f =
+    let next : 5 * k + 5 ≡ 5 * (k + 1) = omega arith in
+    ap numbers_in (take_more_set ms k m h)
+    ∙ numbers-append (take k ms) (m ∷ [])
+    ∙ (λ i. e i ++ f i)
+    ∙ take_two (5 * k) 5 l
+    ∙ ap (λ (j : ℕ). take j l) next
 
--- each number moves up by five places
-pub moved-flight : (ms : List Message) (at past : ℕ) → at ≤ past → past ≤ 63 → flight (shifted_up at past ms) ≡ shifted at past (flight ms)
-moved-flight ms at past h few =
-    ap numbers_in (take-sets 64 (take (past - at) (drop (suc at) ms)) ms at (omega (arith, moved-count at past ms)))
-    ∙ numbers-sets (take (past - at) (drop (suc at) ms)) (take 64 ms) at
-    ∙ ap (sets (flight ms) (5 * at)) moves
-  where
-    many : 5 * (past - at) ≡ 5 * past - 5 * at
-    many = omega arith
-
-    first : 5 * suc at ≡ 5 * at + 5
-    first = omega arith
-
-    moves : numbers_in (take (past - at) (drop (suc at) ms)) ≡ take (5 * past - 5 * at) (drop (5 * at + 5) (flight ms))
-    moves =
-        ap numbers_in (sym (part-of-front (past - at) (suc at) 64 ms (omega arith)))
-        ∙ numbers-take (past - at) (drop (suc at) (take 64 ms))
-        ∙ ap (take (5 * (past - at))) (numbers-drop (suc at) (take 64 ms))
-        ∙ rw (many, first)
-
--- ---- messages put
-
-pub messages-count : (ns : List ℕ) (p n : ℕ) → length (messages_of ns p n) ≡ n
-unfolding messages_of
-messages-count ns p zero = refl
-messages-count ns p (suc n) = ap suc (messages-count ns (suc p) n)
-
-pub put_rest : (ms : List Message) (ns : List ℕ) (start past : ℕ) → start ≤ past → past ≤ min (length ms) 64 → drop 64 (put_from ns start past ms) ≡ drop 64 ms
-put_rest ms ns start past h low = drop-sets 64 (messages_of ns start (past - start)) ms start (omega (arith, messages-count ns start (past - start)))
-
--- ---- the numbers written to the front of a lent table
-
-pub written-front : (count : ℕ) (ms : List Message) (l : List ℕ) → count ≤ length ms → 5 * count ≤ length l → take (5 * count) (sets l 0 (numbers_in (take count ms))) ≡ numbers_in (take count ms)
-written-front count ms l h fits =
-    ap (take (5 * count)) (sets-eq (numbers_in (take count ms)) l 0 (omega (arith, long)))
-    ∙ take_at (numbers_in (take count ms)) (drop (0 + length (numbers_in (take count ms))) l) (5 * count) long
-  where
-    long : length (numbers_in (take count ms)) ≡ 5 * count
-    long = numbers-length (take count ms) ∙ ap (λ (n : ℕ). 5 * n) (length-take-le count ms h)
+-- and those behind a place are as they were, further back too
+pub behind : (ms ns : List Message) (k n : ℕ) → k ≤ n → drop k ms ≡ drop k ns → drop n ms ≡ drop n ns
+behind ms ns k n h e =
+    let rest : n ≡ k + (n - k) = omega arith in
+    ap (λ (j : ℕ). drop j ms) rest
+    ∙ sym (drop-drop (n - k) k ms)
+    ∙ ap (drop (n - k)) e
+    ∙ drop-drop (n - k) k ns
+    ∙ sym (ap (λ (j : ℕ). drop j ns) rest)

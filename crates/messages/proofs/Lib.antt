@@ -1,10 +1,4 @@
-pub mod SliceLaws
-pub mod DecisionLaws
-pub mod Shifts
-pub mod Stores
 pub mod Flight
-pub mod PlainLaws
 pub mod SliceForms
 pub mod SliceWhole
-pub mod Told
 pub mod SliceLeads

@@ -3,21 +3,18 @@ use Prim.Native.Nat.{ℕ}
 use native.Mathlib.Omega.{arith}
 use mathlib.Core.Path.{◌≡◌, refl, sym, ◌∙◌, ap}
 use mathlib.Core.List.{List, [], ◌∷◌, ◌++◌}
-use lib.ListN.{length, take, drop, get_or, take-append-drop}
+use lib.ListN.{length, take, drop, take-append-drop}
 use Rattle.agreement.specs.Call.{Response}
 use Rattle.bench.specs.State.{state}
 use Rattle.bench.specs.Outcomes.{Outcome, outcome}
 use Rattle.bench.specs.declared.Bench.{Bench}
 use Rattle.messages.specs.declared.Message.{Message}
 use Rattle.messages.specs.Slices.{numbers_in, flight}
-
--- the message that five numbers are
-message : List ℕ → Message
-message l = record { link = get_or l 0 0; direction = get_or l 1 0; view = get_or l 2 0; number = get_or l 3 0; discarded = get_or l 4 0 }
+use Rattle.messages.proofs.Flight.{message}
 
 -- messages with the same numbers are the same
 pub numbers-same : (ms ns : List Message) → numbers_in ms ≡ numbers_in ns → ms ≡ ns
-unfolding numbers_in message
+unfolding numbers_in
 numbers-same [] [] e = refl
 numbers-same [] (n ∷ ns) e = absurd (omega (arith, ap length e))
 numbers-same (m ∷ ms) [] e = absurd (omega (arith, ap length e))

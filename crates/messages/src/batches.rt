@@ -1,98 +1,53 @@
 // A list of events over message structs: the bench's list, run on the messages' numbers.
-ghost use Rattle.std.specs.Prelude.{◌≡◌, length, drop, replicate};
-ghost use Rattle.bench.specs.State.{state};
-ghost use Rattle.bench.specs.Batches.{batch_outcome, batch_of};
+ghost use Rattle.std.specs.Prelude.{◌≡◌, drop, replicate};
+ghost use Rattle.bench.specs.State.{state_of, SameReferences};
+ghost use Rattle.bench.specs.Batches.{ending_of, batch_outcome, batch_of};
 ghost use Rattle.messages.specs.Slices.{numbers_in, flight};
-ghost use Rattle.messages.specs.Steps.{took};
 
-use crate::decisions::room;
-use crate::numbers::numbers_in;
-use crate::plain::messages_in;
-use crate::{Message, copies};
-use bench::sizes::{MESSAGE, MESSAGES, MOST_EVENTS, MOST_MESSAGES};
-use bench::{BatchResult, Bench, Event};
-
-// A list that was run, beside the messages that are then in flight.
-#[derive(Clone, Copy)]
-pub struct BatchAndMessages {
-    pub batch: BatchResult,
-    pub messages: [Message; MOST_MESSAGES],
-}
+use crate::Message;
+use crate::copies::by_numbers;
+use bench::sizes::MOST_MESSAGES;
+use bench::{BatchResult, Event, LentMut};
 
 // No message in flight.
+#[tactic(auto, unfolding(crate::specs::Slices::numbers_in))]
 pub fn no_messages() -> [Message; MOST_MESSAGES]
     ensures { numbers_in result ≡ replicate 320 0 }
 {
-    messages_in([0u32; MESSAGES])
-}
-
-// The list on the numbers of a slice of `len` messages: only those that the slice has room for are lent to the bench.
-pub(crate) fn run_numbers(
-    bench: Bench,
-    costs: &[u32],
-    sent: &mut [u32],
-    held: &mut [u32],
-    numbers: &mut [u32],
-    events: [Event; MOST_EVENTS],
-    count: usize,
-    answers: &mut [u32],
-    len: usize,
-) -> BatchResult
-    requires { length numbers.old ≡ 320 }
-    ensures { batch_outcome result.made result.answered result.disposition (state result.bench costs.now sent.new held.new (took len numbers.new)) answers.new ≡ batch_of (state bench costs.now sent.old held.old (took len numbers.old)) events count answers.old }
-{
-    let taken = &mut numbers[..MESSAGE * room(len)];
-    bench::batches::run(bench, costs, sent, held, taken, events, count, answers)
+    [Message {
+        link: 0,
+        direction: 0,
+        view: 0,
+        number: 0,
+        discarded: 0,
+    }; MOST_MESSAGES]
 }
 
 // The list over a lent slice: its messages are read once before the list, and written once after it.
 pub fn run(
-    bench: Bench,
-    costs: &[u32],
-    sent: &mut [u32],
-    held: &mut [u32],
+    net: &mut LentMut,
     ms: &mut [Message],
-    events: [Event; MOST_EVENTS],
-    count: usize,
+    events: &[Event],
     answers: &mut [u32],
 ) -> BatchResult
-    ensures answers_after { batch_outcome result.made result.answered result.disposition (state result.bench costs.now sent.new held.new (flight ms.new)) answers.new ≡ batch_of (state bench costs.now sent.old held.old (flight ms.old)) events count answers.old }
+    ensures answers_after { batch_outcome result.made result.answered (ending_of result.disposition) (state_of net.new (flight ms.new)) answers.new ≡ batch_of (state_of net.old (flight ms.old)) events.now answers.old }
     ensures ms_unchanged { drop 64 ms.new ≡ drop 64 ms.old }
+    ensures same_references { SameReferences net.old net.new }
 {
-    let mut numbers = numbers_in(ms);
-    let len = ms.len();
-    let batch = run_numbers(
-        bench,
-        costs,
-        sent,
-        held,
-        &mut numbers,
-        events,
-        count,
-        answers,
-        len,
-    );
-    copies::append(ms, &numbers, 0, room(len));
-    batch
+    let mut call = |numbers: &mut [u32]| bench::batches::run(net, numbers, events, answers);
+    by_numbers(ms, &mut call)
 }
 
-// The list for whoever keeps the messages by value, and lends no slice of structs itself.
-pub fn run_by_value(
-    bench: Bench,
-    costs: &[u32],
-    sent: &mut [u32],
-    held: &mut [u32],
-    messages: [Message; MOST_MESSAGES],
-    events: [Event; MOST_EVENTS],
-    count: usize,
+// The list for whoever keeps as many messages as may be in flight.
+#[tactic(auto, using(crate::proofs::Flight::flight_all))]
+pub fn run_array(
+    net: &mut LentMut,
+    messages: &mut [Message; MOST_MESSAGES],
+    events: &[Event],
     answers: &mut [u32],
-) -> BatchAndMessages
-    ensures { batch_outcome result.batch.made result.batch.answered result.batch.disposition (state result.batch.bench costs.now sent.new held.new (numbers_in result.messages)) answers.new ≡ batch_of (state bench costs.now sent.old held.old (numbers_in messages)) events count answers.old }
+) -> BatchResult
+    ensures outcome { batch_outcome result.made result.answered (ending_of result.disposition) (state_of net.new (numbers_in messages.new)) answers.new ≡ batch_of (state_of net.old (numbers_in messages.old)) events.now answers.old }
+    ensures same_references { SameReferences net.old net.new }
 {
-    let mut ms = messages;
-    let batch = run(bench, costs, sent, held, &mut ms, events, count, answers);
-    BatchAndMessages {
-        batch,
-        messages: ms,
-    }
+    run(net, messages, events, answers)
 }

@@ -1,59 +1,54 @@
-// The slice's numbers, and messages from numbers.
-ghost use Rattle.std.specs.Prelude.{◌≡◌, [], ◌∷◌, ◌*◌, ◌+◌, ◌≤◌, length, take};
-ghost use Rattle.std.proofs.lemmas.List.Edits.{sets};
-ghost use Rattle.messages.specs.Slices.{numbers_in};
-ghost use Rattle.messages.specs.Steps.{message_of_numbers, put_from};
+// A slice's messages as numbers, and back.
+ghost use Rattle.std.specs.Prelude.{◌≡◌, ◌*◌, min, length, drop};
+ghost use Rattle.messages.specs.Slices.{flight};
 
 use crate::Message;
-use crate::places::message_at;
-use bench::sizes::MESSAGE;
+use bench::sizes::{MESSAGE, MESSAGES, MOST_MESSAGES};
 
-pub(crate) fn write_numbers(numbers: &mut [u32], place: usize, m: Message)
-    requires { 5 * place + 5 ≤ length numbers.old }
-    ensures { numbers.new ≡ sets numbers.old (5 * place) (numbers_in (m ∷ [])) }
+// The numbers of the slice's messages.
+#[tactic(auto, unfolding(crate::specs::Slices::numbers_in))]
+pub(crate) fn read(ms: &[Message], numbers: &mut [u32])
+    requires { length numbers.old ≡ 5 * min (length ms.now) 64 }
+    ensures { numbers.new ≡ flight ms.now }
 {
-    let at = MESSAGE * place;
-    numbers[at] = m.link;
-    numbers[at + 1] = m.direction;
-    numbers[at + 2] = m.view;
-    numbers[at + 3] = m.number;
-    numbers[at + 4] = m.discarded;
-}
-
-pub(crate) fn read_message(numbers: &[u32], place: usize) -> Message
-    requires { 5 * place + 5 ≤ length numbers.now }
-    ensures { result ≡ message_of_numbers numbers.now place }
-{
-    let at = MESSAGE * place;
-    Message {
-        link: numbers[at],
-        direction: numbers[at + 1],
-        view: numbers[at + 2],
-        number: numbers[at + 3],
-        discarded: numbers[at + 4],
+    for k in 0..numbers.len() / MESSAGE {
+        let five: [u32; MESSAGE] = ms[k].into();
+        numbers[MESSAGE * k..MESSAGE * k + MESSAGE].copy_from_slice(&five);
     }
 }
 
-// The numbers of the first `count` messages.
-pub(crate) fn numbers_of(ms: &[Message], count: usize, numbers: &mut [u32])
-    requires { (count ≤ length ms.now) × (5 * count ≤ length numbers.old) }
-    ensures { numbers.new ≡ sets numbers.old 0 (numbers_in (take count ms.now)) }
+// The same, at the head of an array.
+pub(crate) fn numbers_of<'a>(ms: &[Message], all: &'a mut [u32; MESSAGES]) -> &'a mut [u32]
+    ensures messages { result.now ≡ flight ms.now }
+    ensures count { length result.now ≡ 5 * min (length ms.now) 64 }
 {
-    let mut k = 0;
-    while k < count {
-        write_numbers(numbers, k, message_at(ms, k));
-        k += 1;
+    let numbers = &mut all[..MESSAGE * ms.len().min(MOST_MESSAGES)];
+    read(ms, numbers);
+    numbers
+}
+
+// The messages that the numbers are, in their places of the slice.
+#[tactic(auto, unfolding(crate::specs::Slices::numbers_in))]
+pub(crate) fn write(numbers: &[u32], ms: &mut [Message])
+    requires { length numbers.now ≡ 5 * min (length ms.old) 64 }
+    ensures in_flight { numbers.now ≡ flight ms.new }
+    ensures behind { drop 64 ms.new ≡ drop 64 ms.old }
+{
+    let (fives, _) = numbers.as_chunks::<MESSAGE>();
+    for (k, five) in fives.iter().enumerate() {
+        ms[k] = Message::from(*five);
     }
 }
 
-// The messages at places `from` up to `past`, as their numbers have them: the one that is sent, or none; all of them after a list.
-pub(crate) fn append(ms: &mut [Message], numbers: &[u32], from: usize, past: usize)
-    requires { (past ≤ length ms.old) × (5 * past ≤ length numbers.now) }
-    ensures { ms.new ≡ put_from numbers.now from past ms.old }
+// A call on the numbers of the slice's messages, with what it leaves of them written back. It is lent: of a closure passed by value nothing would be known of what it leaves of the bench.
+pub(crate) fn by_numbers<R, F: FnMut(&mut [u32]) -> R>(ms: &mut [Message], call: &mut F) -> R
+    requires { F.IsAlwaysCallable call.old }
+    ensures called { (before : _) × (after : _) × (before.now ≡ flight ms.old) × (after.now ≡ flight ms.new) × F.step call.old before result after call.new }
+    ensures behind { drop 64 ms.new ≡ drop 64 ms.old }
 {
-    let mut k = from;
-    while k < past {
-        ms[k] = read_message(numbers, k);
-        k += 1;
-    }
+    let mut all = [0u32; MESSAGES];
+    let numbers = numbers_of(ms, &mut all);
+    let result = call(numbers);
+    write(numbers, ms);
+    result
 }

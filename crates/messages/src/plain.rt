@@ -1,114 +1,68 @@
-// The calls with plain parameters: the messages as 320 numbers, by value. Whoever calls these lends no slice of structs, so that no
-// function above them takes a proof by hand.
+// The calls over the slice for whoever keeps the messages as 320 numbers.
 ghost use Rattle.std.specs.Prelude.{◌≡◌, ℕ, List};
 ghost use Rattle.protocol.specs.Calls as calls;
-ghost use Rattle.bench.specs.State.{state};
-ghost use Rattle.bench.specs.Outcomes.{done_response, reaction_response, outcome, outcome_of};
-ghost use Rattle.messages.specs.Slices.{numbers_in};
+ghost use Rattle.bench.specs.State.{state, state_of, SameReferences};
+ghost use Rattle.agreement.specs.Call.{response};
+ghost use Rattle.bench.specs.Outcomes.{outcome, outcome_of};
 
-use crate::copies::{read_message, write_numbers};
-use crate::{Message, calls};
-use bench::sizes::{MESSAGES, MOST_MESSAGES};
-use bench::{Bench, Changed, DeliveryResult};
-
-#[derive(Clone, Copy)]
-pub struct ChangedNumbers {
-    pub changed: Changed,
-    pub numbers: [u32; MESSAGES],
-}
-
-#[derive(Clone, Copy)]
-pub struct DeliveredNumbers {
-    pub delivery: DeliveryResult,
-    pub numbers: [u32; MESSAGES],
-}
-
-// The messages that 320 numbers are.
-pub(crate) fn messages_in(numbers: [u32; MESSAGES]) -> [Message; MOST_MESSAGES]
-    ensures { numbers_in result ≡ numbers }
-{
-    let mut ms = [Message {
-        link: 0,
-        direction: 0,
-        view: 0,
-        number: 0,
-        discarded: 0,
-    }; MOST_MESSAGES];
-    let mut k = 0;
-    while k < MOST_MESSAGES {
-        ms[k] = read_message(&numbers, k);
-        k += 1;
-    }
-    ms
-}
-
-// And back.
-pub(crate) fn numbers_from(ms: [Message; MOST_MESSAGES]) -> [u32; MESSAGES]
-    ensures { result ≡ numbers_in ms }
-{
-    let mut numbers = [0u32; MESSAGES];
-    let mut k = 0;
-    while k < MOST_MESSAGES {
-        write_numbers(&mut numbers, k, ms[k]);
-        k += 1;
-    }
-    numbers
-}
+use crate::batches::no_messages;
+use crate::calls;
+use crate::copies::{read, write};
+use agreement::Answer;
+use bench::sizes::MESSAGES;
+use bench::{Bench, LentMut};
+use distances::Refusal;
 
 // Appends the message of a bridge over a link.
-pub fn send(bench: Bench, numbers: [u32; MESSAGES], bridge: usize, link: usize) -> ChangedNumbers
-    ensures { (costs sent held : List ℕ) → outcome (done_response result.changed.reply) (state result.changed.bench costs sent held result.numbers) ≡ outcome_of (state bench costs sent held numbers) (calls.send bridge link) (λ n. tt) }
+// No shared function over a closure, as `by_numbers`, for the four: tried, and the proofs of send and lose did not close.
+pub fn send(
+    bench: &mut Bench,
+    numbers: &mut [u32; MESSAGES],
+    bridge: usize,
+    link: usize,
+) -> Result<(), Refusal>
+    ensures { (costs sent held : List ℕ) → outcome (response result) (state bench.new costs sent held numbers.new) ≡ outcome_of (state bench.old costs sent held numbers.old) (calls.send bridge link) (λ n. tt) }
 {
-    let mut ms = messages_in(numbers);
-    let changed = calls::send(bench, &mut ms, bridge, link);
-    ChangedNumbers {
-        changed,
-        numbers: numbers_from(ms),
-    }
+    let mut ms = no_messages();
+    write(numbers, &mut ms);
+    let done = calls::send(bench, &mut ms, bridge, link);
+    read(&ms, numbers);
+    done
 }
 
 // Takes a message out; later ones move up by one.
-pub fn lose(bench: Bench, numbers: [u32; MESSAGES], place: usize) -> ChangedNumbers
-    ensures { (costs sent held : List ℕ) → outcome (done_response result.changed.reply) (state result.changed.bench costs sent held result.numbers) ≡ outcome_of (state bench costs sent held numbers) (calls.lose place) (λ n. tt) }
+pub fn lose(bench: &mut Bench, numbers: &mut [u32; MESSAGES], place: usize) -> Result<(), Refusal>
+    ensures { (costs sent held : List ℕ) → outcome (response result) (state bench.new costs sent held numbers.new) ≡ outcome_of (state bench.old costs sent held numbers.old) (calls.lose place) (λ n. tt) }
 {
-    let mut ms = messages_in(numbers);
-    let changed = calls::lose(bench, &mut ms, place);
-    ChangedNumbers {
-        changed,
-        numbers: numbers_from(ms),
-    }
+    let mut ms = no_messages();
+    write(numbers, &mut ms);
+    let done = calls::lose(bench, &mut ms, place);
+    read(&ms, numbers);
+    done
 }
 
 // Delivers a message and takes it out.
 pub fn deliver(
-    bench: Bench,
-    costs: &[u32],
-    sent: &mut [u32],
-    held: &mut [u32],
-    numbers: [u32; MESSAGES],
+    net: &mut LentMut,
+    numbers: &mut [u32; MESSAGES],
     place: usize,
-) -> DeliveredNumbers
-    ensures { outcome (reaction_response result.delivery.reply) (state result.delivery.bench costs.now sent.new held.new result.numbers) ≡ outcome_of (state bench costs.now sent.old held.old numbers) (calls.deliver place) (λ n. calls.answer_at n place) }
+) -> Result<Answer, Refusal>
+    ensures outcome { outcome (response result) (state_of net.new numbers.new) ≡ outcome_of (state_of net.old numbers.old) (calls.deliver place) (λ n. calls.answer_at n place) }
+    ensures same_references { SameReferences net.old net.new }
 {
-    let mut ms = messages_in(numbers);
-    let delivery = calls::deliver(bench, costs, sent, held, &mut ms, place);
-    DeliveredNumbers {
-        delivery,
-        numbers: numbers_from(ms),
-    }
+    let mut ms = no_messages();
+    write(numbers, &mut ms);
+    let done = calls::deliver(net, &mut ms, place);
+    read(&ms, numbers);
+    done
 }
 
 // Delivers a message and leaves it in.
-pub fn repeat(
-    bench: Bench,
-    costs: &[u32],
-    sent: &mut [u32],
-    held: &mut [u32],
-    numbers: [u32; MESSAGES],
-    place: usize,
-) -> DeliveryResult
-    ensures { outcome (reaction_response result.reply) (state result.bench costs.now sent.new held.new numbers) ≡ outcome_of (state bench costs.now sent.old held.old numbers) (calls.repeat place) (λ n. calls.answer_at n place) }
+pub fn repeat(net: &mut LentMut, numbers: &[u32; MESSAGES], place: usize) -> Result<Answer, Refusal>
+    ensures outcome { outcome (response result) (state_of net.new numbers.now) ≡ outcome_of (state_of net.old numbers.now) (calls.repeat place) (λ n. calls.answer_at n place) }
+    ensures same_references { SameReferences net.old net.new }
 {
-    let ms = messages_in(numbers);
-    calls::repeat(bench, costs, sent, held, &ms, place)
+    let mut ms = no_messages();
+    write(numbers, &mut ms);
+    calls::repeat(net, &ms, place)
 }

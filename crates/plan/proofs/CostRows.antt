@@ -9,13 +9,12 @@ use lib.ListN.{length, get_or, length-set}
 use lib.Seq.{get_or-set_same, get_or-set_other}
 use lib.Dec.{eqb, leb, ltb}
 use Rattle.distances.specs.View.{max_cost}
-use Rattle.distances.specs.Refusal.{check, refusal}
+use Rattle.distances.specs.Refusal.{refusal}
 use Rattle.distances.proofs.Ranges.{true-all_below}
-use Rattle.distances.proofs.Refusals.{First.none, First.next, first, passed}
+use Rattle.distances.proofs.Checks.{First.none, First.next, first}
 use Rattle.plan.specs.Sizes.{most_links, header_bytes, cost_bytes}
 use Rattle.plan.specs.Fields.{cost_in}
 use Rattle.plan.specs.Reading.{with_costs, costs_checks, stored, costs_reply}
-use Rattle.plan.specs.declared.Storing.{Storing}
 use Rattle.plan.proofs.Laws.{fits_below}
 
 module _ (rest : List ℕ) where
@@ -42,24 +41,16 @@ module _ (rest : List ℕ) where
           rw (le-ltb l (suc k) (omega (arith, ltb-false l k low, eqb-false l k same)))
           (get_or-set_other (with_costs rest k row) k l (cost_in rest k) 0 (eqb-false l k same) ∙ before ∙ rw low)
 
-  -- where no check applies
-  pub few-links : (links room : ℕ) → refusal (costs_checks rest links room) ≡ 0 → (links ≤ most_links) × (most_links ≤ room)
-  unfolding costs_checks
-  few-links links room e =
-      let one = passed (check (ltb most_links links) 17) _ (omega arith) e in
-      let two = passed (check (ltb room most_links) 17) _ (omega arith) one.1 in
-      (ltb-false most_links links one.0, ltb-false room most_links two.0)
-
   module _ (links : ℕ) (row : List ℕ) where
     pub row-length : length (costs_reply rest links row).row ≡ length row
     unfolding costs_reply
     row-length = go (refusal (costs_checks rest links (length row)))
       where
-        either : (n : ℕ) (b : Bool) → length (cond b (stored Storing.Stored (with_costs rest links row)) (stored (Storing.Refused n) row)).row ≡ length row
+        either : (n : ℕ) (b : Bool) → length (cond b (stored 0 (with_costs rest links row)) (stored n row)).row ≡ length row
         either n true = costs-length links row
         either n false = refl
 
-        go : (n : ℕ) → length (cond (eqb n 0) (stored Storing.Stored (with_costs rest links row)) (stored (Storing.Refused n) row)).row ≡ length row
+        go : (n : ℕ) → length (cond (eqb n 0) (stored 0 (with_costs rest links row)) (stored n row)).row ≡ length row
         go n = either n (eqb n 0)
 
     accepted :

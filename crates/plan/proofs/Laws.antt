@@ -5,7 +5,7 @@ use mathlib.Core.Path.{◌≡◌, refl, sym, ap, subst, ◌∙◌}
 use mathlib.Core.Logic.{⊎_elim}
 use mathlib.Core.Bool.{Bool, true, false, cond, ◌&&◌, ◌||◌, not}
 use mathlib.Core.List.{List, []}
-use borrow.Author.Tests.{ltb-true, ltb-false, lt-leb, leb-true, leb-false, ne_eqb, eqb-true, eqb-false, not-true, not-false}
+use borrow.Author.Tests.{ltb-true, ltb-false, leb-true, leb-false, ne_eqb, eqb-true, eqb-false, not-true, not-false}
 use lib.ListN.{length}
 use lib.Dec.{eqb, leb, ltb}
 use Rattle.bench.specs.declared.Event.{Event}
@@ -15,14 +15,13 @@ use Rattle.distances.specs.Refusal.{check, refusal}
 use Rattle.distances.proofs.Booleans.{both_true, one-true}
 use Rattle.distances.proofs.Ranges.{all_below-true, all_below-none, all_below-more}
 use Rattle.plan.specs.Sizes.{least_bridges, most_bridges, most_links, most_views, header_bytes, cost_bytes}
-use Rattle.plan.specs.Tags.{tags, may_come, length_fits, passes, known, is_setup, in_order, right_length}
+use Rattle.plan.specs.Tags.{tags, may_come, length_fits, passes, known, in_order, right_length}
 use Rattle.plan.specs.Fields.{value, tag, value_length, size, cost_in, event_by, field_of}
-use Rattle.plan.specs.Reading.{header_checks, costs_fit, bridge_checks, link_checks, view_checks, value_checks, field_refusal, read_of, graph_counted, progress_in_range, read_reply}
+use Rattle.plan.specs.Reading.{Read, header_checks, costs_fit, bridge_checks, link_checks, view_checks, value_checks, field_refusal, read_of, graph_counted, progress_in_range, read_reply}
 use Rattle.plan.specs.declared.Progress.{Progress}
 use Rattle.plan.specs.declared.Field.{Field}
-use Rattle.plan.specs.declared.Read.{Read}
-use Rattle.distances.proofs.Refusals.{passed}
-use Rattle.plan.proofs.TagTable.{in-range, event-late, event-short}
+use Rattle.distances.proofs.Checks.{passed}
+use Rattle.plan.proofs.TagTable.{event-late, event-short}
 
 -- what the checks of each field tell
 pub record BridgesRead (p : Progress) (n : ℕ) : Type 0 where
@@ -96,11 +95,11 @@ in-range-few p = go (eqb p.stage 0) (eqb p.stage 1)
     go false true e = counted-few p (both_true (graph_counted p) _ e).0
     go false false e = counted-few p (both_true (graph_counted p) _ (both_true (leb p.stage 3) _ e).1).0
 
-pub in-range-links : (p : Progress) → progress_in_range p ≡ true → p.links ≤ most_links
-in-range-links p e = (in-range-few p e).links
+pub few_links : (p : Progress) → progress_in_range p ≡ true → p.links ≤ most_links
+few_links p e = (in-range-few p e).links
 
-pub in-range-bridges : (p : Progress) → progress_in_range p ≡ true → p.bridges ≤ most_bridges
-in-range-bridges p e = (in-range-few p e).bridges
+pub few_bridges : (p : Progress) → progress_in_range p ≡ true → p.bridges ≤ most_bridges
+few_bridges p e = (in-range-few p e).bridges
 
 -- a stop is no field
 stops : {n : ℕ} {f : Field} {k : ℕ} → Read.Stop n ≡ Read.Field f k → ⊥
@@ -128,7 +127,7 @@ module _ (rest : List ℕ) (p : Progress) where
         whole = ltb-false (length rest) (size rest) five.0;
       }
 
-  bridges-told : tag rest ≡ 1 → in_order (tag rest) p.stage ≡ true → refusal (bridge_checks rest p) ≡ 0 → BridgesRead p (value rest 0)
+  bridges-told : tag rest ≡ 1 → in_order (tag rest) p.stage ≡ true → refusal (bridge_checks rest) ≡ 0 → BridgesRead p (value rest 0)
   unfolding in_order passes tags may_come bridge_checks
   bridges-told t order e =
       let one = passed (check (not (leb least_bridges (value rest 0) && leb (value rest 0) most_bridges)) 5) [] (omega arith) e in
@@ -180,7 +179,7 @@ module _ (rest : List ℕ) (p : Progress) where
   value-told listed header = go (eqb (tag rest) 1) (eqb (tag rest) 2) (eqb (tag rest) 3) refl refl refl
     where
       go : (a b c : Bool) → eqb (tag rest) 1 ≡ a → eqb (tag rest) 2 ≡ b → eqb (tag rest) 3 ≡ c →
-          refusal (cond a (bridge_checks rest p) (cond b (link_checks rest p) (cond c (view_checks rest p) []))) ≡ 0 →
+          refusal (cond a (bridge_checks rest) (cond b (link_checks rest p) (cond c (view_checks rest p) []))) ≡ 0 →
           FieldRead rest p (cond a (Field.Bridges (value rest 0)) (cond b (Field.Link (value rest 0) (value rest 1)) (cond c Field.View (Field.Event (event_by (tag rest) (value rest 0) (value rest 1))))))
       go true b c one two three e = bridges-told (eqb-true (tag rest) 1 one) header.order e
       go false true c one two three e = link-told (eqb-true (tag rest) 2 two) header.order e
@@ -214,7 +213,7 @@ module _ (rest : List ℕ) (p : Progress) where
       go false b c l h e = absurd (stops e)
       go true true c l h e = absurd (stops e)
       go true false true l h e = let t = last _ (refusal (value_checks rest p)) refl e in
-          record { listed = in-range-links p l; field = t.0; taken = t.1; header = eqb-true (refusal (header_checks rest p)) 0 h; value = t.2 }
+          record { listed = few_links p l; field = t.0; taken = t.1; header = eqb-true (refusal (header_checks rest p)) 0 h; value = t.2 }
       go true false false l h e = let t = last _ (refusal (header_checks rest p)) refl e in
           absurd (eqb-false (refusal (header_checks rest p)) 0 h t.2)
 
@@ -263,37 +262,19 @@ event-size rest p read =
 pub header-passed : (rest : List ℕ) (p : Progress) {f : Field} {k : ℕ} → read_reply rest p ≡ Read.Field f k → refusal (header_checks rest p) ≡ 0
 header-passed rest p read = (none-applies rest p read).header
 
--- no event by a tag that sets the network up
-pub event-no-setup : (rest : List ℕ) (p : Progress) {e : Event} {k : ℕ} → read_reply rest p ≡ Read.Field (Field.Event e) k → is_setup (tag rest) ≡ false
-event-no-setup rest p read =
-    let t = none-applies rest p read in
-    let h = header-told rest p t.header in
-    let other = event-tag rest t.field in
-    lt-leb (tag rest) 3
-    (omega (
-      arith,
-      (in-range (tag rest) h.named).0,
-      eqb-false (tag rest) 1 other.0,
-      eqb-false (tag rest) 2 other.1,
-      eqb-false (tag rest) 3 other.2,
-    ))
-
--- with any other tag that the header's checks let pass there is one: its value has no check
+-- an event's value has no check, so it is read where the header's checks let it pass
 pub event-read :
-    (rest : List ℕ) (p : Progress) → progress_in_range p ≡ true → refusal (header_checks rest p) ≡ 0 → is_setup (tag rest) ≡ false →
-    read_reply rest p ≡ Read.Field (Field.Event (event_by (tag rest) (value rest 0) (value rest 1))) (size rest)
-unfolding read_reply read_of field_refusal value_checks field_of refusal
+    (rest : List ℕ) (p : Progress) {e : Event} → progress_in_range p ≡ true → refusal (header_checks rest p) ≡ 0 → field_of rest ≡ Field.Event e →
+    read_reply rest p ≡ Read.Field (Field.Event e) (size rest)
+unfolding read_reply read_of field_refusal value_checks refusal
 event-read rest p inside passes event =
     let whole = (header-told rest p passes).whole in
-    let late = leb-false (tag rest) 3 event in
-    rw (
-      inside,
-      ne_eqb (length rest) 0 (λ z. omega arith),
-      passes,
-      ne_eqb (tag rest) 1 (λ z. omega arith),
-      ne_eqb (tag rest) 2 (λ z. omega arith),
-      ne_eqb (tag rest) 3 (λ z. omega arith),
-    )
+    let other = event-tag rest event in
+    rw (inside, ne_eqb (length rest) 0 (λ z. omega arith), passes, other.0, other.1, other.2, event)
+
+-- a field that was read is the one at the head
+pub field-is : (rest : List ℕ) (p : Progress) {f : Field} {k : ℕ} → read_reply rest p ≡ Read.Field f k → field_of rest ≡ f
+field-is rest p read = (none-applies rest p read).field
 
 -- where a field was read the bridges are few
 pub field-bridges : (rest : List ℕ) (p : Progress) {f : Field} {k : ℕ} → read_reply rest p ≡ Read.Field f k → p.bridges ≤ most_bridges
@@ -301,7 +282,7 @@ unfolding read_reply
 field-bridges rest p {f} {k} = go (progress_in_range p) refl
   where
     go : (b : Bool) → progress_in_range p ≡ b → cond b (read_of rest p) (Read.Stop 17) ≡ Read.Field f k → p.bridges ≤ most_bridges
-    go true l e = in-range-bridges p l
+    go true l e = few_bridges p l
     go false l e = absurd (stops e)
 
 pub field-read : (rest : List ℕ) (p : Progress) {f : Field} {k : ℕ} → read_reply rest p ≡ Read.Field f k → FieldRead rest p f

@@ -11,10 +11,9 @@ use lib.Dec.{eqb}
 use Rattle.distances.proofs.Booleans.{true-both}
 use Rattle.plan.specs.Sizes.{least_bridges, most_bridges, most_links, most_views}
 use Rattle.plan.specs.Fields.{size, field_of}
-use Rattle.plan.specs.Reading.{field_refusal, read_of, graph_counted, progress_in_range, read_reply}
+use Rattle.plan.specs.Reading.{Read, field_refusal, read_of, graph_counted, progress_in_range, read_reply}
 use Rattle.plan.specs.declared.Progress.{Progress}
 use Rattle.plan.specs.declared.Field.{Field}
-use Rattle.plan.specs.declared.Read.{Read}
 
 -- by the stage: nothing, a bridge count and links, views beside them
 pub record Reached (p : Progress) : Type 0 where

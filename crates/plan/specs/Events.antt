@@ -1,15 +1,14 @@
 -- The events at the head of the bytes that are left, as a list of calls takes them. Assumes nothing.
-use Rattle.std.specs.Prelude.{ℕ, zero, suc, ◌+◌, ◌-◌, cond, List, [], ◌∷◌, ◌++◌, length, get_or, drop, replicate, eqb, leb, ltb}
-use Rattle.std.proofs.lemmas.List.Edits.{sets}
+use Rattle.std.specs.Prelude.{ℕ, zero, suc, ◌+◌, ◌-◌, cond, List, [], ◌∷◌, ◌++◌, length, get_or, drop, replicate, ltb}
 use Rattle.bench.specs.Batches.{answer_size}
 use Rattle.bench.specs.declared.Bench.{Bench}
 use Rattle.bench.specs.declared.Event.{Event}
 use Rattle.bench.specs.declared.Event.TheVariants.{Lose}
 use Rattle.plan.specs.Sizes.{most_events}
-use Rattle.plan.specs.Reading.{read_reply}
+use Rattle.plan.specs.Reading.{Read, read_reply}
 use Rattle.plan.specs.declared.Field.{Field}
 use Rattle.plan.specs.declared.Progress.{Progress}
-use Rattle.plan.specs.declared.Read.{Read}
+use Rattle.plan.specs.declared.events.Events.{Events}
 
 -- an event, and the bytes up to its end
 pub record Placed : Type 0 where
@@ -44,23 +43,17 @@ unfoldable pub ends_of : List Placed → List ℕ
 ends_of [] = []
 ends_of (x ∷ xs) = x.past ∷ ends_of xs
 
--- how many a list has room for, with so many lent numbers: one for the count, one for each event
-abbrev pub most_read : ℕ → ℕ
-most_read lent = cond (leb lent most_events) (lent - 1) most_events
+-- the reply: the events, and `Lose 0` behind them; how many they are; where the first begins and where each ends
+unfoldable pub listing : List Placed → Events
+listing xs =
+    record {
+      count = length xs;
+      events = events_of xs ++ replicate (most_events - length xs) (Lose 0);
+      ends = 0 ∷ (ends_of xs ++ replicate (most_events - length xs) 0);
+    }
 
--- the array of events and the lent numbers
-pub record Listing : Type 0 where
-  pub events : List Event
-  pub ends : List ℕ
-
-abbrev pub listing : List Event → List ℕ → Listing
-listing events ends = record { events = events; ends = ends }
-
--- the events, and `Lose 0` behind them; how many they are, and the bytes up to the end of each
-unfoldable pub events_reply : List ℕ → Progress → ℕ → List ℕ → Listing
-events_reply rest p room ends =
-    let xs : List Placed = events_at (most_read (length ends)) p room 0 rest in
-    listing (events_of xs ++ replicate (most_events - length xs) (Lose 0)) (sets ends 0 (length xs ∷ ends_of xs))
+unfoldable pub events_reply : List ℕ → Progress → ℕ → Events
+events_reply rest p room = listing (events_at most_events p room 0 rest)
 
 -- for whoever makes the events: how far a plan has come whose network stands in a bench
 abbrev pub list_progress : Bench → Progress
@@ -68,4 +61,4 @@ list_progress b = record { stage = 3; bridges = b.bridges; links = b.links; view
 
 -- the bytes of so many events, by where each ends
 abbrev pub bytes_by : List ℕ → ℕ → ℕ
-bytes_by ends made = cond (eqb made 0) 0 (get_or ends made 0)
+bytes_by ends made = get_or ends made 0

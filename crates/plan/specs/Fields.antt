@@ -1,4 +1,4 @@
--- The fields of a plan (document 01, "Plan file"): one-byte tag, two-byte length, value; all numbers big-endian. Assumes nothing.
+-- The fields of a plan (docs/PROTOCOL.md, "The plan file"): one-byte tag, two-byte length, value; all numbers big-endian. Assumes nothing.
 use Rattle.std.specs.Prelude.{ℕ, ◌+◌, ◌*◌, cond, List, get_or, eqb}
 use Rattle.plan.specs.Sizes.{header_bytes, cost_bytes}
 use Rattle.bench.specs.declared.Event.{Event}

@@ -1,15 +1,31 @@
--- What is read at the head of the bytes that are left (document 01, "Where input is turned down"). Assumes nothing.
-use Rattle.std.specs.Prelude.{ℕ, zero, suc, ◌+◌, ◌*◌, Bool, true, cond, ◌&&◌, not, List, [], ◌∷◌, length, set, eqb, leb, ltb}
+-- What is read at the head of the bytes that are left (docs/PROTOCOL.md, "What is refused"). Assumes nothing.
+use Rattle.std.specs.Prelude.{ℕ, zero, suc, ◌+◌, ◌*◌, Bool, true, cond, ◌&&◌, not, List, [], ◌∷◌, length, set, eqb, leb, ltb, Option, Some, None, Result, Ok, Err}
 use Rattle.distances.specs.View.{max_cost}
-use Rattle.distances.specs.Refusal.{Check, check, refusal}
+use Rattle.distances.specs.Refusal.{Check, check, refusal, number}
+use Rattle.distances.specs.declared.refusals.Refusal.{Refusal}
 use Rattle.plan.specs.Sizes.{least_bridges, most_bridges, most_links, most_views, header_bytes, cost_bytes}
 use Rattle.plan.specs.Tags.{known, in_order, right_length}
 use Rattle.plan.specs.Fields.{value, tag, value_length, size, cost_in, field_of}
 use Rattle.plan.specs.declared.Progress.{Progress}
-use Rattle.plan.specs.declared.Read.{Read}
-use Rattle.plan.specs.declared.Storing.{Storing}
+use Rattle.plan.specs.declared.Field.{Field as PlanField}
 
--- the header's checks, in document 01's order
+-- what is read: a field and the bytes that it takes, or that the plan ends here, with the number of its refusal, 0 for its proper end
+pub data Read : Type 0 where
+  Field : PlanField → ℕ → Read
+  Stop : ℕ → Read
+
+-- what the call answers, as that
+abbrev pub reading : Result (Option (PlanField × ℕ)) Refusal → Read
+reading (Ok (Some x)) = Read.Field x.0 x.1
+reading (Ok None) = Read.Stop 0
+reading (Err r) = Read.Stop (number r)
+
+-- the number of its refusal
+abbrev pub stop_number : Read → ℕ
+stop_number (Read.Stop number) = number
+stop_number (Read.Field f used) = 0
+
+-- the header's checks, in the order of the table of refusals
 unfoldable pub header_checks : List ℕ → Progress → List Check
 header_checks rest p =
     check (ltb (length rest) header_bytes) 1
@@ -25,8 +41,8 @@ costs_fit rest zero = true
 costs_fit rest (suc l) = costs_fit rest l && leb (cost_in rest l) max_cost
 
 -- the tag's own
-unfoldable pub bridge_checks : List ℕ → Progress → List Check
-bridge_checks rest p = check (not (leb least_bridges (value rest 0) && leb (value rest 0) most_bridges)) 5 ∷ []
+unfoldable pub bridge_checks : List ℕ → List Check
+bridge_checks rest = check (not (leb least_bridges (value rest 0) && leb (value rest 0) most_bridges)) 5 ∷ []
 
 unfoldable pub link_checks : List ℕ → Progress → List Check
 link_checks rest p =
@@ -41,7 +57,7 @@ view_checks rest p = check (leb most_views p.views) 8 ∷ check (not (costs_fit 
 
 unfoldable pub value_checks : List ℕ → Progress → List Check
 value_checks rest p =
-    cond (eqb (tag rest) 1) (bridge_checks rest p)
+    cond (eqb (tag rest) 1) (bridge_checks rest)
     (cond (eqb (tag rest) 2) (link_checks rest p) (cond (eqb (tag rest) 3) (view_checks rest p) []))
 
 -- the first check that applies, of the header's and then of the tag's own
@@ -84,25 +100,16 @@ costs_checks rest links room =
     ∷ check (not (costs_fit rest links)) 9
     ∷ []
 
--- each reply's number in document 01, 0 where nothing is refused
-abbrev pub stop_number : Read → ℕ
-stop_number (Read.Stop number) = number
-stop_number (Read.Field f used) = 0
-
-abbrev pub storing_number : Storing → ℕ
-storing_number (Storing.Refused number) = number
-storing_number Storing.Stored = 0
-
--- the reply and the lent row
+-- the number of the refusal, 0 where nothing is refused, and the lent row
 pub record Stored : Type 0 where
-  pub reply : Storing
+  pub number : ℕ
   pub row : List ℕ
 
-abbrev pub stored : Storing → List ℕ → Stored
-stored reply row = record { reply = reply; row = row }
+abbrev pub stored : ℕ → List ℕ → Stored
+stored number row = record { number = number; row = row }
 
 -- the first check that applies, and the row as it was; else the row with the costs
 unfoldable pub costs_reply : List ℕ → ℕ → List ℕ → Stored
 costs_reply rest links row =
-    let number : ℕ = refusal (costs_checks rest links (length row)) in
-    cond (eqb number 0) (stored Storing.Stored (with_costs rest links row)) (stored (Storing.Refused number) row)
+    let n : ℕ = refusal (costs_checks rest links (length row)) in
+    cond (eqb n 0) (stored 0 (with_costs rest links row)) (stored n row)

@@ -1,4 +1,4 @@
--- The sizes of document 01 that a plan is read by, and of a list of events. The greatest cost is `max_cost` of distances. Assumes nothing.
+-- The sizes that a plan is read by, and of a list of events. The greatest cost is `max_cost` of distances. Assumes nothing.
 use Rattle.std.specs.Prelude.{ℕ}
 
 abbrev pub least_bridges : ℕ

@@ -1,4 +1,4 @@
--- The table of tags (document 01, "Plan file"; document 02, Change 1: "Tags 9 and 10 take two bytes, bridge first"): a field's tag, its place in the plan, and the length of its value. Assumes nothing.
+-- The table of tags (docs/PROTOCOL.md, "The plan file"): a field's tag, its place in the plan, and the length of its value. Assumes nothing.
 use Rattle.std.specs.Prelude.{ℕ, ◌*◌, ◌≡◌, Bool, true, false, cond, ◌||◌, List, [], ◌∷◌, eqb, leb}
 use Rattle.plan.specs.Sizes.{cost_bytes}
 use Rattle.plan.specs.declared.tags.Place.{Place}
@@ -49,10 +49,6 @@ passes test t (r ∷ rs) = cond (eqb t r.tag) (test r) (passes test t rs)
 
 unfoldable pub known : ℕ → Bool
 known t = passes (λ r. true) t tags
-
--- of the known tags, 1 to 3 set the network up and the others are events
-abbrev pub is_setup : ℕ → Bool
-is_setup t = leb t 3
 
 unfoldable pub in_order : ℕ → ℕ → Bool
 in_order t stage = passes (λ r. may_come r.place stage) t tags

@@ -1,104 +1,82 @@
 // The public calls: the next field, and a view's costs.
-ghost use Rattle.std.specs.Prelude.{◌≡◌, ◌≤◌, length};
-ghost use Rattle.distances.specs.Refusal.{refusal};
+ghost use Rattle.std.specs.Prelude.{◌≡◌, ◌≤◌, OnOk};
+ghost use Rattle.distances.specs.Refusal.{refusal, reply_number};
 ghost use Rattle.plan.specs.Sizes.{most_links};
-ghost use Rattle.plan.specs.Reading.{graph_counted, progress_in_range, read_reply, with_costs, costs_checks, stored, costs_reply};
+ghost use Rattle.plan.specs.Reading.{graph_counted, progress_in_range, reading, read_reply, costs_checks, stored, costs_reply};
 
-use crate::bytes::value_length;
-use crate::header::header_refusal;
+use crate::header::read_header;
 use crate::sizes::{COST_BYTES, HEADER_BYTES};
-use crate::{Progress, Read, Storing, values};
-use distances::ready::both;
+use crate::values::{check_value, cost_in, costs_fit, field_of};
+use crate::{Field, Progress};
+use distances::Refusal;
 use distances::sizes::{LEAST_BRIDGES, MOST_BRIDGES, MOST_LINKS, MOST_VIEWS};
 
+#[tactic(auto, unfolding(crate::specs::Reading::graph_counted))]
 fn graph_counted(p: Progress) -> bool
     ensures { result ≡ graph_counted p }
 {
-    both(
-        LEAST_BRIDGES <= p.bridges,
-        both(p.bridges <= MOST_BRIDGES, p.links <= MOST_LINKS),
-    )
+    LEAST_BRIDGES <= p.bridges && p.bridges <= MOST_BRIDGES && p.links <= MOST_LINKS
 }
 
 // Can a plan have come so far? Shared with the list of events, which tests a progress once.
+#[tactic(auto, unfolding(crate::specs::Reading::progress_in_range))]
 pub(crate) fn progress_in_range(p: Progress) -> bool
     ensures { result ≡ progress_in_range p }
 {
-    if p.stage == 0 {
-        return both(p.bridges == 0, both(p.links == 0, p.views == 0));
+    match p.stage {
+        0 => p.bridges == 0 && p.links == 0 && p.views == 0,
+        1 => graph_counted(p) && p.views == 0,
+        2 | 3 => graph_counted(p) && 1 <= p.views && p.views <= MOST_VIEWS,
+        _ => false,
     }
-    let counted = graph_counted(p);
-    if p.stage == 1 {
-        return both(counted, p.views == 0);
-    }
-    both(
-        p.stage <= 3,
-        both(counted, both(1 <= p.views, p.views <= MOST_VIEWS)),
-    )
 }
 
-// What stands at the head of the bytes that are left. A progress that no plan leads to is refused with 17.
-pub fn read_field(rest: &[u8], p: Progress) -> Read
-    ensures { result ≡ read_reply rest.now p }
+// The field at the head of the bytes that are left, and the bytes that it takes; none where the plan properly ends. A progress that no plan
+// leads to is out of range.
+#[tactic(auto, using(crate::proofs::Laws::few_links), unfolding(crate::specs::Reading::read_reply, crate::specs::Reading::read_of, crate::specs::Reading::field_refusal))]
+pub fn read_field(rest: &[u8], p: Progress) -> Result<Option<(Field, usize)>, Refusal>
+    ensures { reading result ≡ read_reply rest.now p }
 {
     if !progress_in_range(p) {
-        return Read::Stop(17);
+        return Err(Refusal::OutOfRange);
     }
-    if rest.len() == 0 {
+    if rest.is_empty() {
         if p.views == 0 {
-            return Read::Stop(4);
+            return Err(Refusal::OutOfPlace);
         }
-        return Read::Stop(0);
+        return Ok(None);
     }
-    let header = header_refusal(rest, p);
-    if header != 0 {
-        return Read::Stop(header);
-    }
-    let value = values::value_refusal(rest, p);
-    if value != 0 {
-        return Read::Stop(value);
-    }
-    Read::Field(values::field_of(rest), HEADER_BYTES + value_length(rest))
+    let header = read_header(rest, p)?;
+    check_value(header.tag, rest, p)?;
+    Ok(Some((field_of(header.tag, rest), HEADER_BYTES + header.length)))
 }
 
 // A row of `room` numbers has to have room for the most links, and the bytes for the header and for each link's cost.
-fn costs_refusal(rest: &[u8], links: usize, room: usize) -> u8
-    ensures { result ≡ refusal (costs_checks rest.now links room) }
+#[tactic(auto, unfolding(crate::specs::Reading::costs_checks, distances::specs::Refusal::refusal))]
+fn check_costs(rest: &[u8], links: usize, room: usize) -> Result<(), Refusal>
+    ensures checked { reply_number result ≡ refusal (costs_checks rest.now links room) }
+    ensures fits { OnOk result ((links ≤ most_links) × (most_links ≤ room)) }
 {
-    if MOST_LINKS < links {
-        return 17;
-    }
-    if room < MOST_LINKS {
-        return 17;
+    if MOST_LINKS < links || room < MOST_LINKS {
+        return Err(Refusal::OutOfRange);
     }
     if rest.len() < HEADER_BYTES + COST_BYTES * links {
-        return 1;
+        return Err(Refusal::CutShort);
     }
-    if values::costs_fit(rest, links) {
-        return 0;
+    if !costs_fit(rest, links) {
+        return Err(Refusal::CostTooHigh);
     }
-    9
+    Ok(())
 }
 
 // A view's costs into a lent row: the first `links` numbers. A refused call leaves the row as it was.
-pub fn read_costs(rest: &[u8], links: usize, row: &mut [u32]) -> Storing
-    ensures { stored result row.new ≡ costs_reply rest.now links row.old }
+#[tactic(auto, unfolding(crate::specs::Reading::costs_reply, crate::specs::Reading::with_costs))]
+pub fn read_costs(rest: &[u8], links: usize, row: &mut [u32]) -> Result<(), Refusal>
+    ensures { stored (reply_number result) row.new ≡ costs_reply rest.now links row.old }
 {
-    let number = costs_refusal(rest, links, row.len());
-    if number != 0 {
-        return Storing::Refused(number);
+    check_costs(rest, links, row.len())?;
+    for l in 0..links {
+        row[l] = cost_in(rest, l);
     }
-    store_costs(rest, links, row);
-    Storing::Stored
-}
-
-fn store_costs(rest: &[u8], links: usize, row: &mut [u32])
-    requires { (links ≤ most_links) × (most_links ≤ length row.old) }
-    ensures { row.new ≡ with_costs rest.now links row.old }
-{
-    let mut l = 0;
-    while l < links {
-        row[l] = values::cost_in(rest, l);
-        l += 1;
-    }
+    Ok(())
 }

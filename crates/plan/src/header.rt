@@ -1,36 +1,36 @@
-// The header's checks, in document 01's order.
-ghost use Rattle.std.specs.Prelude.{◌≡◌, ◌≤◌};
-ghost use Rattle.distances.specs.Refusal.{refusal};
+// A field's header: its tag and the length of its value, checked in the order of the table of refusals.
+ghost use Rattle.std.specs.Prelude.{◌≤◌};
 ghost use Rattle.plan.specs.Sizes.{most_links};
-ghost use Rattle.plan.specs.Reading.{header_checks};
+ghost use Rattle.plan.specs.Steps.{HeaderReads};
 
-use crate::bytes::{byte_at, value_length};
-use crate::sizes::HEADER_BYTES;
-use crate::{Progress, tags};
+use crate::Progress;
+use crate::tags::Tag;
+use distances::Refusal;
 
-pub(crate) fn header_refusal(rest: &[u8], p: Progress) -> u8
+#[derive(Clone, Copy)]
+pub(crate) struct Header {
+    pub(crate) tag: Tag,
+    pub(crate) length: usize,
+}
+
+#[tactic(auto, unfolding(crate::specs::Reading::header_checks, distances::specs::Refusal::refusal))]
+pub(crate) fn read_header(rest: &[u8], p: Progress) -> Result<Header, Refusal>
     requires { p.links ≤ most_links }
-    ensures { result ≡ refusal (header_checks rest.now p) }
+    ensures { HeaderReads rest.now p result }
 {
-    if rest.len() < HEADER_BYTES {
-        return 1;
+    let [tag, high, low, value @ ..] = rest else {
+        return Err(Refusal::CutShort);
+    };
+    let tag = Tag::try_from(*tag)?;
+    if !tag.in_order(p.stage) {
+        return Err(Refusal::OutOfPlace);
     }
-    let tag = byte_at(rest, 0) as usize;
-    if !tags::known(tag) {
-        return 2;
+    let length = u16::from_be_bytes([*high, *low]) as usize;
+    if !tag.right_length(p.links, length) {
+        return Err(Refusal::WrongLength);
     }
-    let rule = tags::rule_of(tag);
-    let place = rule.0;
-    if !tags::may_come(place, p.stage) {
-        return 4;
+    if value.len() < length {
+        return Err(Refusal::CutShort);
     }
-    let length = value_length(rest);
-    let due = rule.1;
-    if !tags::length_fits(due, p.links, length) {
-        return 3;
-    }
-    if rest.len() < HEADER_BYTES + length {
-        return 1;
-    }
-    0
+    Ok(Header { tag, length })
 }

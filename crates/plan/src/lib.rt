@@ -3,7 +3,6 @@
 
 use bench::Event;
 
-mod bytes;
 pub mod events;
 pub mod fields;
 mod header;
@@ -11,7 +10,8 @@ pub mod sizes;
 mod tags;
 mod values;
 
-// How far a plan has come. Stage 0: nothing read; 1: the bridge count; 2: a view; 3: an event.
+// How far a plan has come. Stage 0: nothing read; 1: the bridge count; 2: a view; 3: an event. A caller may hand in any number as the
+// stage, of which `read_field` promises a refusal where no plan leads to it; so it is no enum.
 #[derive(Clone, Copy)]
 pub struct Progress {
     pub stage: usize,
@@ -27,18 +27,4 @@ pub enum Field {
     Link(u8, u8),
     View,
     Event(Event),
-}
-
-// A field and the bytes that it takes; or the plan ends here, with document 01's number, 0 for its proper end.
-#[derive(Clone, Copy)]
-pub enum Read {
-    Field(Field, usize),
-    Stop(u8),
-}
-
-// What `read_costs` did: refused with document 01's number, or stored the costs.
-#[derive(Clone, Copy)]
-pub enum Storing {
-    Refused(u8),
-    Stored,
 }

@@ -7,5 +7,5 @@ pub(crate) const HEADER_BYTES: usize = 3;
 // A link's cost in a view.
 pub(crate) const COST_BYTES: usize = 4;
 
-// One number for how many events of a list there are, then one for where each ends.
+// Where each event of a list ends, and a 0 for where the first one begins.
 pub const EVENT_ENDS: usize = MOST_EVENTS + 1;

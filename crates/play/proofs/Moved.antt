@@ -6,15 +6,13 @@ use mathlib.Core.Bool.{Bool, true, false}
 use lib.Dec.{ltb}
 use borrow.Author.Tests.{ltb-true, ltb-false}
 use mathlib.Core.List.{List, ◌++◌, append-nil, append_assoc}
-use lib.ListN.{length, take, drop, length-drop, length-take, drop_of_length-le}
+use lib.ListN.{length, take, drop, length-drop, length-take}
 use lib.Seq.{take_all, take-add, take-take, take-append-le, drop_at, length-take-le, drop-append-le, take_at}
 use borrow.Rule.Slice.PartMut.{put_mid, mid_of, post_of, same_len_mid}
 use Rattle.std.proofs.lemmas.List.{drop-take, take-append-drop}
-use Rattle.std.specs.Prelude.{Option, None, Some}
+use Rattle.std.specs.Prelude.{Option, None, Some, Ok}
 use Rattle.std.specs.Io.KnownBytes.{Appends, Consumes, Keeps, IsAtEnd, prepend_known}
-use Rattle.play.specs.Output.{WrotePart, Wrote, IsReadOf, Gave, Carried, Handed}
-use Rattle.play.specs.declared.Reply.{Reply}
-use Rattle.play.specs.declared.Input.{Input}
+use Rattle.play.specs.Output.{Reply, WrotePart, Wrote, IsReadOf, Gave, Carried, Handed}
 use Rattle.runner.specs.Plans.{first_runner, first_buffers, prints}
 use Rattle.runner.specs.Program.{output}
 use Rattle.runner.proofs.RunWhole.{output-carried}
@@ -71,11 +69,6 @@ read_more a b c from n end before after low on fits kept p q =
     let both : drop from (take n before) ++ drop n all ≡ drop from all =
     ap (λ (l : List ℕ). drop from l ++ drop n all) first ∙ sym (drop-append-le from (take n all) (drop n all) long) ∙ ap (drop from) (take-append-drop n all) in
     subst (Consumes a c) both (Consumes-trans a b c _ _ p q)
-
--- nothing was read
-pub Consumes-none : (a : Option (List ℕ)) (n : ℕ) (bytes : List ℕ) → Consumes a a (drop n (take n bytes))
-Consumes-none None n bytes = tt
-Consumes-none (Some xs) n bytes = rw (drop_of_length-le (take n bytes) {i = n} (omega (arith, length-take n bytes)))
 
 -- a read that gave nothing
 pub read_same : (a c : Option (List ℕ)) (from n end : ℕ) (after : List ℕ) → end ≡ n → Consumes a c (drop from (take end after)) → Consumes a c (drop from (take n after))
@@ -146,7 +139,7 @@ Consumes-prepended (Some xs) (Some ys) begun bytes p = ap (λ (l : List ℕ). be
 -- a plan that was read on, where there is room for one byte more than the longest has
 pub rest_read :
     (given left : Option (List ℕ)) (begun bytes : List ℕ) (from end : ℕ) → from ≤ 4096 → from ≤ end → end ≤ length bytes → length bytes ≡ suc longest_plan →
-    take from bytes ≡ begun → Gave from (length bytes) (Input.Read end) bytes given left → IsReadOf (prepend_known begun given) (take end bytes)
+    take from bytes ≡ begun → Gave from (length bytes) (Ok end) bytes given left → IsReadOf (prepend_known begun given) (take end bytes)
 rest_read given left begun bytes from end low on fits long front (p, none) = go (ltb end (length bytes)) refl
   where
     plan : List ℕ

@@ -46,7 +46,7 @@ begun plan out r long e =
       next = rw e (sym (first_out plan out long));
     }
 
-pub ended : (plan : List ℕ) (going : Bool) (at printed : ℕ) (r : Runner) (k : Buffers) → going ≡ false → Place plan going at printed r k → printed ≡ whole plan
+ended : (plan : List ℕ) (going : Bool) (at printed : ℕ) (r : Runner) (k : Buffers) → going ≡ false → Place plan going at printed r k → printed ≡ whole plan
 ended plan going at printed r k e p = omega (arith, rw e at p.counted)
 
 cond-length : (b : Bool) (l : List ℕ) → length (cond b l []) ≡ cond b (length l) 0
@@ -112,19 +112,21 @@ module _ (plan : List ℕ) (at printed : ℕ) (r : Runner) (k : Buffers) (p : Pl
       }
 
   -- the part of the plan that is handed on
-  filled-part : (u : StepOutcome) → u ≡ fill_of r k (take (length plan - at) (drop at plan)) → LoopStep plan at printed u
+  pub filled-part : (u : StepOutcome) → u ≡ fill_of r k (take (length plan - at) (drop at plan)) → LoopStep plan at printed u
   filled-part u e =
       let part = take_all (length plan - at) (drop at plan) (omega (arith, length-drop at plan)) in
       subst (LoopStep plan at printed) (sym (e ∙ ap (fill_of r k) part)) filled
 
-module _ (plan : List ℕ) (going : Bool) (at : ℕ) (on : going ≡ true) where
-  pub turned :
-      (printed : ℕ) (r : Runner) (k : Buffers) (u : StepOutcome) → Place plan going at printed r k →
-      u ≡ fill_of r k (take (length plan - at) (drop at plan)) → LoopStep plan at printed u
-  turned printed r k u p = filled-part plan at printed r k (subst (λ (b : Bool). Place plan b at printed r k) on p) u
+-- a plan that goes on is where it goes on from, with fewer bytes left
+pub goes : {plan : List ℕ} {at printed : ℕ} {u : StepOutcome} → LoopStep plan at printed u → u.going ≡ true → Place plan true (at + u.used) (printed + u.written) u.runner u.buffers
+goes {plan} {at} {printed} {u} t on = subst (λ (b : Bool). Place plan b (at + u.used) (printed + u.written) u.runner u.buffers) on t.place
 
-  pub fewer-left : (more : ℕ) → more < suc (length plan - at) → more < left going plan at
-  fewer-left more less = rw on less
+pub fewer-left : {plan : List ℕ} {at printed : ℕ} {u : StepOutcome} → LoopStep plan at printed u → u.going ≡ true → length plan - (at + u.used) < length plan - at
+fewer-left t on = let less = rw on at t.fewer in omega (arith, less)
+
+-- and an end is the whole
+pub none-left : {plan : List ℕ} {at printed : ℕ} {u : StepOutcome} → LoopStep plan at printed u → u.going ≡ false → printed + u.written ≡ whole plan
+none-left t off = ended _ _ _ _ _ _ off t.place
 
 -- a write that failed had a byte to write
 pub stopped :

@@ -9,15 +9,17 @@ use borrow.Rule.Slice.PartMut.{put_mid, post_of}
 use Rattle.runner.specs.Plans.{first_runner, first_buffers, prints}
 use Rattle.runner.specs.Program.{output}
 use Rattle.runner.proofs.RunWhole.{output-carried}
-use Rattle.play.specs.Output.{Handed, ReadBehind, Played}
-use Rattle.play.specs.declared.Input.{Input}
-use Rattle.play.specs.declared.Reply.{Reply}
+use Rattle.play.specs.Output.{Reply, Handed, Played, Carried}
+use Rattle.play.specs.declared.PlayError.{PlayError}
+use Rattle.std.specs.Prelude.{Option, Err}
+use Rattle.std.specs.Io.KnownBytes.{Keeps}
 
--- where a read did not fail
-pub lies :
-    (from : ℕ) (i : Input) (end : ℕ) (before after : List ℕ) → i ≡ Input.Read end → ReadBehind from i before after →
-    (from ≤ end) × (end ≤ length after) × (take from after ≡ take from before)
-lies from i end before after e = subst (λ (j : Input). ReadBehind from j before after) e
+-- a plan that could not be read
+pub unread-told : (begun : List ℕ) (e : PlayError) → e ≡ PlayError.Unread → Played begun (Err e)
+unread-told begun e is = rw is Played.unread
+
+pub unread-carried : (given old new : Option (List ℕ)) (e : PlayError) → e ≡ PlayError.Unread → Keeps old new → Carried given (Err e) old new
+unread-carried given old new e is kept = rw is (Carried.unread kept)
 
 -- what stands before a place stands before a later one
 pub kept-first : (from n : ℕ) (a b c : List ℕ) → from ≤ n → take n c ≡ take n b → take from b ≡ take from a → take from c ≡ take from a

@@ -8,7 +8,7 @@ use lib.ListN.{length}
 use lib.Dec.{eqb}
 use borrow.Author.Tests.{eqb-true, leb-false, not-false}
 use Rattle.distances.proofs.Booleans.{below}
-use Rattle.distances.proofs.Refusals.{passed}
+use Rattle.distances.proofs.Checks.{passed}
 use Rattle.protocol.specs.Net.{Network}
 use Rattle.protocol.specs.Calls.{Call, Check, change, send, update, refusal, no_such_bridge, no_such_view, no_number_left, no_such_link, not_on_link, end_down, no_room, no_message, change_checks, checks, refuse, accepted, end_of}
 use Rattle.protocol.proofs.Links.{end-at-bridge}

@@ -1,6 +1,7 @@
 -- A network after two rounds: all bridges are on view t, an end is up where the opposite one is, and every end that is up is told and cleared.
 -- There every bridge
 -- with a path forwards to a bridge that is nearer by the link's cost. Assumes nothing.
+use Rattle.std.specs.Prelude.{Some}
 use Prim.Native.Nat.{ℕ, ◌+◌, ◌*◌, ◌<◌, ◌≤◌}
 use native.Mathlib.Omega.{arith}
 use mathlib.Core.Path.{◌≡◌, refl, ap, ◌∙◌}
@@ -11,7 +12,6 @@ use Rattle.distances.proofs.Laws.{next-hop, dist-le-none}
 use Rattle.agreement.specs.Offer.{link_of, opposite, far_bridge}
 use Rattle.agreement.specs.Record.{held_limit}
 use Rattle.agreement.specs.Forwarding.{UpAt, DownAt, chosen_end}
-use Rattle.agreement.specs.declared.Port.TheVariants.{Open}
 use Rattle.agreement.proofs.Ends.{opposite-opposite, link_of-opposite, offer-given, offer-above}
 use Rattle.agreement.specs.Rule.{Reaches, IsChosen, Forwards}
 use Rattle.agreement.proofs.Forwards.{chosen-exists, chosen_is, link-reaches, forwards-open}
@@ -30,7 +30,7 @@ pub record Ready (n : Network) (t : ℕ) : Type 0 where
 -- bridge y forwards for d over the link of end e, by what t says
 pub record ForwardsOver (n : Network) (t y d e : ℕ) : Type 0 where
   pub by : Forwards n.plan.graph (n.plan.costs t) (distance_in n.plan t) n.records y d (link_of e) e
-  pub opens : forwarding_port n y d ≡ Open (link_of e)
+  pub opens : forwarding_port n y d ≡ Some (link_of e)
   pub hops : Crosses n d y (link_of e) (far_bridge n.plan.graph e)
 
 -- the end that bridge y chooses for d in t
@@ -89,7 +89,7 @@ module _ (n : Network) (t : ℕ) (ready : Ready n t) (y d : ℕ) (near : distanc
             };
       } in
       let up : UpAt n.records k = by.allowed.up in
-      let opens : forwarding_port n y d ≡ Open (link_of k) = rw (ready.one_view.on_view y there) (forwards-open g c f n.records y d range.differ (omega arith) by) in
+      let opens : forwarding_port n y d ≡ Some (link_of k) = rw (ready.one_view.on_view y there) (forwards-open g c f n.records y d range.differ (omega arith) by) in
       record {
         by = by;
         opens = opens;

@@ -1,4 +1,5 @@
 -- What a forwarding port and a hop tell of the network. Assumes nothing.
+use Rattle.std.specs.Prelude.{None, Some}
 use Prim.Native.Nat.{ℕ, ◌+◌, ◌*◌, ◌<◌}
 use mathlib.Core.Path.{◌≡◌, refl, sym, ◌∙◌, ap}
 use mathlib.Core.Logic.{◌⊎◌, inl, inr}
@@ -10,9 +11,7 @@ use Rattle.distances.proofs.Booleans.{both_true}
 use Rattle.distances.proofs.Laws.{dist-le-none}
 use Rattle.distances.proofs.Ranges.{side}
 use Rattle.agreement.specs.Offer.{link_of, opposite}
-use Rattle.agreement.specs.Forwarding.{Records, UpAt, is_up}
-use Rattle.agreement.specs.declared.Port.{Port}
-use Rattle.agreement.specs.declared.Port.TheVariants.{Closed, Open}
+use Rattle.agreement.specs.Forwarding.{Records, UpAt, is_up, Port}
 use Rattle.agreement.proofs.Ends.{opposite-below, bridge-in-range}
 use Rattle.agreement.proofs.Forwards.{open-forwards}
 use Rattle.protocol.specs.Net.{Network}
@@ -56,7 +55,7 @@ module _ (r : Records) (e : ℕ) where
           rw (first, second)
 
 module _ (n : Network) where
-  pub port-forwards : (y d l : ℕ) → forwarding_port n y d ≡ Open l → (e : ℕ) × ForwardsBy n y d l e
+  pub port-forwards : (y d l : ℕ) → forwarding_port n y d ≡ Some l → (e : ℕ) × ForwardsBy n y d l e
   unfolding forwarding_port forwarding_verdict
   port-forwards y d l e = open-forwards _ _ _ _ y d l e
 
@@ -70,7 +69,7 @@ module _ (n : Network) where
   below_none y d some = omega (arith, dist-le-none n.plan.graph (n.plan.costs (n.view y)) y d)
 
   -- a frame crosses a link only by the forwarding port, and where the link is live
-  pub hop-crosses : (d y l z : ℕ) → Crosses n d y l z → (forwarding_port n y d ≡ Open l) × (is_live n.records l ≡ true) × (across n.plan.graph l y ≡ z)
+  pub hop-crosses : (d y l z : ℕ) → Crosses n d y l z → (forwarding_port n y d ≡ Some l) × (is_live n.records l ≡ true) × (across n.plan.graph l y ≡ z)
   unfolding hop hop_by
   hop-crosses d y l z = go (forwarding_port n y d) refl
     where
@@ -78,9 +77,9 @@ module _ (n : Network) where
       live k true c = (cc, refl, cc)
       live k false c = absurd (stays-crosses l z c)
 
-      go : (p : Port) → forwarding_port n y d ≡ p → hop_by n.plan.graph n.records y p ≡ crosses l z → (forwarding_port n y d ≡ Open l) × (is_live n.records l ≡ true) × (across n.plan.graph l y ≡ z)
-      go Closed e c = absurd (stays-crosses l z c)
-      go (Open k) e c =
+      go : (p : Port) → forwarding_port n y d ≡ p → hop_by n.plan.graph n.records y p ≡ crosses l z → (forwarding_port n y d ≡ Some l) × (is_live n.records l ≡ true) × (across n.plan.graph l y ≡ z)
+      go None e c = absurd (stays-crosses l z c)
+      go (Some k) e c =
           let parts = live k (is_live n.records k) c in
           rw (← parts.0) (e, parts.1, parts.2)
 
@@ -101,7 +100,7 @@ module _ (n : Network) where
         )
 
     -- where the port is open on the link of end e, which is at y, and both ends are up, the frame crosses it
-    pub hop-open : (d y e : ℕ) → forwarding_port n y d ≡ Open (link_of e) → e < 2 * n.plan.graph.links → n.plan.graph.bridge_at e ≡ y → UpAt n.records e → UpAt n.records (opposite e) → Crosses n d y (link_of e) (far n e)
+    pub hop-open : (d y e : ℕ) → forwarding_port n y d ≡ Some (link_of e) → e < 2 * n.plan.graph.links → n.plan.graph.bridge_at e ≡ y → UpAt n.records e → UpAt n.records (opposite e) → Crosses n d y (link_of e) (far n e)
     unfolding hop hop_by
     hop-open d y e opens listed own near other =
         rw (opens, ends-live n.records e near other) (ap (crosses (link_of e)) (across-far n.plan.graph range e y listed own))

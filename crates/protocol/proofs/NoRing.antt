@@ -1,5 +1,6 @@
 -- Distances, each in the bridge's own view, fall along hops between bridges from which frames cross, and ranks along every hop, so that
 -- the hops for a destination close no ring. Assumes nothing.
+use Rattle.std.specs.Prelude.{Some}
 use Prim.Native.Nat.{ℕ, suc, ◌*◌, ◌≤◌, ◌<◌}
 use mathlib.Core.Path.{◌≡◌, refl, sym, subst}
 use mathlib.Core.Logic.{◌⊎◌, inl, inr}
@@ -8,7 +9,6 @@ use Rattle.distances.specs.View.{NONE}
 use Rattle.agreement.specs.Offer.{opposite}
 use Rattle.agreement.specs.Record.{held_limit}
 use Rattle.agreement.specs.Forwarding.{UpAt}
-use Rattle.agreement.specs.declared.Port.TheVariants.{Open}
 use Rattle.agreement.proofs.Directions.{counted}
 use Rattle.agreement.proofs.Ends.{opposite-below}
 use Rattle.protocol.specs.Net.{Network}
@@ -28,7 +28,7 @@ rank n d y = rank_by (own_distance n y d) (hop n d y)
 
 module _ (n : Network) (inv : Invariant n) (d : ℕ) where
   -- of any end whose held limit is at most x, and whose far end is up: if the far bridge forwards, its distance is below x
-  falls : (e x l : ℕ) → e < 2 * n.plan.graph.links → UpAt n.records (opposite e) → held_limit (n.records.ends e) (n.records.held e) d ≤ x → x < NONE → forwarding_port n (far n e) d ≡ Open l → own_distance n (far n e) d < x
+  falls : (e x l : ℕ) → e < 2 * n.plan.graph.links → UpAt n.records (opposite e) → held_limit (n.records.ends e) (n.records.held e) d ≤ x → x < NONE → forwarding_port n (far n e) d ≡ Some l → own_distance n (far n e) d < x
   unfolding own_distance
   falls e x l listed up low some is = go (counted (inv.1.direction e listed))
     where
@@ -53,7 +53,7 @@ module _ (n : Network) (inv : Invariant n) (d : ℕ) where
       subst (λ (x : ℕ). own_distance n x d < own_distance n y d) by.1.arrives
       (falls by.0 (own_distance n y d) l' so.chosen.listed by.1.far_up so.allowed.held
       (below_none n y d so.allowed.has_path)
-      (subst (λ (x : ℕ). forwarding_port n x d ≡ Open l') (sym by.1.arrives) (hop-crosses n d z l' w second).0))
+      (subst (λ (x : ℕ). forwarding_port n x d ≡ Some l') (sym by.1.arrives) (hop-crosses n d z l' w second).0))
 
   pub rank_falls : (y l z : ℕ) → hop n d y ≡ crosses l z → rank n d z < rank n d y
   unfolding rank rank_by

@@ -1,10 +1,9 @@
 -- Demands 2 and 3 applied to the triangle of document 01's examples. The proofs of these statements go by the demands, so that a premise which
 -- nobody can meet, or a conclusion that says nothing, breaks them. Assumes nothing.
-use Rattle.std.specs.Prelude.{ℕ, ◌≤◌, ◌≡◌, List, [], ◌++◌, length}
+use Rattle.std.specs.Prelude.{ℕ, ◌≤◌, ◌≡◌, List, [], ◌++◌, length, None, Some}
 use Rattle.distances.specs.Meaning.{IsPath, total}
 use Rattle.distances.specs.Examples.{triangle, view1}
 use Rattle.agreement.specs.Offer.{opposite}
-use Rattle.agreement.specs.declared.Port.TheVariants.{Closed, Open}
 use Rattle.agreement.specs.declared.Verdict.TheVariants.{IsDestination, NoLink, LinkDown, NothingHeld, HeldTooGreat, SentNotAbove}
 use Rattle.protocol.specs.Net.{Network, offer_in, fresh}
 use Rattle.protocol.specs.Ports.{forwarding_verdict, forwarding_port, stays, crosses, hop, Crosses}
@@ -25,14 +24,14 @@ pub record RuleAtExamples : Type 0 where
   pub other : (ls : List ℕ) → IsPath triangle view1 2 ls 0 → 3 ≤ total view1 ls
   -- E3: bridge 2 uses link 1, by document 01's conditions; and by them its port is open on it
   pub forwards : (e : ℕ) × ForwardsBy (after calls_e3) 2 0 1 e
-  pub opens : forwarding_port (after calls_e3) 2 0 ≡ Open 1
+  pub opens : forwarding_port (after calls_e3) 2 0 ≡ Some 1
   -- E3: a frame crosses that link to bridge 1, both its ends being up. Of link 0 bridge 0's end alone is cut: bridge 1 forwards on it, and no frame
   -- crosses it
   pub crosses : (e : ℕ) × CrossesBy (after calls_e3) 0 2 1 1 e
   pub crossed : Crosses (after calls_e3) 0 2 1 1
   pub dies : ((e : ℕ) × ForwardsBy (after calls_one_end) 1 0 0 e) × ((z e : ℕ) → CrossesBy (after calls_one_end) 0 1 0 z e → ⊥)
   -- E2: fresh, bridge 2 forwards on no link, and so its port is closed
-  pub closed : forwarding_port (after []) 2 0 ≡ Closed
+  pub closed : forwarding_port (after []) 2 0 ≡ None
   -- E2: over its chosen link 1 bridge 2 holds nothing; E4: what bridge 1 holds over link 1 is too great; E6: it suffices, but the sent limit there is not above
   -- the distance; after E3 bridge 1's own end of its chosen link 0 is cut. Nothing else is said of bridge 0 than that it is the destination; and bridge 1,
   -- which has a path, has a chosen link
@@ -68,7 +67,7 @@ pub record ListsAtExamples : Type 0 where
   -- of link 0 bridge 0's end alone is cut: the path from 2 stops at bridge 1, whose frame dies, and ends there by itself
   pub ends_dying : hop (after calls_one_end) 0 1 ≡ stays
   -- the settling list: bridge 1 forwards for bridge 0, its path is delivered, and the links crossed cost 4 in view 1
-  pub forwards : (l : ℕ) × (forwarding_port settled_there 1 0 ≡ Open l)
+  pub forwards : (l : ℕ) × (forwarding_port settled_there 1 0 ≡ Some l)
   pub arrives : (h : ℕ) × (path settled_there 1 0 ≡ delivered h)
   pub shortest : total view1 (links_crossed settled_there 1 0) ≡ 4
 

@@ -1,13 +1,12 @@
 -- Demand 2 (document 01, "Network and views", "Records of a bridge", "Forwarding"; document 02, Changes 1 and 2): what is told of a network, whatever stands in its
 -- records, is by the shortest distances and by the forwarding rule; and after every list of calls from a fresh network the limits in its
 -- records are those of document 01. Assumes nothing.
-use Rattle.std.specs.Prelude.{ℕ, ◌-◌, ◌<◌, ◌≡◌, ◌⊎◌, List}
+use Rattle.std.specs.Prelude.{ℕ, ◌-◌, ◌<◌, ◌≡◌, ◌⊎◌, List, None, Some}
 use Rattle.distances.specs.Meaning.{IsDistance}
 use Rattle.agreement.specs.Offer.{opposite}
 use Rattle.agreement.specs.Forwarding.{UpAt}
 use Rattle.agreement.specs.Rule.{Forwards}
 use Rattle.agreement.specs.Reasons.{Means}
-use Rattle.agreement.specs.declared.Port.TheVariants.{Closed, Open}
 use Rattle.agreement.specs.declared.Verdict.{Verdict}
 use Rattle.agreement.specs.declared.Verdict.TheVariants.{NoLink}
 use Rattle.protocol.specs.Net.{Network, Plan, PlanInRange, distance_in, fresh}
@@ -51,9 +50,9 @@ pub record ByTheRule (n : Network) : Type 0 where
   -- and of any other bridge in that view, which the rule asks for
   pub others : (y z d : ℕ) → y < n.plan.graph.bridges → IsDistance n.plan.graph (n.plan.costs (n.view y)) z d (distance_in n.plan (n.view y) z d)
   -- a port is open on a link if and only if y forwards on it: "No other port forwards for that destination"
-  pub opens : (y d l e : ℕ) → ForwardsBy n y d l e → forwarding_port n y d ≡ Open l
-  pub forwards : (y d l : ℕ) → forwarding_port n y d ≡ Open l → (e : ℕ) × ForwardsBy n y d l e
-  pub closed : (y d : ℕ) → ((l e : ℕ) → ForwardsBy n y d l e → ⊥) → forwarding_port n y d ≡ Closed
+  pub opens : (y d l e : ℕ) → ForwardsBy n y d l e → forwarding_port n y d ≡ Some l
+  pub forwards : (y d l : ℕ) → forwarding_port n y d ≡ Some l → (e : ℕ) × ForwardsBy n y d l e
+  pub closed : (y d : ℕ) → ((l e : ℕ) → ForwardsBy n y d l e → ⊥) → forwarding_port n y d ≡ None
   -- "the first of these that applies", and otherwise that the port forwards: the verdict is so, and no other is; so it is that the port forwards on l if and
   -- only if y forwards on l. A bridge with a path to another has a chosen link
   pub verdict : (y d : ℕ) → MeansBy n y d (forwarding_verdict n y d)

@@ -1,9 +1,8 @@
 -- Demand 3 (document 01, "Whole lists"; document 02, Change 1): one claim about every list of calls from the fresh network. Assumes nothing.
-use Rattle.std.specs.Prelude.{ℕ, ◌+◌, ◌*◌, ◌<◌, ◌≤◌, ◌-◌, ◌≡◌, ◌⊎◌, true, List, ◌++◌, length}
+use Rattle.std.specs.Prelude.{ℕ, ◌+◌, ◌*◌, ◌<◌, ◌≤◌, ◌-◌, ◌≡◌, ◌⊎◌, true, List, ◌++◌, length, Some}
 use Rattle.distances.specs.View.{NONE}
 use Rattle.distances.specs.Meaning.{total}
 use Rattle.agreement.specs.Forwarding.{UpAt, DownAt}
-use Rattle.agreement.specs.declared.Port.TheVariants.{Open}
 use Rattle.protocol.specs.Net.{Network, Plan, PlanInRange, fresh, distance_in}
 use Rattle.protocol.specs.Calls.{Call, run}
 use Rattle.protocol.specs.Ports.{forwarding_port, Crosses}
@@ -31,7 +30,7 @@ pub record Settling (n : Network) (t : ℕ) (xs ys : List Call) : Type 0 where
 
 -- bridge y forwards for d, its path is delivered, and the costs in t of the links that it crosses add up to its distance in t
 pub record Settled (n : Network) (t y d : ℕ) : Type 0 where
-  pub forwards : (l : ℕ) × (forwarding_port n y d ≡ Open l)
+  pub forwards : (l : ℕ) × (forwarding_port n y d ≡ Some l)
   pub arrives : (h : ℕ) × (path n y d ≡ delivered h)
   pub shortest : total (n.plan.costs t) (links_crossed n y d) ≡ distance_in n.plan t y d
 

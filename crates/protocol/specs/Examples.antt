@@ -1,14 +1,13 @@
 -- Document 01's known examples E1 to E8, and last cases of ours for the sentences of document 02's Changes 1 and 2, one table: what is computed
 -- and what the documents state. Assumes nothing.
-use Rattle.std.specs.Prelude.{ℕ, zero, suc, List, [], ◌∷◌, ◌++◌, get_or}
+use Rattle.std.specs.Prelude.{ℕ, zero, suc, List, [], ◌∷◌, ◌++◌, get_or, None, Some}
 use Rattle.distances.specs.View.{Costs, NONE, graph_of, costs_of}
 use Rattle.distances.specs.Examples.{Example, AllHold, examples, triangle, view0, view1}
+use Rattle.agreement.specs.Forwarding.{Port}
 use Rattle.agreement.specs.Record.{held_limit}
 use Rattle.agreement.specs.Reasons.{verdict_numbers}
 use Rattle.agreement.specs.declared.Answer.{Answer}
 use Rattle.agreement.specs.declared.Answer.TheVariants.{Stale, Agreed, Noted}
-use Rattle.agreement.specs.declared.Port.{Port}
-use Rattle.agreement.specs.declared.Port.TheVariants.{Closed, Open}
 use Rattle.protocol.specs.Net.{Network, Plan, fresh}
 use Rattle.protocol.specs.Calls.{Call, change, update, cut, send, deliver, refuse, run, message_at, answer_at}
 use Rattle.protocol.specs.Ports.{forwarding_verdict, forwarding_port, own_distance}
@@ -95,8 +94,8 @@ unlinked = record { graph = graph_of 2 0 []; views = 1; costs = λ t. costs_of [
 
 -- numbers for the table: a port's link (NONE: no port), a path (0 delivered, 1 stops), a delivery's answer (0 stale, 1 agreed, 2 noted)
 abbrev pub link_used : Port → ℕ
-link_used Closed = NONE
-link_used (Open l) = l
+link_used None = NONE
+link_used (Some l) = l
 
 abbrev pub example_numbers : PathResult → List ℕ
 example_numbers (delivered h) = 0 ∷ h ∷ []

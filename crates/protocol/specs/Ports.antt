@@ -1,9 +1,7 @@
 -- The forwarding ports of a network, and where a frame goes by them (document 01, "Forwarding"; document 02, Changes 1 and 2). Assumes nothing.
-use Rattle.std.specs.Prelude.{ℕ, ◌*◌, ◌+◌, ◌≡◌, Bool, cond, ◌&&◌, eqb}
+use Rattle.std.specs.Prelude.{ℕ, ◌*◌, ◌+◌, ◌≡◌, Bool, cond, ◌&&◌, eqb, None, Some}
 use Rattle.distances.specs.View.{Graph}
-use Rattle.agreement.specs.Forwarding.{Records, is_up, verdict, port_of}
-use Rattle.agreement.specs.declared.Port.{Port}
-use Rattle.agreement.specs.declared.Port.TheVariants.{Closed, Open}
+use Rattle.agreement.specs.Forwarding.{Records, is_up, verdict, port_of, Port}
 use Rattle.agreement.specs.declared.Verdict.{Verdict}
 use Rattle.protocol.specs.Net.{Network, distance_in}
 
@@ -34,8 +32,8 @@ is_live r l = is_up r (2 * l) && is_up r (2 * l + 1)
 
 -- the frame goes over the forwarding port's link: "A frame crosses only if both ends are up", and otherwise it dies on the link
 unfoldable pub hop_by : Graph → Records → ℕ → Port → Hop
-hop_by g r y Closed = stays
-hop_by g r y (Open l) = cond (is_live r l) (crosses l (across g l y)) stays
+hop_by g r y None = stays
+hop_by g r y (Some l) = cond (is_live r l) (crosses l (across g l y)) stays
 
 unfoldable pub hop : Network → ℕ → ℕ → Hop
 hop n d y = hop_by n.plan.graph n.records y (forwarding_port n y d)

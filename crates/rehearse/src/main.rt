@@ -2,22 +2,14 @@
 // not be written, a line on standard error says so; the exit status is 0 then too.
 #![tactic(auto)]
 
-use play::Reply;
+use play::PlayError;
 use std::io::Write;
 
 fn main(rt: HostRuntime) {
-    let reply = play::play(&mut rt.stdin(), &mut rt.stdout());
-    match reply {
-        Reply::Printed(_) => {}
-        Reply::Stopped(_) => {
-            let _ = rt
-                .stderr()
-                .write_all(b"rehearse: the output could not be written\n");
-        }
-        Reply::Unread => {
-            let _ = rt
-                .stderr()
-                .write_all(b"rehearse: the plan could not be read\n");
-        }
-    }
+    let what = match play::play(&mut rt.stdin(), &mut rt.stdout()) {
+        Ok(_) => return,
+        Err(PlayError::Stopped(_)) => "the output could not be written",
+        Err(PlayError::Unread) => "the plan could not be read",
+    };
+    let _ = rt.eprintln(format_args!("rehearse: {what}"));
 }

@@ -3,7 +3,7 @@
 // A plan that cannot be opened, read or printed is named on standard error with the reason, and its output is missing.
 #![tactic(auto)]
 
-use play::Reply;
+use play::PlayError;
 use std::fs::File;
 use std::io;
 use std::io::{ErrorKind, Read, Write};
@@ -35,26 +35,17 @@ impl<T> Noted<T> {
 
 impl<T: Read> Read for Noted<T> {
     fn read(&mut self, buf: &mut [u8]) -> io::Result<usize> {
-        match self.inner.read(buf) {
-            Ok(n) => Ok(n),
-            Err(error) => Err(self.note(error)),
-        }
+        self.inner.read(buf).map_err(|error| self.note(error))
     }
 }
 
 impl<T: Write> Write for Noted<T> {
     fn write(&mut self, buf: &[u8]) -> io::Result<usize> {
-        match self.inner.write(buf) {
-            Ok(n) => Ok(n),
-            Err(error) => Err(self.note(error)),
-        }
+        self.inner.write(buf).map_err(|error| self.note(error))
     }
 
     fn flush(&mut self) -> io::Result<()> {
-        match self.inner.flush() {
-            Ok(()) => Ok(()),
-            Err(error) => Err(self.note(error)),
-        }
+        self.inner.flush().map_err(|error| self.note(error))
     }
 }
 
@@ -63,9 +54,11 @@ fn carry_out(rt: HostRuntime, name: &str) -> io::Result<()> {
     let mut input = Noted::new(File::open(&rt, name)?);
     let mut to = Noted::new(rt.stdout());
     match play::play(&mut input, &mut to) {
-        Reply::Printed(_) => Ok(()),
-        Reply::Stopped(_) => Err(to.reason.unwrap_or(io::Error::from(ErrorKind::WriteZero))),
-        Reply::Unread => Err(input.reason.unwrap_or(io::Error::from(ErrorKind::Other))),
+        Ok(_) => Ok(()),
+        Err(PlayError::Stopped(_)) => Err(
+            to.reason.unwrap_or(io::Error::from(ErrorKind::WriteZero)),
+        ),
+        Err(PlayError::Unread) => Err(input.reason.unwrap_or(io::Error::from(ErrorKind::Other))),
     }
 }
 
@@ -77,7 +70,7 @@ fn run(rt: HostRuntime, name: &str) {
     }
 }
 
-// Known examples, and what becomes of messages, cuts and limits.
+// Known examples, and what becomes of messages, cuts and limits. A line for each plan, here and below: the tests read the names in these lines.
 fn known(rt: HostRuntime) {
     let replay = |name: &str| run(rt, name);
     replay("e10_after_loss.plan");

@@ -12,24 +12,16 @@ use Rattle.bench.specs.State.{State}
 use Rattle.bench.specs.Batches.{reply_of}
 use Rattle.bench.specs.declared.Bench.{Bench}
 use Rattle.plan.specs.Fields.{byte}
-use Rattle.plan.specs.Reading.{read_reply, stop_number}
+use Rattle.plan.specs.Reading.{Read, read_reply}
 use Rattle.bench.specs.declared.Event.{Event}
 use Rattle.plan.specs.declared.Field.{Field}
-use Rattle.plan.specs.declared.Read.{Read}
 use Rattle.plan.proofs.Laws.{FieldRead, ViewRead, field-size, field-read}
 use Rattle.runner.specs.Buffers.{Buffers, buffers, buffers_long, state_on, progress_of}
 use Rattle.runner.specs.Events.{text_of, state_after, Line, line, line_of}
-use Rattle.runner.specs.Steps.{StepOutcome, step_outcome, last_step, last_text, setup_step, event_step, field_step, read_step, step_of, runner_in_range, ViewFits, field_fits}
+use Rattle.runner.specs.Steps.{StepOutcome, step_outcome, last_step, last_text, event_step, field_step, read_step, step_of, runner_in_range, ViewFits, field_fits}
 use Rattle.runner.specs.declared.Runner.{Runner}
 
--- a private call is lent nothing, or the bytes to be printed alone: its step on all of the buffers
-pub setup-on :
-    (used : ℕ) (b : Bench) (stage : ℕ) (r : Runner) (k : Buffers) {reply : ℕ} {going : Bool} {taken written : ℕ} {runner : Runner} →
-    step_outcome reply going taken written runner (buffers [] [] [] [] []) ≡ setup_step used b stage r (buffers [] [] [] [] []) →
-    step_outcome reply going taken written runner k ≡ setup_step used b stage r k
-unfolding setup_step
-setup-on used b stage r k e = ap (λ (t : StepOutcome). step_outcome t.reply t.going t.used t.written t.runner k) e
-
+-- a private call to which the bytes to be printed alone are lent: its step on all of the buffers
 pub ended-on :
     (number : ℕ) (text : List ℕ) (r : Runner) (k : Buffers) {reply : ℕ} {going : Bool} {taken written : ℕ} {runner : Runner} {out : List ℕ} →
     step_outcome reply going taken written runner (buffers [] [] [] [] out) ≡ last_step number text r (buffers [] [] [] [] k.out) →
@@ -71,7 +63,8 @@ module _ (e : Event) (used : ℕ) (r : Runner) (k : Buffers) where
       (reply ≡ 0 → ⊥) →
       {after : State} →
       after ≡ now →
-      last_step reply (last_text reply r.events r.offset) r (buffers after.costs after.sent after.held after.messages k.out)
+      last_step reply (last_text reply r.events r.offset) (record { bench = after.bench; stage = r.stage; events = r.events; offset = r.offset })
+      (buffers after.costs after.sent after.held after.messages k.out)
       ≡ event_step e used r k
   unfolding event_step last_step last_text
   refused-turn reply same some is =
@@ -80,31 +73,40 @@ module _ (e : Event) (used : ℕ) (r : Runner) (k : Buffers) where
 
 -- ---- what a step's checks tell
 
-pub record StepFacts (r : Runner) (k : Buffers) : Type 0 where
-  pub events : r.events ≤ 61440
-  pub offset : r.offset ≤ 61440
+-- the lent buffers are long
+pub record Long (k : Buffers) : Type 0 where
   pub costs : 1024 ≤ length k.costs
   pub sent : 1024 ≤ length k.sent
   pub held : 1024 ≤ length k.held
+  pub messages : 320 ≤ length k.messages
   pub out : 544 ≤ length k.out
 
-pub step-told : (r : Runner) (k : Buffers) → (runner_in_range r && buffers_long k) ≡ true → StepFacts r k
-unfolding runner_in_range buffers_long
-step-told r k ok =
-    let all = both_true (leb r.events 61440 && leb r.offset 61440) _ ok in
-    let counts = both_true (leb r.events 61440) _ all.0 in
-    let costs = both_true (leb 1024 (length k.costs)) _ all.1 in
+pub long-told : (k : Buffers) → buffers_long k ≡ true → Long k
+unfolding buffers_long
+long-told k ok =
+    let costs = both_true (leb 1024 (length k.costs)) _ ok in
     let sent = both_true (leb 1024 (length k.sent)) _ costs.1 in
     let held = both_true (leb 1024 (length k.held)) _ sent.1 in
     let messages = both_true (leb 320 (length k.messages)) _ held.1 in
     record {
-      events = leb-true _ _ counts.0;
-      offset = leb-true _ _ counts.1;
       costs = leb-true _ _ costs.0;
       sent = leb-true _ _ sent.0;
       held = leb-true _ _ held.0;
+      messages = leb-true _ _ messages.0;
       out = leb-true _ _ messages.1;
     }
+
+pub record StepFacts (r : Runner) (k : Buffers) : Type 0 where
+  pub events : r.events ≤ 61440
+  pub offset : r.offset ≤ 61440
+  pub long : Long k
+
+pub step-told : (r : Runner) (k : Buffers) → (runner_in_range r && buffers_long k) ≡ true → StepFacts r k
+unfolding runner_in_range
+step-told r k ok =
+    let all = both_true (leb r.events 61440 && leb r.offset 61440) _ ok in
+    let counts = both_true (leb r.events 61440) _ all.0 in
+    record { events = leb-true _ _ counts.0; offset = leb-true _ _ counts.1; long = long-told k all.1 }
 
 -- what the reader tells of a view
 pub view-fits :
@@ -130,28 +132,17 @@ module _ (rest : List ℕ) (r : Runner) {f : Field} {used : ℕ} (read : read_re
 
 -- ---- the whole step
 
--- what was read: the plan's end or a field
-pub stop-turn :
-    (rest : List ℕ) (r : Runner) (k : Buffers) (read : Read) (number : ℕ) {n : ℕ} →
-    number ≡ stop_number read →
-    read ≡ Read.Stop n →
-    last_step number (last_text number r.events r.offset) r k ≡ read_step rest read r k
-unfolding read_step
-stop-turn rest r k read number same stops = rw (same, stops)
-
-pub field-turn :
-    (rest : List ℕ) (r : Runner) (k : Buffers) (read : Read) {f : Field} {used : ℕ} →
-    read ≡ Read.Field f used →
-    field_step rest f used r k ≡ read_step rest read r k
-unfolding read_step
-field-turn rest r k read same = rw same
-
 module _ (rest : List ℕ) (r : Runner) (k : Buffers) where
-  -- refused, or read
   pub step-out : (runner_in_range r && buffers_long k) ≡ false → step_outcome 17 false 0 0 r k ≡ step_of r k rest
   unfolding step_of
   step-out e = rw e
 
-  pub step-read : (runner_in_range r && buffers_long k) ≡ true → (read : Read) → read ≡ read_reply rest (progress_of r) → read_step rest read r k ≡ step_of r k rest
-  unfolding step_of
-  step-read e read same = rw (same, e)
+  -- what was read: a field or the plan's end
+  module _ (ok : (runner_in_range r && buffers_long k) ≡ true) where
+    pub step-field : {f : Field} {used : ℕ} → read_reply rest (progress_of r) ≡ Read.Field f used → field_step rest f used r k ≡ step_of r k rest
+    unfolding step_of read_step
+    step-field read = rw (ok, read)
+
+    pub step-end : {number : ℕ} → read_reply rest (progress_of r) ≡ Read.Stop number → last_step number (last_text number r.events r.offset) r k ≡ step_of r k rest
+    unfolding step_of read_step
+    step-end read = rw (ok, read)

@@ -19,9 +19,8 @@ use Rattle.bench.specs.declared.Event.TheVariants.{Update, Send, Deliver, Repeat
 use Rattle.bench.proofs.BatchRuns.{accepted-bridges, answers-length}
 use Rattle.bench.proofs.QueueCalls.{refusal-none}
 use Rattle.bench.proofs.PathSteps.{bridge-listed, bridges-listed}
-use Rattle.plan.specs.Reading.{read_reply}
+use Rattle.plan.specs.Reading.{Read, read_reply}
 use Rattle.plan.specs.declared.Field.{Field}
-use Rattle.plan.specs.declared.Read.{Read}
 use Rattle.plan.proofs.Laws.{field-size}
 use Rattle.text.specs.Lines.{delivered_text, stops_text, end_text, refused_text}
 use Rattle.text.proofs.Laws.{length-report_text, length-delivered_text, length-stops_text, length-end_text, length-refused_text}

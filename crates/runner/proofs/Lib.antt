@@ -1,3 +1,4 @@
+pub mod Numbers
 pub mod EventSteps
 pub mod FieldSteps
 pub mod RunSteps
@@ -19,4 +20,5 @@ pub mod ListOne
 pub mod ListSteps
 pub mod ListFields
 pub mod ListTexts
+pub mod ListCosts
 pub mod ListResults

@@ -9,8 +9,7 @@ use lib.ListN.{length, take, drop, length-drop, length-append}
 use lib.Seq.{sets, length-sets, take_at, drop_at, drop-drop}
 use Rattle.bench.specs.State.{State, network}
 use Rattle.bench.specs.Standing.{step_in}
-use Rattle.bench.specs.Batches.{call_of, reply_of, answers_of, answer_size, answer_sizes, Batch, batch, event_batch_in, batch_from}
-use Rattle.bench.specs.declared.Disposition.{Disposition}
+use Rattle.bench.specs.Batches.{call_of, reply_of, answers_of, answer_size, answer_sizes, Ending, complete, refused_with, Batch, batch, event_batch_in, batch_from}
 use Rattle.bench.specs.declared.Event.{Event}
 use Rattle.bench.proofs.BatchRuns.{First, full, refused, made, first_of, answers-length, following, runs_none, runs-made, runs-unmade}
 use Rattle.bench.proofs.RunSteps.{step_kept, step-costs}
@@ -24,10 +23,9 @@ use Rattle.runner.specs.Buffers.{buffers}
 use Rattle.runner.specs.Events.{text_of}
 use Rattle.runner.specs.Steps.{StepOutcome, step_outcome}
 use Rattle.runner.specs.Fills.{fills}
-use Rattle.runner.specs.Lists.{texts_of, with_refusal, with_disposition, SomeNumber}
+use Rattle.runner.specs.Lists.{texts_of, with_refusal, with_ending}
 use Rattle.runner.proofs.FillTexts.{text-short}
 use Rattle.runner.proofs.FillSteps.{fills-more, fills-over}
-use Rattle.runner.proofs.ListTexts.{above}
 use Rattle.runner.proofs.ListSteps.{state_at, Roomy, event_on, steps_on_lem, step-on-event, step-on-refused}
 
 -- the reply's number after so many steps
@@ -46,16 +44,6 @@ puts-both out a b w =
     let second : Put (sets out w a) (w + length a) b (sets (sets out w a) (w + length a) b) (w + length a + length b) = record { bytes = refl; next = refl } in
     let both = joined first second in
     (both.bytes, both.next)
-
--- a list that ended with a refusal has its number
-pub some_number : (room : ℕ) (s : State) (es : List Event) → SomeNumber (batch_from room s es).disposition
-some_number room s [] = rw runs_none tt
-some_number room s (e ∷ es) = go (some_number (room - length (answers_of (network s) e)) (step_in s (call_of e)) es) (event_batch_in room s e) refl (first_of room s e)
-  where
-    go : SomeNumber (following room s e es).disposition → (b : Batch) → event_batch_in room s e ≡ b → First room s e b → SomeNumber (batch_from room s (e ∷ es)).disposition
-    go later b is (full few) = rw (runs-unmade room s e es b is refl) tt
-    go later b is (refused some) = rw (runs-unmade room s e es b is refl) (above (reply_of s e) some)
-    go later b is (made none fits) = rw (runs-made room s e es is) later
 
 -- the texts of a list have 15 bytes at most for each number that its events answered with
 pub texts-few : (room : ℕ) (s : State) (es : List Event) → let b : Batch = batch_from room s es in length (texts_of s.bench.bridges (take b.made es) b.answers) ≤ 15 * length b.answers
@@ -112,7 +100,7 @@ module _ (rest : List ℕ) (off : ℕ) where
     pub offset : t.runner.offset ≡ off + at
 
   -- no event
-  none-on : (more numbers : ℕ) (t : StepOutcome) (at : ℕ) (xs : List Placed) (how : Disposition) → At at t → Roomy rest more numbers t → t ≡ list_on t at xs (batch 0 how (state_at t) [])
+  none-on : (more numbers : ℕ) (t : StepOutcome) (at : ℕ) (xs : List Placed) (how : Ending) → At at t → Roomy rest more numbers t → t ≡ list_on t at xs (batch 0 how (state_at t) [])
   unfolding texts_of
   none-on more numbers t at xs how here roomy = rw (add-zero, add-zero, ← here.offset, ← here.used, ← roomy.stage, ← roomy.going)
 
@@ -156,7 +144,7 @@ module _ (rest : List ℕ) (off : ℕ) where
     module _ (xs : List Placed) (b : Batch) where
       -- the list with this event before the others
       abbrev whole : Batch
-      whole = batch (suc b.made) b.disposition b.state (answers ++ b.answers)
+      whole = batch (suc b.made) b.ending b.state (answers ++ b.answers)
 
       texts-on : texts_on t (x ∷ xs) whole ≡ text_of (state_at t) e ++ texts_on (event_on t e used) xs b
       unfolding texts_of events_of
@@ -176,17 +164,17 @@ module _ (rest : List ℕ) (off : ℕ) where
       (t : StepOutcome) (at numbers : ℕ) → At at t → ReadAs (list_progress t.runner.bench) (drop t.used rest) at xs → Roomy rest (length xs) numbers t →
       answer_sizes t.runner.bench.bridges (events_of xs) ≤ numbers →
       let b : Batch = batch_from numbers (state_at t) (events_of xs) in
-      fills (length xs) t rest ≡ with_disposition b.disposition (list_on t at xs b)
+      fills (length xs) t rest ≡ with_ending b.ending (list_on t at xs b)
 
   pub list_steps : (xs : List Placed) → Steps xs
-  unfolding fills with_disposition events_of answer_sizes
-  list_steps [] t at numbers here read roomy sizes = rw runs_none (none-on 0 numbers t at [] Disposition.Complete here roomy)
+  unfolding fills with_ending events_of answer_sizes
+  list_steps [] t at numbers here read roomy sizes = rw runs_none (none-on 0 numbers t at [] complete here roomy)
   list_steps (x ∷ xs) t at numbers here read roomy sizes = go (list_steps xs) (event_batch_in numbers (state_at t) x.event) refl (first_of numbers (state_at t) x.event)
     where
       go :
           Steps xs → (b : Batch) → event_batch_in numbers (state_at t) x.event ≡ b → First numbers (state_at t) x.event b →
           let r : Batch = batch_from numbers (state_at t) (events_of (x ∷ xs)) in
-          fills (suc (length xs)) t rest ≡ with_disposition r.disposition (list_on t at (x ∷ xs) r)
+          fills (suc (length xs)) t rest ≡ with_ending r.ending (list_on t at (x ∷ xs) r)
       go later b is (full few) = absurd (omega (arith, few, sizes))
       go later b is (refused some) =
           let k : ℕ = reply_of (state_at t) x.event in
@@ -195,7 +183,7 @@ module _ (rest : List ℕ) (off : ℕ) where
           (fills-more (length xs) t rest (steps_on_lem rest _ numbers t roomy)
           ∙ ap (λ (z : StepOutcome). fills (length xs) z rest) (step-on-refused rest _ numbers t roomy x.event read.used read.read some)
           ∙ fills-over (length xs) end rest (refused-ends k t)
-          ∙ ap (with_refusal k) (none-on _ numbers t at (x ∷ xs) (Disposition.Refused k) here roomy))
+          ∙ ap (with_refusal k) (none-on _ numbers t at (x ∷ xs) (refused_with k) here roomy))
       go later b is (made none fits) =
           let s : State = state_at t in
           let u : StepOutcome = event_on t x.event read.used in
@@ -217,4 +205,4 @@ module _ (rest : List ℕ) (off : ℕ) where
           reads
           (roomy-on (length xs) numbers t roomy at here x none fits read.used read.past size.1)
           left
-          ∙ ap (with_disposition then.disposition) (list_on_lem (length xs) numbers t roomy at here x none fits read.used read.past xs then))
+          ∙ ap (with_ending then.ending) (list_on_lem (length xs) numbers t roomy at here x none fits read.used read.past xs then))

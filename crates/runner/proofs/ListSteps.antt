@@ -13,9 +13,8 @@ use Rattle.bench.specs.State.{State}
 use Rattle.bench.specs.Batches.{reply_of}
 use Rattle.bench.specs.declared.Event.{Event}
 use Rattle.plan.specs.Events.{list_progress}
-use Rattle.plan.specs.Reading.{read_reply}
+use Rattle.plan.specs.Reading.{Read, read_reply}
 use Rattle.plan.specs.declared.Field.{Field}
-use Rattle.plan.specs.declared.Read.{Read}
 use Rattle.text.specs.Lines.{refused_text}
 use Rattle.text.proofs.Laws.{length-refused_text}
 use Rattle.runner.specs.Buffers.{buffers, buffers_long, state_on, progress_of}

@@ -7,36 +7,26 @@ use mathlib.Core.Bool.{false}
 use mathlib.Core.List.{List, [], ◌∷◌, ◌++◌, append-nil, append_assoc}
 use borrow.Author.Tests.{ne_eqb}
 use lib.ListN.{length, get_or, take, drop, length-append, length-drop, drop_of_length-le}
-use lib.Seq.{sets, length-sets, take_all, take-append-le, drop-drop, drop-cons, length-take-le}
-use Rattle.bench.specs.Batches.{answer_size, answer_sizes, refusal_in}
+use lib.Seq.{sets, length-sets, take_all, take-append-le, drop-drop, drop-cons}
+use Rattle.bench.specs.Batches.{answer_size, answer_sizes, ending_of, refusal_in}
+use Rattle.std.specs.Prelude.{Some, None}
 use Rattle.bench.specs.declared.Disposition.{Disposition}
+use Rattle.distances.specs.Refusal.{number}
+use Rattle.distances.specs.declared.refusals.Refusal.{Refusal}
 use Rattle.bench.specs.declared.Event.{Event}
 use Rattle.text.specs.Lines.{refused_text}
 use Rattle.text.specs.Writing.{Put}
 use Rattle.text.proofs.Laws.{length-refused_text}
-use Rattle.text.proofs.Puts.{joined, nothing}
+use Rattle.text.proofs.Puts.{joined}
 use Rattle.runner.specs.Events.{event_text, NoText, Line, line, line_of}
-use Rattle.runner.specs.Steps.{StepOutcome, last_text}
-use Rattle.runner.specs.Lists.{texts_of, outcome_on, with_refusal, with_disposition, SomeNumber}
-use Rattle.runner.specs.declared.StepResult.{StepResult}
+use Rattle.runner.specs.Steps.{StepOutcome, step_outcome, last_text}
+use Rattle.runner.specs.Fills.{buffers_with_out}
+use Rattle.runner.specs.Lists.{texts_of, with_refusal, with_ending}
 use Rattle.runner.proofs.ListSteps.{behind-is}
 
 -- the part of a list from `at` to its end, as the code lends it
 pub rest-lent : {A : Type 0} (l : List A) (at : ℕ) → take (length l - at) (drop at l) ≡ drop at l
 rest-lent l at = take_all (length l - at) (drop at l) (omega (arith, length-drop at l))
-
--- its length, and that of a part of so many
-pub lent-room : (out : List ℕ) (end : ℕ) → end + 544 ≤ length out → 544 ≤ length (take (length out - end) (drop end out))
-lent-room out end room = rw (rest-lent out end) (omega (arith, length-drop end out))
-
-pub lent-size : (answers : List ℕ) (at : ℕ) {width size : ℕ} → at + width ≤ length answers → width ≡ size → size ≤ length (take (at + width - at) (drop at answers))
-lent-size answers at {width} {size} fits same =
-    let all : at + width - at ≡ size = omega arith in
-    rw all (omega (arith, length-take-le size (drop at answers) (omega (arith, length-drop at answers))))
-
--- a list with its first numbers rewritten is as long
-pub whole_length : (a b : List ℕ) (n : ℕ) → length a ≡ n → n ≤ length b → length b ≡ length (a ++ drop n b)
-whole_length a b n same few = sym (length-append a (drop n b) ∙ omega (arith, length-drop n b))
 
 module _ (bridges written : ℕ) (es : List Event) (answers out₀ : List ℕ) where
   -- after k events: what is written, and what is still to be
@@ -47,10 +37,6 @@ module _ (bridges written : ℕ) (es : List Event) (answers out₀ : List ℕ) w
     pub few : k ≤ length es
     pub numbers : at + answer_sizes bridges (drop k es) ≤ length answers
     pub room : end + length (texts_of bridges (drop k es) (drop at answers)) + 544 ≤ length out
-
-  pub telling-none : answer_sizes bridges es ≤ length answers → written + length (texts_of bridges es answers) + 544 ≤ length out₀ → Telling out₀ written 0 0
-  telling-none few room =
-      record { text = []; put = nothing out₀ written; whole = refl; few = omega arith; numbers = omega (arith, few); room = room }
 
   module _ (out : List ℕ) (end at k : ℕ) (t : Telling out end at k) (none e : Event) (is : e ≡ get_or es k none) (more : k < length es) where
     abbrev size : ℕ
@@ -141,51 +127,46 @@ texts-head bridges (e ∷ es) a b few =
 
 -- ---- the refusal of the next event, behind what is written
 
-module _ (done : StepResult) (number : ℕ) (some : 0 < number) (out : List ℕ) (room : done.written + 544 ≤ length out) where
-  pub refused-room : 544 ≤ length (take (length out - done.written) (drop done.written out))
-  refused-room = lent-room out done.written room
+module _ (t : StepOutcome) (k : ℕ) (some : k ≡ 0 → ⊥) (room : t.written + 544 ≤ length t.buffers.out) where
+  abbrev out : List ℕ
+  out = t.buffers.out
 
   module _
       {count : ℕ}
       {after : List ℕ}
-      (put : line count after ≡ line_of (last_text number done.runner.events done.runner.offset) (take (length out - done.written) (drop done.written out))) where
+      (put : line count after ≡ line_of (last_text k t.runner.events t.runner.offset) (take (length out - t.written) (drop t.written out))) where
     -- the text is the refusal's
     abbrev text : List ℕ
-    text = refused_text number done.runner.offset
+    text = refused_text k t.runner.offset
 
-    put-text : line count after ≡ line_of text (drop done.written out)
+    put-text : line count after ≡ line_of text (drop t.written out)
     unfolding last_text
-    put-text = rw (ne_eqb number 0 (λ e. absurd (omega arith)), rest-lent out done.written) at put
+    put-text = rw (ne_eqb k 0 some, rest-lent out t.written) at put
 
     pub refused-few : count ≤ 544
-    refused-few = omega (arith, ap (λ (l : Line). l.count) put-text, length-refused_text number done.runner.offset)
+    refused-few = omega (arith, ap (λ (l : Line). l.count) put-text, length-refused_text k t.runner.offset)
 
     pub refused-behind :
-        outcome_on (record { runner = done.runner; messages = done.messages; going = false; used = done.used; written = done.written + count; reply = number })
-        (take done.written out ++ (after ++ drop (length out - done.written) (drop done.written out)))
-        ≡ with_refusal number (outcome_on done out)
+        step_outcome k false t.used (t.written + count) t.runner
+        (buffers_with_out (take t.written out ++ (after ++ drop (length out - t.written) (drop t.written out))) t.buffers)
+        ≡ with_refusal k t
     unfolding with_refusal
     refused-behind =
-        let none = drop_of_length-le (drop done.written out) {i = length out - done.written} (omega (arith, length-drop done.written out)) in
+        let none = drop_of_length-le (drop t.written out) {i = length out - t.written} (omega (arith, length-drop t.written out)) in
         let counted : count ≡ length text = ap (λ (l : Line). l.count) put-text in
-        let bytes : after ≡ sets (drop done.written out) 0 text = ap (λ (l : Line). l.out) put-text in
-        rw (none, append-nil, counted, bytes, behind-is out text done.written (omega (arith, room, length-refused_text number done.runner.offset)))
+        let bytes : after ≡ sets (drop t.written out) 0 text = ap (λ (l : Line). l.out) put-text in
+        rw (none, append-nil, counted, bytes, behind-is out text t.written (omega (arith, room, length-refused_text k t.runner.offset)))
 
 -- ---- why a list ended
 
-pub ended-none : (how : Disposition) → SomeNumber how → refusal_in how ≡ 0 → (t : StepOutcome) → with_disposition how t ≡ t
-unfolding with_disposition
-ended-none Disposition.Complete some none t = refl
-ended-none (Disposition.Refused k) some none t = absurd (omega arith)
-ended-none Disposition.Full some none t = refl
+pub ended-none : (how : Disposition) → refusal_in how ≡ None → (t : StepOutcome) → with_ending (ending_of how) t ≡ t
+unfolding with_ending
+ended-none Disposition.Complete none t = refl
+ended-none (Disposition.Refused r) none t = cc
+ended-none Disposition.Full none t = refl
 
-pub ended-refused : (how : Disposition) → (refusal_in how ≡ 0 → ⊥) → (t : StepOutcome) → with_disposition how t ≡ with_refusal (refusal_in how) t
-unfolding with_disposition
-ended-refused Disposition.Complete some t = absurd (some refl)
-ended-refused (Disposition.Refused k) some t = refl
-ended-refused Disposition.Full some t = absurd (some refl)
-
--- a number other than 0
-pub above : (k : ℕ) → (k ≡ 0 → ⊥) → 0 < k
-above zero some = absurd (some refl)
-above (suc k) some = omega arith
+pub ended-refused : (how : Disposition) {r : Refusal} → refusal_in how ≡ Some r → (t : StepOutcome) → with_ending (ending_of how) t ≡ with_refusal (number r) t
+unfolding with_ending
+ended-refused Disposition.Complete some t = cc
+ended-refused (Disposition.Refused q) {r} some t = let same : q ≡ r = cc in rw same
+ended-refused Disposition.Full some t = cc

@@ -7,9 +7,8 @@ use mathlib.Core.Path.{◌≡◌, refl, ◌∙◌}
 use mathlib.Core.List.{List}
 use lib.ListN.{length, drop}
 use Rattle.protocol.specs.Net.{Plan}
-use Rattle.plan.specs.Reading.{read_of}
+use Rattle.plan.specs.Reading.{Read, read_of}
 use Rattle.plan.specs.declared.Field.{Field}
-use Rattle.plan.specs.declared.Read.{Read}
 use Rattle.plan.proofs.Laws.{FieldRead, field-read}
 use Rattle.plan.proofs.Reached.{Reached, read-reached, read-uses}
 use Rattle.runner.specs.Program.{nothing_set_up, Reading, reading, progress_in, PlanRead, read_on, read_from, read_plan}

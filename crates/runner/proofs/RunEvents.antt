@@ -20,9 +20,8 @@ use Rattle.bench.proofs.TieRanges.{StateReady, told, few, plan-in-range}
 use Rattle.bench.proofs.TieWhole.{left-represents}
 use Rattle.bench.proofs.RunSteps.{left-ready}
 use Rattle.plan.specs.Fields.{size}
-use Rattle.plan.specs.Reading.{read_of, read_reply}
+use Rattle.plan.specs.Reading.{Read, read_of, read_reply}
 use Rattle.plan.specs.declared.Field.{Field}
-use Rattle.plan.specs.declared.Read.{Read}
 use Rattle.plan.proofs.Laws.{FieldRead, field-read, field-size}
 use Rattle.plan.proofs.Reached.{Reached, read-reached}
 use Rattle.text.specs.Lines.{refused_text}

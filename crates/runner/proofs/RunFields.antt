@@ -16,9 +16,8 @@ use Rattle.bench.specs.declared.Event.{Event}
 use Rattle.bench.proofs.Represents.{Represents}
 use Rattle.bench.proofs.TieFresh.{fresh-stands}
 use Rattle.bench.proofs.TieRanges.{LastingOf, plan-in-range}
-use Rattle.plan.specs.Reading.{read_of, read_reply}
+use Rattle.plan.specs.Reading.{Read, read_of, read_reply}
 use Rattle.plan.specs.declared.Field.{Field}
-use Rattle.plan.specs.declared.Read.{Read}
 use Rattle.plan.proofs.Laws.{ViewRead, FieldRead, field-read, field-size}
 use Rattle.plan.proofs.Reached.{Reached, read-reached}
 use Rattle.runner.specs.Buffers.{Buffers, state_on, buffers_with, progress_of}

@@ -6,10 +6,9 @@ use mathlib.Core.List.{List}
 use borrow.Author.Tests.{le-leb}
 use lib.ListN.{length}
 use Rattle.distances.proofs.Booleans.{both_true}
-use Rattle.plan.specs.Reading.{read_of, read_reply}
+use Rattle.plan.specs.Reading.{Read, read_of, read_reply}
 use Rattle.plan.proofs.Reached.{Reached, read-reached}
 use Rattle.plan.specs.declared.Field.{Field}
-use Rattle.plan.specs.declared.Read.{Read}
 use Rattle.runner.specs.Buffers.{Buffers, buffers_long, progress_of}
 use Rattle.runner.specs.Steps.{step_outcome, last_step, last_text, field_step, read_step, runner_in_range, step_of}
 use Rattle.runner.specs.declared.Runner.{Runner}

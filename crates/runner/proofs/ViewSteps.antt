@@ -9,9 +9,11 @@ use lib.ListN.{length}
 use lib.Dec.{eqb}
 use Rattle.distances.specs.Call.{graph_passes, costs_pass}
 use Rattle.bench.specs.State.{State, state, part}
-use Rattle.agreement.specs.Call.{Response, says}
-use Rattle.bench.specs.Outcomes.{done_response, plan_ready, Outcome, outcome, fresh_of}
-use Rattle.bench.specs.declared.Reply.{Reply}
+use Rattle.agreement.specs.Call.{Response, response, says}
+use Rattle.bench.specs.Outcomes.{plan_ready, Outcome, outcome, fresh_of}
+use Rattle.bench.specs.Standing.{standing}
+use Rattle.distances.specs.declared.refusals.Refusal.{Refusal}
+use Rattle.std.specs.Prelude.{Result}
 use Rattle.bench.specs.declared.Bench.{Bench}
 use Rattle.bench.proofs.FreshStands.{fresh-reply}
 use Rattle.text.specs.Lines.{refused_text}
@@ -54,23 +56,33 @@ module _
           (fresh-reply handed (omega arith) (omega arith) rows_long (first none) sent_long held_long)
       go false q = rw (ne_eqb (b.views + 1) 1 (λ e. eqb-false b.views 0 q (omega arith)))
 
+-- `fresh` leaves the costs as they were
+fresh-costs : (s : State) → (fresh_of s).state.costs ≡ s.costs
+unfolding fresh_of standing
+fresh-costs s = go (plan_ready s) _ _ refl refl
+  where
+    go : (b : Bool) (x y : Outcome (Unit {0})) → x.state.costs ≡ s.costs → y.state.costs ≡ s.costs → (cond b x y).state.costs ≡ s.costs
+    go true x y same other = same
+    go false x y same other = other
+
 -- with the first view it is what `fresh` leaves
 pub opens :
     (s : State) →
     s.bench.views ≡ 1 →
-    (reply : Reply) {after : State} →
-    outcome (done_response reply) after ≡ fresh_of s →
+    (reply : Result (Unit {0}) Refusal) {bench : Bench} {costs sent held messages : List ℕ} →
+    outcome (response reply) (state bench costs sent held messages) ≡ fresh_of s →
     (fresh_with_view s).reply.number ≡ 0 →
-    outcome (says tt) after ≡ fresh_with_view s
+    outcome (says tt) (state bench s.costs sent held messages) ≡ fresh_with_view s
 unfolding fresh_with_view fresh_of
-opens s first reply {after} e none =
+opens s first reply {bench} {costs} {sent} {held} {messages} e none =
     let test = eq-eqb s.bench.views 1 first in
-    rw test (go (plan_ready s) _ _ refl refl e (rw test at none))
+    let same : costs ≡ s.costs = ap (λ (o : Outcome (Unit {0})). o.state.costs) e ∙ fresh-costs s in
+    rw test (go (state bench s.costs sent held messages) (plan_ready s) _ _ refl refl (rw same at e) (rw test at none))
   where
-    go : (b : Bool) (x y : Outcome (Unit {0})) → x.reply ≡ says tt → y.reply.number ≡ 17 → outcome (done_response reply) after ≡ cond b x y → (cond b x y).reply.number ≡ 0 → outcome (says tt) after ≡ cond b x y
-    go true x y done refused e none =
+    go : (after : State) (b : Bool) (x y : Outcome (Unit {0})) → x.reply ≡ says tt → y.reply.number ≡ 17 → outcome (response reply) after ≡ cond b x y → (cond b x y).reply.number ≡ 0 → outcome (says tt) after ≡ cond b x y
+    go after true x y done refused e none =
         ap (λ (z : Response (Unit {0})). outcome z after) (sym done ∙ sym (ap (λ (o : Outcome (Unit {0})). o.reply) e)) ∙ e
-    go false x y done refused e none = absurd (omega (arith, refused, none))
+    go after false x y done refused e none = absurd (omega (arith, refused, none))
 
 -- with a further one all is as it is
 pub stays : (s : State) → (s.bench.views ≡ 1 → ⊥) → outcome (says tt) s ≡ fresh_with_view s

@@ -1,4 +1,4 @@
--- What an event prints (document 01, "Events" and "Plan file"). Assumes nothing.
+-- What an event prints (docs/PROTOCOL.md, "Events" and "The plan file"). Assumes nothing.
 use Rattle.std.specs.Prelude.{ℕ, ◌≡◌, cond, List, [], length, get_or, eqb}
 use Rattle.std.proofs.lemmas.List.Edits.{sets}
 use Rattle.bench.specs.State.{State, network}

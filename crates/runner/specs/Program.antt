@@ -1,4 +1,4 @@
--- The program on one page (document 01, "Plan file"): from the bytes of a plan to the bytes that are printed, by the protocol's networks
+-- The program on one page (docs/PROTOCOL.md, "The plan file"): from the bytes of a plan to the bytes that are printed, by the protocol's networks
 -- alone. A plan is read; the fresh network of what it sets up makes its events one after the other; each line tells of the network as it
 -- then is, so demands 2 and 3 are about each line (`EveryLine`, specs/Whole.antt). What the code keeps in its buffers has no part in it.
 -- Assumes nothing.
@@ -10,10 +10,9 @@ use Rattle.protocol.specs.Ports.{own_distance, forwarding_port}
 use Rattle.protocol.specs.Paths as paths
 use Rattle.bench.specs.Batches.{call_of}
 use Rattle.plan.specs.Fields.{cost_in}
-use Rattle.plan.specs.Reading.{read_of}
+use Rattle.plan.specs.Reading.{Read, read_of}
 use Rattle.plan.specs.declared.Field.{Field}
 use Rattle.plan.specs.declared.Progress.{Progress}
-use Rattle.plan.specs.declared.Read.{Read}
 use Rattle.text.specs.Lines.{report_lines, delivered_text, stops_text, end_text, refused_text}
 use Rattle.runner.specs.Sizes.{longest_plan}
 

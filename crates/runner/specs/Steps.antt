@@ -1,7 +1,9 @@
 -- One step of a plan: a field read and carried out, for every input. Assumes nothing.
-use Rattle.std.specs.Prelude.{ℕ, ◌+◌, ◌*◌, ◌≤◌, ◌<◌, Bool, true, false, cond, ◌&&◌, List, [], ◌++◌, length, set, take, drop, eqb, leb}
+use Rattle.std.specs.Prelude.{ℕ, ◌+◌, ◌*◌, ◌≤◌, ◌<◌, Bool, true, false, cond, ◌&&◌, Option, None, Some, is_none, Result, List, [], ◌++◌, length, set, take, drop, eqb, leb}
 use Rattle.distances.specs.View.{max_cost}
 use Rattle.distances.specs.Call.{graph_passes}
+use Rattle.distances.specs.Refusal.{reply_number}
+use Rattle.distances.specs.declared.refusals.Refusal.{Refusal}
 use Rattle.bench.specs.State.{State, state, part}
 use Rattle.bench.specs.Batches.{reply_of}
 use Rattle.agreement.specs.Call.{says}
@@ -9,20 +11,20 @@ use Rattle.bench.specs.Outcomes.{Outcome, outcome, fresh_of}
 use Rattle.bench.specs.declared.Bench.{Bench}
 use Rattle.plan.specs.Sizes.{most_links, most_views, header_bytes, cost_bytes}
 use Rattle.plan.specs.Fields.{cost_in}
-use Rattle.plan.specs.Reading.{read_reply, costs_reply}
+use Rattle.plan.specs.Reading.{Read, read_reply, costs_reply}
 use Rattle.bench.specs.declared.Event.{Event}
 use Rattle.plan.specs.declared.Field.{Field}
-use Rattle.plan.specs.declared.Read.{Read}
 use Rattle.text.specs.Lines.{refused_text}
-use Rattle.text.specs.declared.Written.{Written}
-use Rattle.runner.specs.Buffers.{Buffers, buffers_long, state_on, buffers_with, progress_of}
+use Rattle.runner.specs.Buffers.{Buffers, buffers, buffers_of, buffers_long, state_on, buffers_with, progress_of}
 use Rattle.runner.specs.Events.{text_of, state_after}
 -- the plan's last line
 unfoldable pub use Rattle.runner.specs.Program.{last_text}
+use Rattle.runner.specs.declared.Memory.{Memory}
 use Rattle.runner.specs.declared.Runner.{Runner}
+use Rattle.runner.specs.declared.StepResult.{StepResult}
 use Rattle.runner.specs.Sizes.{longest_plan}
 
--- after a step: document 01's number, whether the plan goes on, the bytes used and those to be printed, the runner and the buffers
+-- after a step: its number in the table of refusals, whether the plan goes on, the bytes used and those to be printed, the runner and the buffers
 pub record StepOutcome : Type 0 where
   pub reply : ℕ
   pub going : Bool
@@ -34,6 +36,19 @@ pub record StepOutcome : Type 0 where
 abbrev pub step_outcome : ℕ → Bool → ℕ → ℕ → Runner → Buffers → StepOutcome
 step_outcome reply going used written runner k =
     record { reply = reply; going = going; used = used; written = written; runner = runner; buffers = k }
+
+-- the number of an end in the table of refusals, 0 for the proper end; 0 too of a plan that goes on
+abbrev pub number_of : Option (Result (Unit {0}) Refusal) → ℕ
+number_of None = 0
+number_of (Some end) = reply_number end
+
+-- what a call replied, and the runner and what is lent as it left them
+abbrev pub outcome_of : StepResult → Runner → Memory → List ℕ → StepOutcome
+outcome_of s r m out = step_outcome (number_of s.end) (is_none s.end) s.used s.written r (buffers_of m out)
+
+-- of a private call to which only the bytes to be printed are lent
+abbrev pub outcome_on : StepResult → Runner → List ℕ → StepOutcome
+outcome_on s r out = step_outcome (number_of s.end) (is_none s.end) s.used s.written r (buffers [] [] [] [] out)
 
 -- the plan ends here, with its last line
 unfoldable pub last_step : ℕ → List ℕ → Runner → Buffers → StepOutcome
@@ -136,12 +151,7 @@ runner_in_range r = leb r.events longest_plan && leb r.offset longest_plan
 unfoldable pub step_of : Runner → Buffers → List ℕ → StepOutcome
 step_of r k rest = cond (runner_in_range r && buffers_long k) (read_step rest (read_reply rest (progress_of r)) r k) (step_outcome 17 false 0 0 r k)
 
--- for private functions: the count of bytes of a reply
-abbrev pub count_of : Written → ℕ
-count_of (Written.Bytes k) = k
-count_of Written.Refused = 0
-
--- a further view, or the first one of a graph in range
+-- for private functions: a further view, or the first one of a graph in range
 abbrev pub may_view : Bench → Bool
 may_view b = cond (eqb b.views 0) (graph_passes b.bridges b.links b.ends) true
 

@@ -3,7 +3,6 @@ ghost use Rattle.std.specs.Prelude.{◌≡◌, false, ◌≤◌, length};
 ghost use Rattle.bench.specs.Batches.{answer_size};
 ghost use Rattle.runner.specs.Events.{path_text, event_text, NoText, line, line_of};
 
-use crate::stops::count_of;
 use bench::Event;
 
 fn path_text(out: &mut [u8], start: u8, dest: u8, answers: &[u32]) -> usize
@@ -14,26 +13,16 @@ fn path_text(out: &mut [u8], start: u8, dest: u8, answers: &[u32]) -> usize
     let to = dest as u32;
     let hops = answers[2];
     if answers[0] == 0 {
-        return count_of(text::lines::path_delivered(out, from, to, hops));
+        return text::lines::path_delivered(out, from, to, hops).unwrap_or(0);
     }
-    count_of(text::lines::path_stops(out, from, to, answers[1], hops))
+    text::lines::path_stops(out, from, to, answers[1], hops).unwrap_or(0)
 }
 
 // Whether an event has a text; false only where it has none.
 pub(crate) fn has_text(event: Event) -> bool
     ensures { result ≡ false → NoText event }
 {
-    match event {
-        Event::Report(_) => true,
-        Event::Path(_, _) => true,
-        Event::Update(_, _) => false,
-        Event::Send(_, _) => false,
-        Event::Deliver(_) => false,
-        Event::Repeat(_) => false,
-        Event::Lose(_) => false,
-        Event::Cut(_, _) => false,
-        Event::Restore(_, _) => false,
-    }
+    matches!(event, Event::Report(_) | Event::Path(_, _))
 }
 
 // The line of an event that was carried out, by the numbers that it answered with.
@@ -42,14 +31,10 @@ pub(crate) fn event_text(bridges: usize, event: Event, answers: &[u32], out: &mu
     ensures { line result out.new ≡ line_of (event_text bridges event answers.now) out.old }
 {
     match event {
-        Event::Update(_, _) => 0,
-        Event::Send(_, _) => 0,
-        Event::Deliver(_) => 0,
-        Event::Repeat(_) => 0,
-        Event::Lose(_) => 0,
-        Event::Cut(_, _) => 0,
-        Event::Restore(_, _) => 0,
-        Event::Report(dest) => count_of(text::lines::report(out, dest as u32, bridges, answers)),
+        Event::Report(dest) => {
+            text::lines::report(out, dest as u32, bridges, answers).unwrap_or(0)
+        }
         Event::Path(start, dest) => path_text(out, start, dest, answers),
+        _ => 0,
     }
 }

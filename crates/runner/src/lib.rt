@@ -1,8 +1,11 @@
 // A plan carried out, field by field and its events in lists: what a field says is done, and the lines that it prints are written.
 #![tactic(auto)]
 
+ghost use Rattle.std.specs.Prelude.{◌≡◌};
+
+use agreement::LimitsMut;
 use bench::Bench;
-use bench::sizes::MOST_MESSAGES;
+use distances::Refusal;
 use messages::Message;
 
 mod events;
@@ -22,14 +25,32 @@ pub struct Runner {
     pub offset: u32,
 }
 
-// After a step or several: the messages in flight, whether the plan goes on, the bytes of it that were used, the bytes that are to be printed, and
-// document 01's number, 0 where nothing is refused.
+// What a run is lent beside the bytes to be printed: a row of costs for each view, the limit tables, the messages in flight.
+#[derive(Drop)]
+pub struct Memory<'a> {
+    pub costs: &'a mut [u32],
+    pub limits: LimitsMut<'a>,
+    pub messages: &'a mut [Message],
+}
+
+// After a step or several: the bytes of the plan that were used, those that are to be printed, and how the plan ended: properly, or by a
+// refusal; None while it goes on.
 #[derive(Clone, Copy)]
 pub struct StepResult {
-    pub runner: Runner,
-    pub messages: [Message; MOST_MESSAGES],
-    pub going: bool,
     pub used: usize,
     pub written: usize,
-    pub reply: u8,
+    pub end: Option<Result<(), Refusal>>,
+}
+
+impl StepResult {
+    // The plan goes on.
+    pub(crate) fn going(used: usize, written: usize) -> StepResult
+        ensures { result ≡ record { used = used; written = written; end = None } }
+    {
+        StepResult {
+            used,
+            written,
+            end: None,
+        }
+    }
 }

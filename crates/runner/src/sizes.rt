@@ -1,14 +1,10 @@
 // Sizes by which a plan is carried out.
-use bench::sizes::MOST_EVENTS;
 use text::LONGEST;
 
 // The longest plan, in bytes; neither its events nor its bytes are more.
 pub const LONGEST_PLAN: usize = 61440;
 
 pub(crate) const MOST_COUNTED: u32 = LONGEST_PLAN as u32;
-
-// So many events may be counted where a list of 2,048 comes.
-pub(crate) const MOST_BEFORE_A_LIST: u32 = (LONGEST_PLAN - MOST_EVENTS) as u32;
 
 // The answers of one list, and the most bytes that are printed for one of their numbers.
 pub(crate) const ANSWERS: usize = 2048;

@@ -1,5 +1,5 @@
--- Lines that document 01 gives, byte for byte: the second report and the last line of its plan, the paths of E3 and E4, and the
--- refusal of an input that is too long. Assumes nothing.
+-- Known lines, byte for byte: the second report and the last line of the plan in docs/PROTOCOL.md ("A plan in hexadecimal"), the paths of
+-- its examples E3 and E4, and the refusal of an input that is too long. Assumes nothing.
 use mathlib.Core.List.{[], ◌∷◌}
 use mathlib.Core.Path.{◌≡◌, refl}
 use Rattle.text.specs.Decimal.{digits}

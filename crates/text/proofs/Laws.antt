@@ -1,6 +1,6 @@
 -- Laws of the texts: decimal digits evaluate to the number and have no leading zero, how long each text can be, and what a report is made of.
 -- Assumes nothing.
-use Prim.Native.Nat.{ℕ, zero, suc, ◌+◌, ◌-◌, ◌*◌, ◌/◌, ◌%◌, ◌^◌, ◌≤◌, ◌<◌}
+use Prim.Native.Nat.{ℕ, zero, suc, ◌+◌, ◌*◌, ◌/◌, ◌%◌, ◌^◌, ◌≤◌, ◌<◌}
 use native.Mathlib.Nat.{pow-suc}
 use native.Mathlib.Omega.{arith}
 use mathlib.Core.Bool.{Bool, true, false, cond}
@@ -8,7 +8,7 @@ use mathlib.Core.List.{List, [], ◌∷◌, ◌++◌}
 use mathlib.Core.Path.{◌≡◌, refl}
 use lib.Dec.{ltb, eqb}
 use lib.ListN.{length, get_or, length-append, get_or-append}
-use borrow.Author.Tests.{ltb-true, ltb-false, lt-ltb, le-ltb, eq-eqb, ne_eqb}
+use borrow.Author.Tests.{ltb-true, ltb-false, lt-ltb, le-ltb}
 use Rattle.text.specs.Decimal.{digit, digits, decimal, value_from, DecimalTells}
 use Rattle.text.specs.Lines.{or_dash, row_line, row_lines, report_lines, distance_at, link_at, report_text, delivered_text, stops_text, end_text, refused_text}
 
@@ -17,25 +17,30 @@ pub digits_last : (n : ℕ) → digits 0 n ≡ digit (n % 10) ∷ []
 unfolding digits
 digits_last n = refl
 
-pub digits-one : (k n : ℕ) → n < 10 → digits k n ≡ digit (n % 10) ∷ []
+pub digits-one : (k n : ℕ) → n < 10 → digits k n ≡ digit n ∷ []
 unfolding digits
-digits-one zero n h = refl
-digits-one (suc k) n h = let e : n % 10 ≡ n = omega arith in rw (lt-ltb n 10 h, e)
+digits-one zero n h = let e : n % 10 ≡ n = omega arith in rw e
+digits-one (suc k) n h = rw (lt-ltb n 10 h)
 
-pub digits_more : (k n : ℕ) → 0 < k → 10 ≤ n → digits k n ≡ digits (k - 1) (n / 10) ++ (digit (n % 10) ∷ [])
+pub digits_more : (k n : ℕ) → 10 ≤ n → digits (suc k) n ≡ digits k (n / 10) ++ (digit (n % 10) ∷ [])
 unfolding digits
-digits_more zero n p h = absurd (omega arith)
-digits_more (suc k) n p h = let e : suc k - 1 ≡ k = omega arith in rw (le-ltb n 10 h, e)
+digits_more k n h = rw (le-ltb n 10 h)
 
--- two digits, and three
-pub digits-two : (k n : ℕ) → 0 < k → 10 ≤ n → n < 100 → digits k n ≡ digit (n / 10 % 10) ∷ digit (n % 10) ∷ []
-digits-two k n p h l = rw (digits_more k n p h, digits-one (k - 1) (n / 10) (omega arith))
+-- where there are enough, one more place changes nothing
+digits_enough : (k n : ℕ) → n < 10 ^ suc k → digits (suc k) n ≡ digits k n
+unfolding digits
+digits_enough zero n h = rw (digits-one 1 n h, digits-one 0 n h)
+digits_enough (suc k) n h = rw (digits_enough k (n / 10) (omega (arith, pow-suc 10 (suc k))))
 
-pub digits-three :
-    (k n : ℕ) → 1 < k → 100 ≤ n → n < 1000 →
-    digits k n ≡ digit (n / 10 / 10 % 10) ∷ digit (n / 10 % 10) ∷ digit (n % 10) ∷ []
-digits-three k n p h l =
-    rw (digits_more k n (omega arith) (omega arith), digits-two (k - 1) (n / 10) (omega arith) (omega arith) (omega arith))
+-- a number of 32 bits by the two cases of the code
+pub decimal_one : (n : ℕ) → n < 10 → decimal n ≡ digit n ∷ []
+decimal_one n h = digits-one 9 n h
+
+pub decimal_more : (n : ℕ) → 10 ≤ n → n < 2 ^ 32 → decimal n ≡ decimal (n / 10) ++ (digit (n % 10) ∷ [])
+decimal_more n h l = rw (digits_more 8 n h, digits_enough 8 (n / 10) (omega arith))
+
+pub length_more : (n : ℕ) → 10 ≤ n → n < 2 ^ 32 → length (decimal n) ≡ length (decimal (n / 10)) + 1
+length_more n h l = rw (decimal_more n h l, length-append) refl
 
 -- what holds of each byte of a list and of one more holds of each byte of both
 every_more :
@@ -65,13 +70,16 @@ length_digits (suc k) n =
     (λ h. omega arith)
     (λ h. simp length-append (omega (arith, length_digits k (n / 10))))
 
+pub length_decimal : (n : ℕ) → length (decimal n) ≤ 10
+length_decimal n = (length_digits 9 n).1
+
 -- a number below 100 has at most two digits
 pub length_two : (n : ℕ) → n < 100 → length (decimal n) ≤ 2
 length_two n low = go (ltb n 10) refl
   where
     go : (b : Bool) → ltb n 10 ≡ b → length (decimal n) ≤ 2
     go true e = rw (digits-one 9 n (ltb-true n 10 e)) (omega arith)
-    go false e = rw (digits-two 9 n (omega arith) (ltb-false n 10 e) low) (omega arith)
+    go false e = rw (digits_more 8 n (ltb-false n 10 e), digits-one 8 (n / 10) (omega arith)) (omega arith)
 
 -- each byte is one of `0` to `9`
 abbrev pub IsDigit : ℕ → Type 0
@@ -120,36 +128,28 @@ pub decimal-tells : DecimalTells
 decimal-tells = record { value = value-decimal; digits = digits-bytes 9; zero = decimal-zero; first = decimal-first }
 
 -- `-`, or ten digits at most
-pub dash : (n : ℕ) → n ≡ 4294967295 → or_dash n ≡ 45 ∷ []
+pub length_or_dash : (n : ℕ) → length (or_dash n) ≤ 10
 unfolding or_dash
-dash n e = rw (eq-eqb n 4294967295 e)
-
-pub no-dash : (n : ℕ) → (n ≡ 4294967295 → ⊥) → or_dash n ≡ decimal n
-unfolding or_dash
-no-dash n h = rw (ne_eqb n 4294967295 h)
-
-pub length-or_dash : (n : ℕ) → length (or_dash n) ≤ 10
-unfolding or_dash
-length-or_dash n = go (eqb n 4294967295)
+length_or_dash n = go (eqb n 4294967295)
   where
     go : (b : Bool) → length (cond b (45 ∷ []) (decimal n)) ≤ 10
     go true = omega arith
     go false = omega (arith, length_digits 9 n)
 
 -- the lengths of the texts; a bridge below 100 has two digits at most
-pub length-row_line : (bridge distance link : ℕ) → bridge < 100 → length (row_line bridge distance link) ≤ 25
+pub length_row_line : (bridge distance link : ℕ) → bridge < 100 → length (row_line bridge distance link) ≤ 25
 unfolding row_line
-length-row_line bridge distance link low = simp length-append (omega (arith, length_two bridge low, length-or_dash distance, length-or_dash link))
+length_row_line bridge distance link low = simp length-append (omega (arith, length_two bridge low, length_or_dash distance, length_or_dash link))
 
-pub length-row_lines : (distance link : ℕ → ℕ) (k : ℕ) → k ≤ 100 → length (row_lines distance link k) ≤ 25 * k
+pub length_row_lines : (distance link : ℕ → ℕ) (k : ℕ) → k ≤ 100 → length (row_lines distance link k) ≤ 25 * k
 unfolding row_lines
-length-row_lines distance link zero few = omega arith
-length-row_lines distance link (suc y) few =
-    simp length-append (omega (arith, length-row_lines distance link y (omega arith), length-row_line y (distance y) (link y) (omega arith)))
+length_row_lines distance link zero few = omega arith
+length_row_lines distance link (suc y) few =
+    simp length-append (omega (arith, length_row_lines distance link y (omega arith), length_row_line y (distance y) (link y) (omega arith)))
 
 pub length-report_text : (dest bridges : ℕ) (rows : List ℕ) → dest < 100 → bridges ≤ 100 → length (report_text dest bridges rows) ≤ 8 + 25 * bridges
 unfolding report_text report_lines
-length-report_text dest bridges rows low few = simp length-append (omega (arith, length_two dest low, length-row_lines (distance_at rows) (link_at rows) bridges few))
+length-report_text dest bridges rows low few = simp length-append (omega (arith, length_two dest low, length_row_lines (distance_at rows) (link_at rows) bridges few))
 
 -- a report is by the distances and links of the bridges that there are
 rows_same :

@@ -1,4 +1,4 @@
--- The program's lines (document 01, "Plan file"): numbers in decimal, every line ends with a line feed. Assumes nothing.
+-- The lines that the program prints for a plan: numbers in decimal, every line ends with a line feed. Assumes nothing.
 use Rattle.std.specs.Prelude.{ℕ, zero, suc, ◌+◌, ◌*◌, cond, List, [], ◌∷◌, ◌++◌, get_or, eqb}
 use Rattle.text.specs.Decimal.{decimal}
 

@@ -1,111 +1,105 @@
-// The public calls: each writes its text from the first lent byte on.
+#![tactic(auto, using(crate::proofs::Laws::length_decimal, crate::proofs::Laws::length_or_dash), unfolding(crate::specs::Writing::writing))]
+
+// The public calls: each writes its text from the first lent byte on, and answers how many bytes that is. `None`, and nothing is written, where
+// fewer than `LONGEST` bytes are lent.
 ghost use Rattle.std.specs.Prelude.{◌≡◌, true, ◌&&◌, ◌+◌, ◌*◌, ◌≤◌, ◌<◌, length, leb};
 ghost use Rattle.text.specs.Lines.{row_line, row_lines, distance_at, link_at, report_text, delivered_text, stops_text, end_text, refused_text};
-ghost use Rattle.text.specs.Writing.{Put, outcome, writing};
+ghost use Rattle.text.specs.Writing.{Writes, outcome, writing};
 
-use crate::decimal::{put_byte, put_number, put_or_dash};
-use crate::words::put_word;
-use crate::{LONGEST, Written};
+use crate::LONGEST;
+use crate::writer::Writer;
 
-fn put_row(out: &mut [u8], at: usize, bridge: usize, distance: u32, link: u32) -> usize
-    requires { (bridge < 16) × (at + 33 ≤ length out.old) }
-    ensures put { Put out.old at (row_line bridge distance link) out.new result }
-    ensures upper_bound { result ≤ at + 33 }
+fn row(text: &mut Writer, bridge: usize, distance: u32, link: u32)
+    requires { (bridge < 16) × (text.old.len + 33 ≤ length text.old.out.now) }
+    ensures { Writes text.old (row_line bridge distance link) text.new }
 {
-    let a = put_number(out, at, bridge as u32);
-    let b = put_byte(out, a, 32);
-    let c = put_or_dash(out, b, distance);
-    let d = put_byte(out, c, 32);
-    let e = put_or_dash(out, d, link);
-    put_byte(out, e, 10)
+    text.number(bridge as u32);
+    text.word(b" ");
+    text.number_or_dash(distance);
+    text.word(b" ");
+    text.number_or_dash(link);
+    text.word(b"\n");
 }
 
-fn put_rows(out: &mut [u8], at: usize, bridges: usize, rows: &[u32]) -> usize
-    requires { (bridges ≤ 16) × (2 * bridges ≤ length rows.now) × (at + 33 * bridges ≤ length out.old) }
-    ensures { Put out.old at (row_lines (distance_at rows.now) (link_at rows.now) bridges) out.new result }
-{
-    let mut next = at;
-    let mut y = 0;
-    while y < bridges {
-        next = put_row(out, next, y, rows[2 * y], rows[2 * y + 1]);
-        y += 1;
-    }
-    next
-}
-
-// A report: `rows` has two numbers for each bridge, its distance and its link, NONE for `-`.
-pub fn report(out: &mut [u8], dest: u32, bridges: usize, rows: &[u32]) -> Written
+// A report: `rows` has two numbers for each bridge, its distance and its link, NONE for `-`. `None` also for more than 16 bridges or too few rows.
+pub fn report(out: &mut [u8], dest: u32, bridges: usize, rows: &[u32]) -> Option<usize>
     ensures { outcome result out.new ≡ writing (leb bridges 16 && leb (2 * bridges) (length rows.now)) (report_text dest bridges rows.now) out.old }
 {
-    if 16 < bridges {
-        return Written::Refused;
+    if bridges > 16 || rows.len() < 2 * bridges || out.len() < LONGEST {
+        return None;
     }
-    if rows.len() < 2 * bridges {
-        return Written::Refused;
+    let mut text = Writer { out, len: 0 };
+    text.word(b"dest ");
+    text.number(dest);
+    text.word(b"\n");
+    for y in 0..bridges {
+        row(&mut text, y, rows[2 * y], rows[2 * y + 1]);
     }
-    if out.len() < LONGEST {
-        return Written::Refused;
-    }
-    let a = put_word(out, 0, b"dest ");
-    let b = put_number(out, a, dest);
-    let c = put_byte(out, b, 10);
-    Written::Bytes(put_rows(out, c, bridges, rows))
+    Some(text.len)
 }
 
-pub fn path_delivered(out: &mut [u8], start: u32, dest: u32, hops: u32) -> Written
+pub fn path_delivered(out: &mut [u8], start: u32, dest: u32, hops: u32) -> Option<usize>
     ensures { outcome result out.new ≡ writing true (delivered_text start dest hops) out.old }
 {
     if out.len() < LONGEST {
-        return Written::Refused;
+        return None;
     }
-    let a = put_word(out, 0, b"path ");
-    let b = put_number(out, a, start);
-    let c = put_byte(out, b, 32);
-    let d = put_number(out, c, dest);
-    let e = put_word(out, d, b" delivered ");
-    let f = put_number(out, e, hops);
-    Written::Bytes(put_byte(out, f, 10))
+    let mut text = Writer { out, len: 0 };
+    text.word(b"path ");
+    text.number(start);
+    text.word(b" ");
+    text.number(dest);
+    text.word(b" delivered ");
+    text.number(hops);
+    text.word(b"\n");
+    Some(text.len)
 }
 
-pub fn path_stops(out: &mut [u8], start: u32, dest: u32, last: u32, hops: u32) -> Written
+pub fn path_stops(out: &mut [u8], start: u32, dest: u32, last: u32, hops: u32) -> Option<usize>
     ensures { outcome result out.new ≡ writing true (stops_text start dest last hops) out.old }
 {
     if out.len() < LONGEST {
-        return Written::Refused;
+        return None;
     }
-    let a = put_word(out, 0, b"path ");
-    let b = put_number(out, a, start);
-    let c = put_byte(out, b, 32);
-    let d = put_number(out, c, dest);
-    let e = put_word(out, d, b" stops ");
-    let f = put_number(out, e, last);
-    let g = put_byte(out, f, 32);
-    let h = put_number(out, g, hops);
-    Written::Bytes(put_byte(out, h, 10))
+    let mut text = Writer { out, len: 0 };
+    text.word(b"path ");
+    text.number(start);
+    text.word(b" ");
+    text.number(dest);
+    text.word(b" stops ");
+    text.number(last);
+    text.word(b" ");
+    text.number(hops);
+    text.word(b"\n");
+    Some(text.len)
 }
 
 // The last line of a plan that was carried out.
-pub fn end(out: &mut [u8], events: u32) -> Written
+pub fn end(out: &mut [u8], events: u32) -> Option<usize>
     ensures { outcome result out.new ≡ writing true (end_text events) out.old }
 {
     if out.len() < LONGEST {
-        return Written::Refused;
+        return None;
     }
-    let a = put_word(out, 0, b"end ");
-    let b = put_number(out, a, events);
-    Written::Bytes(put_byte(out, b, 10))
+    let mut text = Writer { out, len: 0 };
+    text.word(b"end ");
+    text.number(events);
+    text.word(b"\n");
+    Some(text.len)
 }
 
 // The last line of a plan that was refused.
-pub fn refused(out: &mut [u8], number: u32, offset: u32) -> Written
+pub fn refused(out: &mut [u8], number: u32, offset: u32) -> Option<usize>
     ensures { outcome result out.new ≡ writing true (refused_text number offset) out.old }
 {
     if out.len() < LONGEST {
-        return Written::Refused;
+        return None;
     }
-    let a = put_word(out, 0, b"refused ");
-    let b = put_number(out, a, number);
-    let c = put_word(out, b, b" at ");
-    let d = put_number(out, c, offset);
-    Written::Bytes(put_byte(out, d, 10))
+    let mut text = Writer { out, len: 0 };
+    text.word(b"refused ");
+    text.number(number);
+    text.word(b" at ");
+    text.number(offset);
+    text.word(b"\n");
+    Some(text.len)
 }

@@ -1,10 +1,10 @@
 -- What port, verdict, report and path answer, by the verdicts that layer 2 finds. Assumes nothing.
-use Rattle.std.specs.Prelude.{ℕ, zero, suc, ◌+◌, ◌*◌, ◌<◌, ◌-◌, List, [], ◌∷◌, get_or, set}
+use Rattle.std.specs.Prelude.{ℕ, ◌<◌, ◌-◌, List, [], ◌∷◌, get_or, Result, Ok, Err}
+use Rattle.distances.specs.declared.refusals.Refusal.{Refusal}
 use Rattle.distances.specs.View.{graph_of}
-use Rattle.distances.specs.Table.{cell}
 use Rattle.agreement.specs.Forwarding.{port_of}
 use Rattle.agreement.specs.Call.{Response, says, verdict_outcome}
-use Rattle.agreement.specs.declared.Port.{Port}
+use Rattle.agreement.specs.Forwarding.{Port}
 use Rattle.agreement.specs.declared.Verdict.{Verdict}
 use Rattle.agreement.specs.declared.Verdict.TheVariants.{NoLink}
 use Rattle.protocol.specs.Calls as calls
@@ -16,14 +16,13 @@ use Rattle.bench.specs.Private.Views.{lent_view}
 use Rattle.bench.specs.Ranges.{network_in_range}
 use Rattle.bench.specs.Outcomes.{refused_by, refusal_of, or_refused}
 use Rattle.bench.specs.declared.Bench.{Bench}
-use Rattle.bench.specs.declared.PathReply.{PathReply}
-use Rattle.encoding.specs.Numbers.{link_number}
+use Rattle.bench.specs.declared.Path.{Path}
 
--- the numbers of a path's reply have 32 bits
-abbrev pub PathFits : PathReply → Type 0
-PathFits (PathReply.Refused k) = Unit {0}
-PathFits (PathReply.Delivered h) = h < 4294967296
-PathFits (PathReply.Stops last h) = (last < 4294967296) × (h < 4294967296)
+-- the numbers of a path have 32 bits
+abbrev pub PathFits : Result Path Refusal → Type 0
+PathFits (Err r) = Unit {0}
+PathFits (Ok (Path.Delivered h)) = h < 4294967296
+PathFits (Ok (Path.Stops last h)) = (last < 4294967296) × (h < 4294967296)
 
 -- the verdict of a reply; an empty one is a refusal, which a network in range never gets, and any verdict may stand for it
 unfoldable pub found : List Verdict → Verdict
@@ -41,20 +40,7 @@ verdict_in s y d =
 abbrev pub port_in : State → ℕ → ℕ → Port
 port_in s y d = port_of (verdict_in s y d)
 
--- bridge y in a report of destination d: its distance in its own view and its link, NONE for no port
-unfoldable pub reported_row : State → ℕ → ℕ → List ℕ → List ℕ
-reported_row s d y rows =
-    set
-    (set rows (2 * y) (cell (lent_view s.bench s.costs (get_or s.bench.view y 0)).table y d))
-    (2 * y + 1)
-    (link_number (port_in s y d))
-
--- The report of destination d, for each bridge below k
-unfoldable pub reported : State → ℕ → ℕ → List ℕ → List ℕ
-reported s d zero rows = rows
-reported s d (suc y) rows = reported_row s d y (reported s d y rows)
-
--- The path from bridge y to destination d, by the ports found
+-- the hop from bridge y on the way to destination d, by the port found
 unfoldable pub hop_in : State → ℕ → ℕ → Hop
 hop_in s d y = hop_by (graph_of s.bench.bridges s.bench.links s.bench.ends) (network s).records y (port_in s y d)
 

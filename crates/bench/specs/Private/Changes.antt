@@ -1,11 +1,11 @@
 -- What update, cut, restore and fresh make of a bench and of the lent tables, number by number. Assumes nothing.
-use Rattle.std.specs.Prelude.{ℕ, zero, suc, ◌+◌, ◌*◌, Bool, true, false, cond, List, [], get_or, set, eqb}
+use Rattle.std.specs.Prelude.{ℕ, zero, suc, ◌+◌, ◌*◌, ◌<◌, ◌≡◌, Bool, true, false, cond, List, [], get_or, set, eqb}
 use Rattle.distances.specs.View.{graph_of}
 use Rattle.agreement.specs.Record.{fresh_record}
 use Rattle.agreement.specs.Call.{ViewData, update_outcome, fresh_outcome}
 use Rattle.agreement.specs.declared.EndRecord.{EndRecord}
 use Rattle.protocol.specs.Calls.{Change, change, update, cut, restore, end_of}
-use Rattle.bench.specs.State.{State, network}
+use Rattle.bench.specs.State.{State, state, network}
 use Rattle.bench.specs.Private.Views.{network_of, lent_view}
 use Rattle.bench.specs.Ranges.{bench_in_range, network_in_range}
 use Rattle.bench.specs.Outcomes.{refusal_of, or_refused}
@@ -34,9 +34,31 @@ bench_with_end b e down =
       down = set b.down e down;
     }
 
+-- the bench with other records
+abbrev pub bench_with_records : Bench → List EndRecord → Bench
+bench_with_records b records =
+    record {
+      bridges = b.bridges;
+      links = b.links;
+      views = b.views;
+      messages = b.messages;
+      ends = b.ends;
+      view = b.view;
+      number = b.number;
+      records = records;
+      down = b.down;
+    }
+
 -- bridge y's end of link l
 abbrev pub own_end : Bench → ℕ → ℕ → ℕ
 own_end b y l = end_of (graph_of b.bridges b.links b.ends) y l
+
+-- e is that end, and all three are within the code's arrays
+pub record IsOwnEnd (b : Bench) (y l e : ℕ) : Type 0 where
+  pub is : e ≡ own_end b y l
+  pub end : e < 64
+  pub bridge : y < 16
+  pub link : l < 32
 
 -- Cut, by which it goes down, and restore, by which it goes up
 abbrev pub switch : Bool → ℕ → ℕ → Change
@@ -110,13 +132,28 @@ moved_bench b y t x =
     x.sent
     x.held
 
+-- bridge y on view t, and its ends
+abbrev pub moved_to : State → ℕ → ℕ → ChangeOutcome
+moved_to s y t =
+    moved_bench s.bench y t
+    (moved_ends (lent_view s.bench s.costs t) s.bench.views y t (2 * s.bench.links) (ends s.bench.records s.sent s.held))
+
+-- the state with what an update has made of it
+abbrev pub with_rewritten : State → ChangeOutcome → State
+with_rewritten s o = state o.bench s.costs o.sent o.held s.messages
+
+-- the records and the limit tables of a state, and the state with others
+abbrev pub ends_in : State → Ends
+ends_in s = ends s.bench.records s.sent s.held
+
+abbrev pub with_ends : State → Ends → State
+with_ends s x = state (bench_with_records s.bench x.records) s.costs x.sent x.held s.messages
+
 unfoldable pub update_of : State → ℕ → ℕ → ChangeOutcome
 update_of s y t =
     let b : Bench = s.bench in
     or_refused (refusal_of (network_in_range s) (network s) (change (update y t))) (λ k. change_outcome k b s.sent s.held)
-    (cond (eqb (get_or b.view y 0) t) (change_outcome 0 b s.sent s.held)
-    (moved_bench b y t
-    (moved_ends (lent_view b s.costs t) b.views y t (2 * b.links) (ends b.records s.sent s.held))))
+    (cond (eqb (get_or b.view y 0) t) (change_outcome 0 b s.sent s.held) (moved_to s y t))
 
 -- the two limit tables
 pub record LimitTables : Type 0 where

@@ -1,14 +1,8 @@
--- `encoding::flags_in` meets its contract. The loop's invariant: the flags below `e` are stored, and the others are as before.
--- Assumes nothing.
-use Prim.Native.Nat.{◌≤◌, ◌-◌}
-use mathlib.Core.Path.{◌≡◌}
-use lib.ListN.{length, get_or}
+-- The loop: the flags before place `e` are read. Assumes nothing.
+use lib.ListN.{get_or}
 use Rattle.encoding.specs.Numbers.{is_set}
-use Rattle.encoding.proofs.Filled.{filled}
+use Rattle.encoding.proofs.Lists.{Filled}
 use Rattle.encoding.proofs.flags_in.Given as goal
 
 abbrev pub invariant-loop-e : goal.invariant-loop-e
-invariant-loop-e l = (l.e ≤ 64) × (length l.initial.flags ≡ 64) × (l.flags ≡ filled (λ k. is_set (get_or l.numbers k 0)) l.e l.initial.flags)
-
-abbrev pub decreases-loop-e : goal.decreases-loop-e
-decreases-loop-e l = 64 - l.e
+invariant-loop-e l = Filled (λ k. is_set (get_or l.numbers k 0)) l.e 64 l.flags

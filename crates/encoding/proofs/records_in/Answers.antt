@@ -1,15 +1,13 @@
-use Prim.Native.Nat.{◌*◌}
 use native.Mathlib.Omega.{arith}
 use mathlib.Core.Path.{refl}
-use Rattle.encoding.specs.Numbers.{record_at}
-use Rattle.encoding.proofs.Filled.{filled_none, filled_more, filled-all}
+use Rattle.encoding.proofs.Lists.{filled-none, filled-more, filled-all}
 use Rattle.encoding.proofs.records_in.Goals as goal
 
 pub loop-e-init : goal.loop-e-init
-loop-e-init c = (omega arith, refl, filled_none _ _)
+loop-e-init c = filled-none _ 64 _ refl
 
 pub loop-e-preserved : goal.loop-e-preserved
-loop-e-preserved c = (omega arith, c.loop-e.invariant.1, filled_more _ _ _ _ _ (omega arith) c.loop-e.invariant.2 c.record_at.ensures)
+loop-e-preserved c = filled-more _ _ 64 _ _ c.loop-e-test.true c.loop-e.invariant c.record_at.ensures
 
 pub returns : goal.returns
-returns c = filled-all (λ k. record_at c.args.numbers.now (4 * k)) _ 64 _ _ (omega arith) (omega arith) c.loop-e.invariant.2
+returns c = filled-all _ 64 _ _ (omega arith) c.loop-e.invariant

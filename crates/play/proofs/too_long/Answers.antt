@@ -3,11 +3,10 @@ use Rattle.runner.proofs.EventSteps.{counted}
 use Rattle.runner.proofs.RunWhole.{output-refused}
 use Rattle.play.specs.Output.{StandsAt}
 use Rattle.play.proofs.Moved.{wrote_same}
-use Rattle.runner.specs.Steps.{count_of}
 use Rattle.runner.specs.Events.{Line, line, line_of}
 use Rattle.std.specs.Io.KnownBytes.{Appends}
 use Rattle.text.proofs.Laws.{length-refused_text}
-use Rattle.text.specs.declared.Written.{Written}
+use Rattle.std.specs.Prelude.{Option, unwrap_or}
 use Rattle.text.specs.Writing.{outcome, writing}
 use Rattle.text.specs.Lines.{refused_text}
 use lib.Seq.{sets-eq, length-sets, length-take-le, take-append_seam, take-length}
@@ -31,8 +30,8 @@ abbrev lent : List ℕ
 lent = replicate 544 0
 
 -- the count of what the text's call has answered
-told : (w v : Written) (m : List ℕ) → w ≡ v → outcome w m ≡ writing true text lent → line (count_of v) m ≡ line_of text lent
-told w v m is e = ap (λ (x : Written). line (count_of x) m) (sym is) ∙ counted w m true text lent refl (omega (arith, length-replicate {A = ℕ} 544 0)) e
+told : (w : Option ℕ) (n : ℕ) (m : List ℕ) → n ≡ unwrap_or w 0 → outcome w m ≡ writing true text lent → line n m ≡ line_of text lent
+told w n m is e = ap (λ (k : ℕ). line k m) is ∙ counted w m true text lent refl (omega (arith, length-replicate {A = ℕ} 544 0)) e
 
 counts : (n : ℕ) (m : List ℕ) → line n m ≡ line_of text lent → n ≡ length text
 counts n m e = ap (λ (l : Line). l.count) e
@@ -52,28 +51,25 @@ is-text n m e =
 is-next : (plan : List ℕ) (n : ℕ) (m : List ℕ) → 61440 < length plan → line n m ≡ line_of text lent → StandsAt plan 0 (take n m)
 is-next plan n m many e = rw (output-refused plan many, is-text n m e) (take-length text)
 
-pub returns-in_default-clause-handed : goal.returns-in_default-clause-handed
-returns-in_default-clause-handed g c = omega (arith, some, counts _ _ (told _ _ _ c.in_default.is c.refused-text.ensures))
-
 pub slice_bounds-out-end : goal.slice_bounds-out-end
-slice_bounds-out-end g c = within _ _ (told _ _ _ c.in-Bytes.is c.refused-text.ensures)
+slice_bounds-out-end g c = within _ _ (told _ _ _ c.unwrap_or-written.ensures (rw c.number-number.ensures at c.refused.ensures))
 
 pub slice_bounds-hand_on-end : goal.slice_bounds-hand_on-end
-slice_bounds-hand_on-end g c = sym (length-take-le _ _ (within _ _ (told _ _ _ c.in-Bytes.is c.refused-text.ensures)))
+slice_bounds-hand_on-end g c = sym (length-take-le _ _ (within _ _ (told _ _ _ c.unwrap_or-written.ensures (rw c.number-number.ensures at c.refused.ensures))))
 
 pub hand_on-requires : goal.hand_on-requires
-hand_on-requires g c = is-next _ _ _ c.requires (told _ _ _ c.in-Bytes.is c.refused-text.ensures)
+hand_on-requires g c = is-next _ _ _ c.requires (told _ _ _ c.unwrap_or-written.ensures (rw c.number-number.ensures at c.refused.ensures))
 
 pub returns-then-not-hand_on-clause-handed : goal.returns-then-not-hand_on-clause-handed
 returns-then-not-hand_on-clause-handed g c = some
 
 pub returns-then-not-hand_on-clause-wrote : goal.returns-then-not-hand_on-clause-wrote
 returns-then-not-hand_on-clause-wrote g c =
-    wrote_same _ _ _ _ _ (is-text _ _ (told _ _ _ c.in-Bytes.is c.refused-text.ensures)) c.hand_on.ensures.part
+    wrote_same _ _ _ _ _ (is-text _ _ (told _ _ _ c.unwrap_or-written.ensures (rw c.number-number.ensures at c.refused.ensures))) c.hand_on.ensures.part
 
 pub returns-clause-handed : goal.returns-clause-handed
-returns-clause-handed g c = counts _ _ (told _ _ _ c.in-Bytes.is c.refused-text.ensures)
+returns-clause-handed g c = counts _ _ (told _ _ _ c.unwrap_or-written.ensures (rw c.number-number.ensures at c.refused.ensures))
 
 pub returns-clause-wrote : goal.returns-clause-wrote
 returns-clause-wrote g c =
-    subst (Appends _ _) (is-text _ _ (told _ _ _ c.in-Bytes.is c.refused-text.ensures)) (c.hand_on.ensures.all c.if-not-hand_on.false)
+    subst (Appends _ _) (is-text _ _ (told _ _ _ c.unwrap_or-written.ensures (rw c.number-number.ensures at c.refused.ensures))) (c.hand_on.ensures.all c.if-not-hand_on.false)

@@ -1,5 +1,5 @@
--- `ready::each_in_range` meets its contract. The loop's invariant: `ok` says whether every record below `e` passes. Assumes nothing.
-use Prim.Native.Nat.{◌≤◌, ◌-◌, ◌*◌}
+-- The loop: `ok` says whether every record below `e` passes. Assumes nothing.
+
 use mathlib.Core.Path.{◌≡◌}
 use lib.ListN.{get_or}
 use Rattle.distances.specs.Call.{all_below}
@@ -8,7 +8,4 @@ use Rattle.agreement.specs.Record.{fresh_record}
 use Rattle.agreement.proofs.ready.each_in_range.Given as goal
 
 abbrev pub invariant-loop-e : goal.invariant-loop-e
-invariant-loop-e l = (l.e ≤ 2 * l.links) × (l.ok ≡ all_below l.e (λ k. record_in_range l.views (get_or l.records k fresh_record)))
-
-abbrev pub decreases-loop-e : goal.decreases-loop-e
-decreases-loop-e l = 2 * l.links - l.e
+invariant-loop-e l = l.ok ≡ all_below l.e (λ k. record_in_range l.views (get_or l.records k fresh_record))

@@ -1,31 +1,56 @@
 -- `answers::path_ready` meets its contract: nothing of the table applies, then the walk itself. Assumes nothing.
-use mathlib.Core.Path.{sym, ◌∙◌, refl}
+use mathlib.Core.Path.{sym, ◌∙◌}
 use mathlib.Core.List.{[]}
-use Rattle.bench.specs.Private.Answers.{path_of}
-use Rattle.bench.specs.Outcomes.{refused_by}
+use borrow.Author.Rules.{rules}
+use Rattle.protocol.specs.Calls.{path, refuse, checks, no_such_bridge}
+use Rattle.protocol.specs.Paths as paths
+use Rattle.bench.specs.State.{lent_state, network}
+use Rattle.bench.specs.Outcomes.{ready_for}
+use Rattle.bench.specs.Private.Answers.{hop_in, verdict_in}
 use Rattle.bench.specs.Private.Views.{network_of}
-use Rattle.protocol.specs.Calls.{refuse, checks, no_such_bridge}
-use Rattle.bench.proofs.PathSteps.{bridges-listed}
+use Rattle.bench.proofs.AnswerRanges.{path-fits}
 use Rattle.bench.proofs.ChoiceSteps.{ports-told}
-use Rattle.bench.proofs.EntryOutcomes.{turned_down, goes_on}
+use Rattle.bench.proofs.QueueRanges.{network-told}
+use Rattle.bench.proofs.PathSteps.{bridges-listed}
+use Rattle.bench.proofs.OutcomeLaws.{reply-done}
+use Rattle.bench.proofs.Replies.{refused-reply}
+use Rattle.bench.proofs.Quiet.{path-is}
 use Rattle.bench.proofs.answers.path_ready.Goals as goal
 
-pub returns-then-refusal-ne0 : goal.returns-then-refusal-ne0
-unfolding checks no_such_bridge path_of refuse
-returns-then-refusal-ne0 c = record { result_value = turned_down _ _ _ refused_by _ c.requires.held_value _ (c.verdict_refusal-refusal.ensures c.args.bench refl) c.if-refusal-ne0.true; tables_2 = c.requires.tables.0 }
+pub returns-in_err-verdict-clause-reply : goal.returns-in_err-verdict-clause-reply
+unfolding ready_for refuse checks no_such_bridge
+returns-in_err-verdict-clause-reply c =
+    λ messages.
+    let a = c.args in
+    let told =
+    refused-reply (lent_state a.net.now messages) (path a.start a.dest) (λ n. paths.path n a.start a.dest) c.requires.in_range
+    c.in_err-verdict.field-0.0 c.in_err-verdict.ensures in
+    search rules
 
-pub walk-requires : goal.walk-requires
-unfolding checks refuse
-walk-requires c =
-    let two = bridges-listed (network_of c.args.bench []) c.args.start c.args.dest _ (sym (c.verdict_refusal-refusal.ensures c.args.bench refl) ∙ c.if-refusal-ne0.false) in
-    record { ports_ready = ports-told _ _ _ _ c.requires.held_value; start_lt_bridges = (two.0, two.1, c.requires.tables.0, c.requires.tables.1) }
+pub walk-requires-clause-ports_ready : goal.walk-requires-clause-ports_ready
+walk-requires-clause-ports_ready c = ports-told _ c.requires.in_range
 
-pub returns : goal.returns
-unfolding checks no_such_bridge path_of refuse
-returns c = record { result_value = rw c.walk.ensures.result_value (goes_on _ _ _ refused_by _ c.requires.held_value _ (c.verdict_refusal-refusal.ensures c.args.bench refl) c.if-refusal-ne0.false); tables_2 = c.walk.ensures.tables }
+pub walk-requires-clause-listed : goal.walk-requires-clause-listed
+unfolding refuse checks
+walk-requires-clause-listed c =
+    let a = c.args in
+    let two = bridges-listed (network_of a.net.now.bench.now []) a.start a.dest _ (sym c.in_ok-verdict.ensures) in
+    (two.0, two.1, c.requires.prepared)
 
-pub shape_of-tables : goal.shape_of-tables
-shape_of-tables c = c.walk.auto.tables
+pub returns-clause-reply : goal.returns-clause-reply
+unfolding ready_for refuse checks no_such_bridge hop_in verdict_in
+returns-clause-reply c =
+    λ messages.
+    let a = c.args in
+    let s = lent_state a.net.now messages in
+    let none = sym c.in_ok-verdict.ensures in
+    let two = bridges-listed (network s) a.start a.dest _ none in
+    reply-done s (path a.start a.dest) (λ n. paths.path n a.start a.dest) c.requires.in_range none
+    (c.walk.ensures.path ∙ path-is s c.requires.in_range c.typed.ensures a.start a.dest two.0 two.1)
 
-pub shape_of-known : goal.shape_of-known
-shape_of-known c = c.walk.auto.known
+pub returns-clause-fits : goal.returns-clause-fits
+unfolding refuse checks
+returns-clause-fits c =
+    let a = c.args in
+    let two = bridges-listed (network_of a.net.now.bench.now []) a.start a.dest _ (sym c.in_ok-verdict.ensures) in
+    path-fits (lent_state a.net.now []) (network-told _ _ _ _ c.requires.in_range) a.start a.dest two.0 _ c.walk.ensures.path

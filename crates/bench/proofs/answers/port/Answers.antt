@@ -1,23 +1,18 @@
 -- `answers::port` meets its contract: the port that the verdict opens. Assumes nothing.
 use mathlib.Core.Path.{sym, ap, ◌∙◌}
+use borrow.Author.Rules.{rules}
 use Rattle.agreement.specs.Forwarding.{port_of}
 use Rattle.agreement.specs.Call.{mapped}
-use Rattle.bench.specs.Outcomes.{verdict_response}
-use Rattle.bench.specs.declared.VerdictReply.{VerdictReply}
 use Rattle.bench.proofs.OutcomeLaws.{port-reply}
 use Rattle.bench.proofs.answers.port.Goals as goal
 
-pub returns-in-Refused : goal.returns-in-Refused
-returns-in-Refused c =
+pub returns-in_err-verdict : goal.returns-in_err-verdict
+returns-in_err-verdict c =
     λ messages.
-    ap (λ (x : VerdictReply). mapped port_of (verdict_response x)) (sym c.in-Refused.is)
-    ∙ ap (mapped port_of) (c.verdict-reply.ensures messages)
-    ∙ sym (port-reply _ c.args.bridge c.args.dest)
+    let told = ap (mapped port_of) (c.in_err-verdict.ensures messages) ∙ sym (port-reply _ c.args.bridge c.args.dest) in
+    search rules
 
-pub returns-in-Found : goal.returns-in-Found
-returns-in-Found c =
+pub returns : goal.returns
+returns c =
     λ messages.
-    rw c.port_of.ensures
-    (ap (λ (x : VerdictReply). mapped port_of (verdict_response x)) (sym c.in-Found.is)
-    ∙ ap (mapped port_of) (c.verdict-reply.ensures messages)
-    ∙ sym (port-reply _ c.args.bridge c.args.dest))
+    rw c.port_of.ensures (ap (mapped port_of) (c.in_ok-verdict.ensures messages) ∙ sym (port-reply _ c.args.bridge c.args.dest))

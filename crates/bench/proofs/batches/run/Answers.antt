@@ -1,36 +1,24 @@
 -- `batches::run` meets its contract: out of range, or the list. Assumes nothing.
-use mathlib.Core.Path.{◌≡◌, sym, ◌∙◌}
-use borrow.Author.Tests.{leb-true}
-use borrow.Author.Rules.{rules}
-use lib.ListN.{length}
-use Rattle.distances.proofs.Booleans.{both_true}
-use Rattle.bench.specs.Batches.{batch_of}
-use Rattle.bench.proofs.ChangeSteps.{length-mapped}
+use mathlib.Core.Path.{◌≡◌, sym, ap, ◌∙◌}
+use mathlib.Core.Bool.{false}
+use Rattle.bench.specs.State.{State, state_of}
+use Rattle.bench.specs.Ranges.{state_in_range}
+use Rattle.bench.proofs.BatchRuns.{batch-in, batch-out}
 use Rattle.bench.proofs.batches.run.Goals as goal
 
-pub returns-then-not-both : goal.returns-then-not-both
-unfolding batch_of
-returns-then-not-both c =
-    let listed : length c.args.events ≡ 2048 = search (rules, length-mapped) in
-    rw (listed, sym c.delivery_in_range-in_range.ensures) (rw (sym c.both.ensures ∙ c.if-not-both.true))
+pub returns-then-not-delivery_in_range-clause-outcome : goal.returns-then-not-delivery_in_range-clause-outcome
+returns-then-not-delivery_in_range-clause-outcome c =
+    let m = c.args.messages.now in
+    let out : state_in_range (state_of c.args.net.now m) ≡ false =
+    ap (λ (z : State). state_in_range z) (sym (c.shared.ensures m)) ∙ sym c.delivery_in_range.ensures ∙ c.if-not-delivery_in_range.true in
+    sym (batch-out (state_of c.args.net.now m) c.args.events.now c.args.answers.now out)
 
-pub run_in_range-requires : goal.run_in_range-requires
-run_in_range-requires c = let h = both_true _ _ (sym c.both.ensures ∙ c.if-not-both.false) in (sym c.delivery_in_range-in_range.ensures ∙ h.0, leb-true _ _ h.1)
+pub run_ready-requires : goal.run_ready-requires
+run_ready-requires c =
+    ap (λ (z : State). state_in_range z) (sym (c.shared.ensures c.args.messages.now)) ∙ sym c.delivery_in_range.ensures ∙ c.if-not-delivery_in_range.false
 
-pub shape_of-sent : goal.shape_of-sent
-shape_of-sent c = c.run_in_range.auto.sent
-
-pub shape_of-held : goal.shape_of-held
-shape_of-held c = c.run_in_range.auto.held
-
-pub shape_of-messages : goal.shape_of-messages
-shape_of-messages c = c.run_in_range.auto.flight
-
-pub shape_of-answers : goal.shape_of-answers
-shape_of-answers c = c.run_in_range.auto.answers
-
-pub returns : goal.returns
-unfolding batch_of
-returns c =
-    let listed : length c.args.events ≡ 2048 = search (rules, length-mapped) in
-    rw (listed, sym c.delivery_in_range-in_range.ensures) (rw (sym c.both.ensures ∙ c.if-not-both.false) c.run_in_range.ensures)
+pub returns-clause-outcome : goal.returns-clause-outcome
+returns-clause-outcome c =
+    let m = c.args.messages.now in
+    let ok = ap (λ (z : State). state_in_range z) (sym (c.shared.ensures m)) ∙ sym c.delivery_in_range.ensures ∙ c.if-not-delivery_in_range.false in
+    c.run_ready.ensures.outcome ∙ sym (batch-in (state_of c.args.net.now m) c.args.events.now c.args.answers.now ok)

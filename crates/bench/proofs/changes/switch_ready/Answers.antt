@@ -1,24 +1,39 @@
--- `changes::switch_ready` meets its contract: turned down, or at the bridge's own end. Assumes nothing.
+-- `changes::switch_ready` meets its contract: turned down, or the end goes down or up. Assumes nothing.
 use native.Mathlib.Omega.{arith}
 use mathlib.Core.Path.{◌≡◌, refl, sym, ◌∙◌}
-use mathlib.Core.List.{[]}
 use lib.ListN.{length}
 use borrow.Author.Rules.{rules}
-use Rattle.bench.specs.Private.Views.{network_of}
-use Rattle.bench.proofs.Switches.{switch-listed}
+use Rattle.protocol.specs.Calls.{change, refuse}
+use Rattle.bench.specs.State.{state, network}
+use Rattle.bench.specs.Private.Changes.{switch}
+use Rattle.bench.proofs.EntryChecks.{bench-counted}
+use Rattle.bench.proofs.OutcomeLaws.{call-done}
+use Rattle.bench.proofs.Replies.{refused-outcome}
+use Rattle.bench.proofs.Switches.{switch-range, switch-same}
+use Rattle.bench.proofs.Stepped.{switch-is}
 use Rattle.bench.proofs.changes.switch_ready.Goals as goal
 
-pub switch_refusal-refusal-requires : goal.switch_refusal-refusal-requires
-switch_refusal-refusal-requires c = c.requires
+pub switch-requires : goal.switch-requires
+switch-requires c = let counted = bench-counted _ c.requires in (counted.bridges, counted.links)
 
-pub returns-then-refusal-ne0 : goal.returns-then-refusal-ne0
-returns-then-refusal-ne0 c = (c.switch_refusal-refusal.ensures c.args.bench refl refl refl refl, omega (arith, c.if-refusal-ne0.true))
-
-pub end_of-requires : goal.end_of-requires
-end_of-requires c =
-    let placed : length c.args.bench.ends ≡ 64 = search rules in
-    let low = switch-listed c.args.bridge c.args.link (network_of c.args.bench []) c.args.down (sym (c.switch_refusal-refusal.ensures c.args.bench refl refl refl refl) ∙ c.if-refusal-ne0.false) in
-    (omega (arith, low, c.requires), omega (arith, low, c.requires, placed))
+pub returns-in_err-end : goal.returns-in_err-end
+returns-in_err-end c =
+    λ costs sent held messages.
+    let a = c.args in
+    let s = state a.bench.now costs sent held messages in
+    let told =
+    refused-outcome {A = Unit {0}} s (change (switch a.down a.bridge a.link)) (λ n. tt) (switch-range a.bridge a.link s a.down ∙ c.requires) c.in_err-end.field-0.0
+    (c.in_err-end.ensures.number ∙ switch-same a.bridge a.link s a.down) in
+    search rules
 
 pub returns : goal.returns
-returns c = (sym c.if-refusal-ne0.false ∙ c.switch_refusal-refusal.ensures c.args.bench refl refl refl refl, c.end_of.ensures c.args.bench.bridges c.args.bench.links)
+returns c =
+    λ costs sent held messages.
+    let a = c.args in
+    let s = state a.bench.now costs sent held messages in
+    let at = c.in_ok-end.ensures in
+    let flags : length s.bench.down ≡ 64 = search rules in
+    let none : refuse (network s) (change (switch a.down a.bridge a.link)) ≡ 0 = sym (at.number ∙ switch-same a.bridge a.link s a.down) in
+    rw at.end.is
+    (call-done s (change (switch a.down a.bridge a.link)) (λ n. tt) (switch-range a.bridge a.link s a.down ∙ c.requires) none
+    (switch-is s a.bridge a.link a.down (rw (← at.end.is) (omega arith)) none) refl)

@@ -1,72 +1,64 @@
--- `changes::update_ready` meets its contract. What is not turned down moves its bridge, unless the bridge is on the view. Assumes nothing.
-use Prim.Native.Nat.{ℕ, ◌<◌}
-use mir.Val.{Fits}
-use mir.Syntax.{w16}
+-- `changes::update_ready` meets its contract: turned down by the table, on the view already, or moved. Assumes nothing.
 use native.Mathlib.Omega.{arith}
+use mathlib.Core.Path.{refl, sym, ap, ◌∙◌}
 use mathlib.Core.List.{[]}
-use mathlib.Core.Path.{◌≡◌, refl, ap, sym, ◌∙◌}
-use borrow.Author.Rules.{rules}
-use lib.ListN.{get_or}
-use native.Mathlib.Nat.{lt_of_lt_of_le}
-use Rattle.bench.specs.State.{State}
+use Rattle.std.proofs.lemmas.Result.{err_from_is_err_and}
+use Rattle.agreement.specs.Call.{says}
+use Rattle.protocol.specs.Calls.{change, update}
+use Rattle.bench.specs.State.{State, state, state_of}
+use Rattle.bench.specs.Outcomes.{ready_for, outcome}
 use Rattle.bench.specs.Private.Views.{network_of}
-use Rattle.bench.specs.declared.Bench.{Bench}
-use Rattle.bench.proofs.ChangeEntry.{update-told, number-left}
-use Rattle.bench.proofs.UpdateSteps.{turns_down, changes-nothing, moves-it}
-use Rattle.protocol.specs.Calls.{change, update, refuse}
+use Rattle.bench.proofs.CallOutcomes.{moved-outcome}
+use Rattle.bench.proofs.ChangeEntry.{update_same, update-told, number-left}
+use Rattle.bench.proofs.QueueRanges.{network-told}
+use Rattle.bench.proofs.Replies.{refused-outcome}
+use Rattle.bench.proofs.UpdateSteps.{changes-nothing, moves-it}
 use Rattle.bench.proofs.changes.update_ready.Goals as goal
 
--- the table's number, for a state with this bench
-number_of :
-    (b : Bench) (result bridge view : ℕ) →
-    ((b' : Bench) → b'.bridges ≡ b.bridges → b'.views ≡ b.views → b'.view ≡ b.view → b'.number ≡ b.number → result ≡ refuse (network_of b' []) (change (update bridge view))) →
-    (s : State) → s.bench ≡ b → result ≡ refuse (network_of s.bench []) (change (update bridge view))
-number_of b result bridge view told s here =
-    told s.bench (ap (λ (b : Bench). b.bridges) here) (ap (λ (b : Bench). b.views) here) (ap (λ (b : Bench). b.view) here)
-    (ap (λ (b : Bench). b.number) here)
+pub update-requires : goal.update-requires
+update-requires c = (network-told _ _ _ _ c.requires.in_range).few_bridges
 
-pub update_refusal-refusal-requires : goal.update_refusal-refusal-requires
-update_refusal-refusal-requires c = c.requires.0.few_bridges
+pub returns-in_err-update-clause-outcome : goal.returns-in_err-update-clause-outcome
+unfolding ready_for
+returns-in_err-update-clause-outcome c =
+    λ messages.
+    let s : State = state_of c.args.net.now messages in
+    let p = err_from_is_err_and c.from_residual.result c.from_residual.ensures.1 in
+    rw (p.1, p.2) (refused-outcome s (change (update c.args.bridge c.args.view)) (λ n. tt) c.requires.in_range _ (c.in_err-update.ensures ∙ update_same s _ _))
 
-pub returns-then-refusal-ne0 : goal.returns-then-refusal-ne0
-returns-then-refusal-ne0 c = record { view_value = λ s here ok. turns_down s _ _ _ ok (number_of _ _ _ _ c.update_refusal-refusal.ensures s here) c.if-refusal-ne0.true; updating_fits = (omega arith, c.requires.1) }
+pub bounds-net-bridge : goal.bounds-net-bridge
+bounds-net-bridge c =
+    let ready = network-told _ _ _ _ c.requires.in_range in
+    omega (arith, ready.few_bridges, (update-told (network_of c.args.net.now.bench.now []) c.args.bridge c.args.view c.in_ok-update.ensures refl).bridge)
 
-pub returns-then-present-view : goal.returns-then-present-view
-returns-then-present-view c = record { view_value = λ s here ok. changes-nothing s _ _ _ ok (number_of _ _ _ _ c.update_refusal-refusal.ensures s here) c.if-refusal-ne0.false (ap (λ (b : Bench). get_or b.view c.args.bridge 0) here ∙ c.if-present-view.true); updating_fits = (tt, c.requires.1) }
+pub need-requires : goal.need-requires
+need-requires c =
+    let ready = network-told _ _ _ _ c.requires.in_range in (
+      omega (arith, ready.few_views, (update-told (network_of c.args.net.now.bench.now []) c.args.bridge c.args.view c.in_ok-update.ensures refl).view),
+      ready.costs_long,
+      c.requires.prepared.tables,
+    )
 
-pub need_view-requires : goal.need_view-requires
-need_view-requires c =
-    let low : (c.args.bridge < 16) × (c.args.view < 32) = let u = update-told (network_of c.args.bench []) c.args.bridge c.args.view (c.update_refusal-refusal.ensures c.args.bench refl refl refl refl) c.if-refusal-ne0.false in
-    (lt_of_lt_of_le u.bridge c.requires.0.few_bridges, lt_of_lt_of_le u.view c.requires.0.few_views) in
-    (low.1, c.requires.0.costs_long, c.requires.1)
+pub move_bridge-requires-clause-ready : goal.move_bridge-requires-clause-ready
+move_bridge-requires-clause-ready c = network-told _ _ _ _ c.requires.in_range
 
-pub shape_of-tables : goal.shape_of-tables
-shape_of-tables c = c.need_view.auto.tables
+pub move_bridge-requires-clause-listed : goal.move_bridge-requires-clause-listed
+move_bridge-requires-clause-listed c =
+    let n = network_of c.args.net.now.bench.now [] in
+    let u = update-told n c.args.bridge c.args.view c.in_ok-update.ensures refl in
+    (u.bridge, u.view, number-left n c.args.bridge c.args.view u (c.typed.ensures.number c.args.bridge u.bridge) c.if-net-bridge.true)
 
-pub shape_of-known : goal.shape_of-known
-shape_of-known c = c.need_view.auto.known
+pub returns-then-net-bridge-clause-outcome : goal.returns-then-net-bridge-clause-outcome
+returns-then-net-bridge-clause-outcome c =
+    λ messages.
+    let s : State = state_of c.args.net.now messages in
+    let moves = moves-it s c.args.bridge c.args.view 0 c.requires.in_range c.in_ok-update.ensures refl c.if-net-bridge.true in
+    ap (λ (z : State). outcome (says {A = Unit {0}} tt) (state z.bench z.costs z.sent z.held messages)) c.move_bridge.ensures.state
+    ∙ moved-outcome s c.requires.in_range c.typed.ensures c.args.bridge c.args.view (sym (update_same s _ _) ∙ sym c.in_ok-update.ensures) _ moves
 
-pub returns : goal.returns
-returns c =
-    let fits : Fits w16 (get_or c.args.bench.number c.args.bridge 0) = search rules in
-    let a = c.args in
-    let u = update-told (network_of a.bench []) a.bridge a.view (c.update_refusal-refusal.ensures a.bench refl refl refl refl) c.if-refusal-ne0.false in
-    record {
-      view_value = λ s here ok. moves-it s _ _ _ ok (number_of _ _ _ _ c.update_refusal-refusal.ensures s here) c.if-refusal-ne0.false
-          (λ there. c.if-present-view.false (sym (ap (λ (b : Bench). get_or b.view a.bridge 0) here) ∙ there));
-      updating_fits = (
-        record {
-          bridge = u.bridge;
-          view = u.view;
-          number = number-left (network_of a.bench []) a.bridge a.view u fits.fits c.if-present-view.false;
-          filled = c.need_view.ensures.tables_of.1;
-        },
-        c.need_view.ensures.tables_of.0,
-      );
-    }
-
-pub bounds-at-bridge : goal.bounds-at-bridge
-bounds-at-bridge c =
-    let low : (c.args.bridge < 16) × (c.args.view < 32) = let u = update-told (network_of c.args.bench []) c.args.bridge c.args.view (c.update_refusal-refusal.ensures c.args.bench refl refl refl refl) c.if-refusal-ne0.false in
-    (lt_of_lt_of_le u.bridge c.requires.0.few_bridges, lt_of_lt_of_le u.view c.requires.0.few_views) in
-    low.0
+pub returns-else-net-bridge-clause-outcome : goal.returns-else-net-bridge-clause-outcome
+returns-else-net-bridge-clause-outcome c =
+    λ messages.
+    let s : State = state_of c.args.net.now messages in
+    moved-outcome s c.requires.in_range c.typed.ensures c.args.bridge c.args.view (sym (update_same s _ _) ∙ sym c.in_ok-update.ensures) _
+    (changes-nothing s c.args.bridge c.args.view 0 c.requires.in_range c.in_ok-update.ensures refl c.if-net-bridge.false)

@@ -1,69 +1,28 @@
--- `messages::repeat` meets its contract: out of range, or `repeat_ready`, and then the bench with what it took. Assumes nothing.
-use Prim.Native.Nat.{ℕ}
-use mathlib.Core.Path.{◌≡◌, sym, ◌∙◌, ap}
-use mathlib.Core.Bool.{true}
-use borrow.Author.Rules.{rules}
-use lib.ListN.{length, get_or}
-use Rattle.agreement.proofs.Basics.{get_d_default}
-use Rattle.agreement.specs.Record.{fresh_record}
-use Rattle.bench.specs.Ranges.{state_in_range}
-use Rattle.bench.proofs.ChangeSteps.{length-mapped}
-use Rattle.bench.proofs.ChoiceReads.{record-fits}
-use Rattle.bench.proofs.TieRanges.{told}
-use Rattle.bench.proofs.ArrivalSteps.{arrival-told}
-use Rattle.bench.specs.State.{state}
-use Rattle.bench.proofs.TableSteps.{tables-none}
+-- `messages::repeat` meets its contract. Assumes nothing.
+use mathlib.Core.Path.{sym, ap, ◌∙◌}
+use Rattle.distances.proofs.Booleans.{both_true}
 use Rattle.protocol.specs.Calls.{repeat, answer_at}
-use Rattle.bench.specs.Outcomes.{ready_for, outcome}
-use Rattle.bench.specs.Private.Deliveries.{DeliveryOutcome}
-use Rattle.bench.proofs.Represents.{Typed}
-use Rattle.bench.proofs.CallSteps.{with_delivered}
+use Rattle.bench.specs.State.{state_of}
+use Rattle.bench.specs.Ranges.{network_in_range, state_in_range}
+use Rattle.bench.specs.Outcomes.{ready_for}
 use Rattle.bench.proofs.OutcomeLaws.{range-refused}
-use Rattle.bench.proofs.CallOutcomes.{repeat-outcome}
-use Rattle.bench.proofs.Types.{typed-by}
+use Rattle.bench.proofs.ChainSteps.{ends-told}
 use Rattle.bench.proofs.messages.repeat.Goals as goal
 
-pub returns-then-not-in_range : goal.returns-then-not-in_range
+pub returns-then-not-delivery_in_range-clause-outcome : goal.returns-then-not-delivery_in_range-clause-outcome
 unfolding ready_for
-returns-then-not-in_range c =
-    rw (c.refused_delivery.ensures.0, c.refused_delivery.ensures.1)
-    (range-refused ((let a = c.args in state a.bench a.costs.now a.sent.now a.held.now a.messages.now)) (repeat c.args.place) (λ n. answer_at n c.args.place) (sym c.delivery_in_range-in_range.ensures ∙ c.if-not-in_range.true))
+returns-then-not-delivery_in_range-clause-outcome c =
+    let a = c.args in
+    range-refused (state_of a.net.now a.messages.now) (repeat a.place) (λ n. answer_at n a.place)
+    (ap state_in_range (sym (c.shared.ensures a.messages.now)) ∙ sym c.delivery_in_range.ensures ∙ c.if-not-delivery_in_range.true)
 
-pub repeat_ready-reception-requires : goal.repeat_ready-reception-requires
-repeat_ready-reception-requires c =
-    let inside : state_in_range ((let a = c.args in state a.bench a.costs.now a.sent.now a.held.now a.messages.now)) ≡ true = sym c.delivery_in_range-in_range.ensures ∙ c.if-not-in_range.false in
-    let listed : length c.args.bench.records ≡ 64 = search (rules, length-mapped) in
-    let a = c.args in record {
-      messages_value = inside;
-      tables = (
-        tables-none a.bench _,
-        λ there. get_d_default a.bench.records c.receiving_end-end.result _ fresh_record (rw listed c.receiving_end-end.ensures.0) ∙ ap (λ (e : ℕ). get_or a.bench.records e fresh_record) (c.receiving_end-end.ensures.1 there),
-      );
-    }
+pub of-prepared-requires : goal.of-prepared-requires
+of-prepared-requires c =
+    let s = state_of c.args.net.now c.args.messages.now in
+    ends-told _ _ _ _ (both_true (network_in_range s) _ (ap state_in_range (sym (c.shared.ensures c.args.messages.now)) ∙ sym c.delivery_in_range.ensures ∙ c.if-not-delivery_in_range.false)).0
 
-pub shape_of-sent : goal.shape_of-sent
-shape_of-sent c = c.repeat_ready-reception.auto.sent
+pub repeat_ready-requires-clause-in_range : goal.repeat_ready-requires-clause-in_range
+repeat_ready-requires-clause-in_range c = ap state_in_range (sym (c.shared.ensures c.args.messages.now)) ∙ sym c.delivery_in_range.ensures ∙ c.if-not-delivery_in_range.false
 
-pub shape_of-held : goal.shape_of-held
-shape_of-held c = c.repeat_ready-reception.auto.held
-
-pub returns : goal.returns
-returns c =
-    let inside : state_in_range ((let a = c.args in state a.bench a.costs.now a.sent.now a.held.now a.messages.now)) ≡ true = sym c.delivery_in_range-in_range.ensures ∙ c.if-not-in_range.false in
-    let typed : Typed c.args.bench = typed-by _ _ c.well_formed.0 in
-    ap (λ (o : DeliveryOutcome). outcome o.reply (with_delivered ((let a = c.args in state a.bench a.costs.now a.sent.now a.held.now a.messages.now)) o)) (rw (c.taken.ensures.0, c.taken.ensures.1) c.repeat_ready-reception.ensures.messages_after.0)
-    ∙ repeat-outcome ((let a = c.args in state a.bench a.costs.now a.sent.now a.held.now a.messages.now)) inside typed c.args.place
-
-pub taken-requires : goal.taken-requires
-taken-requires c = c.repeat_ready-reception.ensures.messages_after.1
-
-pub receiving_end-end-requires : goal.receiving_end-end-requires
-receiving_end-end-requires c =
-    let inside : state_in_range ((let a = c.args in state a.bench a.costs.now a.sent.now a.held.now a.messages.now)) ≡ true = sym c.delivery_in_range-in_range.ensures ∙ c.if-not-in_range.false in
-    let h = told ((let a = c.args in state a.bench a.costs.now a.sent.now a.held.now a.messages.now)) inside in (h.count, h.messages_long, λ there. (arrival-told ((let a = c.args in state a.bench a.costs.now a.sent.now a.held.now a.messages.now)) inside _ there).arrives)
-
-pub offset_bounds-bench-end : goal.offset_bounds-bench-end
-offset_bounds-bench-end c = record-fits c.receiving_end-end.ensures.0
-
-pub bounds-bench-end : goal.bounds-bench-end
-bounds-bench-end c = c.receiving_end-end.ensures.0
+pub repeat_ready-requires-clause-prepared : goal.repeat_ready-requires-clause-prepared
+repeat_ready-requires-clause-prepared c = record { tables = c.none-prepared.ensures c.args.net.now.bench.now c.args.net.now.costs.now; chained = c.of-prepared.ensures }

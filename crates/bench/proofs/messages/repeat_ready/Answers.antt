@@ -1,91 +1,79 @@
--- `messages::repeat_ready` meets its contract. What an accepted delivery is handed is ready for the private functions (`delivery-told`).
--- Assumes nothing.
-use Prim.Native.Nat.{ℕ, ◌<◌}
-use native.Mathlib.Omega.{arith}
-use mathlib.Core.Bool.{true}
-use mathlib.Core.Path.{◌≡◌, sym, ◌∙◌, refl, ap}
+-- `messages::repeat_ready` meets its contract: turned down, or layer 2 takes the message at the end where it arrives. Assumes nothing.
+use mathlib.Core.Path.{refl}
+use mathlib.Core.List.{[]}
 use borrow.Author.Rules.{rules}
-use lib.ListN.{length}
-use native.Mathlib.Nat.{le_of_eq}
-use Rattle.bench.specs.Private.Effects.{reception_response, reception_bench, Accepts}
-use Rattle.bench.specs.declared.effects.EndState.{EndState}
-use Rattle.bench.proofs.ArrivalSteps.{ArrivalFacts, arrival-told, stands-in}
-use Rattle.bench.specs.State.{State, state}
-use Rattle.bench.specs.Private.Views.{network_of}
-use Rattle.protocol.specs.Calls.{deliver, refuse}
-use Rattle.bench.specs.Outcomes.{refusal_of}
-use Rattle.bench.specs.Ranges.{state_in_range}
-use Rattle.bench.specs.Private.Deliveries.{delivery_outcome, received}
-use Rattle.bench.proofs.TieRefusals.{refusal-ready}
-use Rattle.bench.proofs.TieRanges.{told, few}
-use Rattle.bench.proofs.TieChecks.{message-told}
-use Rattle.bench.proofs.QueueCalls.{delivery-told, repeat-refused, repeat-done}
-use Rattle.bench.proofs.DeliverySteps.{reception-told}
+use Rattle.bench.specs.State.{state_of}
+use Rattle.bench.proofs.TieRanges.{told}
+use Rattle.bench.proofs.ArrivalSteps.{arrival-told}
+use Rattle.bench.proofs.DeliverySteps.{place-taken, place-received}
+use Rattle.bench.proofs.DeliveryCalls.{prepared-received, repeat-refused, repeat-turned, repeat-done}
 use Rattle.bench.proofs.messages.repeat_ready.Goals as goal
 
--- the table's number, in range
-same :
-    (s : State) (p k : ℕ) →
-    state_in_range s ≡ true →
-    k ≡ refuse (network_of s.bench s.messages) (deliver p) →
-    k ≡ refusal_of (state_in_range s) (network_of s.bench s.messages) (deliver p)
-same s p k ready e = e ∙ sym (refusal-ready _ _ _ ready)
+pub deliver-requires : goal.deliver-requires
+deliver-requires c =
+    let s = state_of c.args.net.now c.args.messages.now in
+    let all = told s c.requires.in_range in
+    (all.count, all.messages_long, λ low. (arrival-told s c.requires.in_range c.args.place _ refl low).arrives)
 
-pub deliver_refusal-refusal-requires : goal.deliver_refusal-refusal-requires
-deliver_refusal-refusal-requires c =
-    let s : State = let a = c.args in state a.bench a.costs.now a.sent.now a.held.now a.messages.now in
-    let h = told s c.requires.messages_value in (h.count, h.messages_long, λ low. let m = message-told _ _ _ (h.message c.args.place low) in (omega (arith, few c.args.bench c.args.costs.now h.lasting, m.link), m.direction))
+pub returns-in_err-end-clause-outcome : goal.returns-in_err-end-clause-outcome
+returns-in_err-end-clause-outcome c =
+    let refused = repeat-refused (state_of c.args.net.now c.args.messages.now) c.requires.in_range c.args.place c.in_err-end.field-0.0 c.in_err-end.ensures.number in
+    search rules
 
-pub returns-then-refusal-ne0 : goal.returns-then-refusal-ne0
-returns-then-refusal-ne0 c =
-    let s : State = let a = c.args in state a.bench a.costs.now a.sent.now a.held.now a.messages.now in
-    record { messages_after = (repeat-refused s _ _ (same s c.args.place _ c.requires.messages_value (c.deliver_refusal-refusal.ensures c.args.bench refl refl)) c.if-refusal-ne0.true refl refl, omega arith); tables_2 = c.requires.tables.0 }
+pub returns-in_err-end-clause-numbers : goal.returns-in_err-end-clause-numbers
+returns-in_err-end-clause-numbers c =
+    let refused = repeat-turned (state_of c.args.net.now c.args.messages.now) c.requires.in_range c.args.place c.in_err-end.field-0.0 c.in_err-end.ensures.number in
+    search rules
 
-pub receive_at-requires : goal.receive_at-requires
-receive_at-requires c =
-    let s : State = let a = c.args in state a.bench a.costs.now a.sent.now a.held.now a.messages.now in
-    let there : c.args.place < c.args.bench.messages = (delivery-told s _ _ (same s c.args.place _ c.requires.messages_value (c.deliver_refusal-refusal.ensures c.args.bench refl refl)) c.if-refusal-ne0.false).listed in
-    let arrives : ArrivalFacts s c.args.place = arrival-told s c.requires.messages_value _ there in
-    let placed : length c.args.bench.ends ≡ 64 = search rules in
-    let h = arrives in
-    let here = c.arrival_state-here.ensures in record {
-      end_bound = (rw (ap (λ (n : EndState). n.end) here) h.end, rw (ap (λ (n : EndState). n.view) here) h.view, le_of_eq (sym placed), h.costs, c.requires.tables.0);
-      place_bound = (h.place, h.long, h.fits, ap (λ (n : EndState). n.end) here);
-    }
+pub bounds-net-end : goal.bounds-net-end
+bounds-net-end c =
+    let at = c.in_ok-end.ensures.end in
+    (arrival-told (state_of c.args.net.now c.args.messages.now) c.requires.in_range _ _ at.0 at.1).end
 
-pub shape_of-tables : goal.shape_of-tables
-shape_of-tables c = c.receive_at.auto.tables
+pub bounds-net-bridge : goal.bounds-net-bridge
+bounds-net-bridge c =
+    let at = c.in_ok-end.ensures.end in
+    (arrival-told (state_of c.args.net.now c.args.messages.now) c.requires.in_range _ _ at.0 at.1).bridge
 
-pub shape_of-known : goal.shape_of-known
-shape_of-known c = c.receive_at.auto.known
+pub need-requires : goal.need-requires
+need-requires c =
+    let at = c.in_ok-end.ensures.end in
+    let here = arrival-told (state_of c.args.net.now c.args.messages.now) c.requires.in_range _ _ at.0 at.1 in
+    (here.view, here.costs, c.requires.prepared.tables)
 
-pub returns : goal.returns
-returns c =
-    let s : State = let a = c.args in state a.bench a.costs.now a.sent.now a.held.now a.messages.now in
-    let there : c.args.place < c.args.bench.messages = (delivery-told s _ _ (same s c.args.place _ c.requires.messages_value (c.deliver_refusal-refusal.ensures c.args.bench refl refl)) c.if-refusal-ne0.false).listed in
-    let taken : (delivery_outcome (reception_response c.receive_at.result) (reception_bench c.receive_at.result c.args.bench c.args.bench.messages) c.receive_at.new.sent c.receive_at.new.held c.args.messages.now ≡ received s c.args.place) × Accepts c.receive_at.result = c.receive_at.ensures.messages_after c.args.bench (stands-in c.args.bench _ c.args.old _ c.arrival_state-here.ensures (c.requires.tables.1 there)) refl c.requires.messages_value there in
-    record { messages_after = (repeat-done s _ _ (same s c.args.place _ c.requires.messages_value (c.deliver_refusal-refusal.ensures c.args.bench refl refl)) c.if-refusal-ne0.false taken.0, reception-told c.receive_at.result taken.1); tables_2 = c.receive_at.ensures.tables_of }
+pub carried-requires : goal.carried-requires
+carried-requires c =
+    let at = c.in_ok-end.ensures.end in
+    let here = arrival-told (state_of c.args.net.now c.args.messages.now) c.requires.in_range _ _ at.0 at.1 in
+    (here.place, here.long, here.fits)
 
-pub shape_of-sent : goal.shape_of-sent
-shape_of-sent c = c.receive_at.auto.sent
+pub receive-requires-clause-takes : goal.receive-requires-clause-takes
+receive-requires-clause-takes c =
+    let net = c.args.net.now in
+    let at = c.in_ok-end.ensures.end in
+    let here = arrival-told (state_of net c.args.messages.now) c.requires.in_range _ _ at.0 at.1 in
+    (here.end, rw c.carried.ensures (place-taken net.bench.now net.costs.now net.limits.now.sent.now net.limits.now.held.now c.args.messages.now _ c.args.place c.requires.in_range at.1 at.0))
 
-pub shape_of-held : goal.shape_of-held
-shape_of-held c = c.receive_at.auto.held
+pub receive-requires-clause-lent : goal.receive-requires-clause-lent
+receive-requires-clause-lent c =
+    let at = c.in_ok-end.ensures.end in
+    let here = arrival-told (state_of c.args.net.now c.args.messages.now) c.requires.in_range _ _ at.0 at.1 in
+    (here.bridge, here.view, here.costs)
 
-pub slice_bounds-arrival_state-end : goal.slice_bounds-arrival_state-end
-slice_bounds-arrival_state-end c =
-    let placed : length c.args.bench.ends ≡ 64 = search rules in
-    sym placed
+pub returns-clause-outcome : goal.returns-clause-outcome
+returns-clause-outcome c =
+    let net = c.args.net.now in
+    let at = c.in_ok-end.ensures.end in
+    (repeat-done (state_of net c.args.messages.now) c.requires.in_range c.args.place c.typed.ensures c.in_ok-end.ensures.number
+    (place-received net.bench.now net.costs.now net.limits.now.sent.now net.limits.now.held.now c.args.messages.now _ c.args.place c.requires.in_range at.1 at.0 c.carried.ensures c.receive.ensures.outcome)).0
 
-pub arrival_state-here-requires : goal.arrival_state-here-requires
-arrival_state-here-requires c =
-    let s : State = let a = c.args in state a.bench a.costs.now a.sent.now a.held.now a.messages.now in
-    let there : c.args.place < c.args.bench.messages = (delivery-told s _ _ (same s c.args.place _ c.requires.messages_value (c.deliver_refusal-refusal.ensures c.args.bench refl refl)) c.if-refusal-ne0.false).listed in
-    let arrives : ArrivalFacts s c.args.place = arrival-told s c.requires.messages_value _ there in
-    let placed : length c.args.bench.ends ≡ 64 = search rules in
-    let h = arrives in record { place_bound = (h.place, h.long, h.arrives, le_of_eq (sym placed)); place_bound_2 = h.bridge }
+pub returns-clause-numbers : goal.returns-clause-numbers
+returns-clause-numbers c =
+    let net = c.args.net.now in
+    let at = c.in_ok-end.ensures.end in
+    (repeat-done (state_of net c.args.messages.now) c.requires.in_range c.args.place c.typed.ensures c.in_ok-end.ensures.number
+    (place-received net.bench.now net.costs.now net.limits.now.sent.now net.limits.now.held.now c.args.messages.now _ c.args.place c.requires.in_range at.1 at.0 c.carried.ensures c.receive.ensures.outcome)).1
 
-pub slice_bounds-receive_at-end : goal.slice_bounds-receive_at-end
-slice_bounds-receive_at-end c =
-    let placed : length c.args.bench.ends ≡ 64 = search rules in
-    sym placed
+pub returns-clause-prepared : goal.returns-clause-prepared
+returns-clause-prepared c =
+    prepared-received (state_of c.args.net.now []) _ _ _ (record { tables = c.need.ensures.tables; chained = c.requires.prepared.chained }) c.receive.ensures.outcome

@@ -7,38 +7,33 @@ use Rattle.bench.specs.Private.Answers.{hop_in}
 use Rattle.bench.proofs.PathSteps.{open-link}
 use Rattle.bench.proofs.ports.hop_at.Goals as goal
 
-pub shape_of-tables-in_default : goal.shape_of-tables-in_default
-shape_of-tables-in_default c = c.verdict_in-verdict.auto.tables
-
-pub shape_of-known-in_default : goal.shape_of-known-in_default
-shape_of-known-in_default c = c.verdict_in-verdict.auto.known
-
-pub returns-in_default : goal.returns-in_default
+pub returns-in_default-clause-hop : goal.returns-in_default-clause-hop
 unfolding hop_by hop_in
-returns-in_default c = record { result_value = rw (ap port_of (sym c.verdict_in-verdict.ensures.value) ∙ sym c.port_of-port.ensures, c.in_default.is); tables = c.verdict_in-verdict.ensures.tables }
+returns-in_default-clause-hop c = rw (ap port_of (sym c.verdict_in-verdict.ensures.value) ∙ sym c.port_of.ensures, c.in_default.is)
 
 pub link_live-requires : goal.link_live-requires
-link_live-requires c = omega (arith, c.requires.ports_ready.ready.few_links, open-link _ c.args.bridge c.args.dest _ (ap port_of (sym c.verdict_in-verdict.ensures.value) ∙ sym c.port_of-port.ensures ∙ c.in-Open.is))
+link_live-requires c = omega (arith, c.requires.ports_ready.ready.few_links, open-link _ c.args.bridge c.args.dest _ (ap port_of (sym c.verdict_in-verdict.ensures.value) ∙ sym c.port_of.ensures ∙ c.in-Some.is))
 
-pub shape_of-tables-then-not-link_live : goal.shape_of-tables-then-not-link_live
-shape_of-tables-then-not-link_live c = c.verdict_in-verdict.auto.tables
-
-pub shape_of-known-then-not-link_live : goal.shape_of-known-then-not-link_live
-shape_of-known-then-not-link_live c = c.verdict_in-verdict.auto.known
-
-pub returns-then-not-link_live : goal.returns-then-not-link_live
+pub returns-then-not-link_live-clause-hop : goal.returns-then-not-link_live-clause-hop
 unfolding hop_by hop_in
-returns-then-not-link_live c = record { result_value = rw (ap port_of (sym c.verdict_in-verdict.ensures.value) ∙ sym c.port_of-port.ensures, c.in-Open.is, sym (c.link_live.ensures c.args.bench.records c.args.sent.now c.args.held.now) ∙ c.if-not-link_live.true); tables = c.verdict_in-verdict.ensures.tables }
+returns-then-not-link_live-clause-hop c =
+    let net = c.args.net.now in
+    rw (
+      ap port_of (sym c.verdict_in-verdict.ensures.value) ∙ sym c.port_of.ensures,
+      c.in-Some.is,
+      sym (c.link_live.ensures net.bench.now.records net.limits.sent.now net.limits.held.now) ∙ c.if-not-link_live.true,
+    )
 
 pub across_link-requires : goal.across_link-requires
-across_link-requires c = omega (arith, c.requires.ports_ready.ready.few_links, open-link _ c.args.bridge c.args.dest _ (ap port_of (sym c.verdict_in-verdict.ensures.value) ∙ sym c.port_of-port.ensures ∙ c.in-Open.is))
+across_link-requires c = omega (arith, c.requires.ports_ready.ready.few_links, open-link _ c.args.bridge c.args.dest _ (ap port_of (sym c.verdict_in-verdict.ensures.value) ∙ sym c.port_of.ensures ∙ c.in-Some.is))
 
-pub shape_of-tables : goal.shape_of-tables
-shape_of-tables c = c.verdict_in-verdict.auto.tables
-
-pub shape_of-known : goal.shape_of-known
-shape_of-known c = c.verdict_in-verdict.auto.known
-
-pub returns : goal.returns
+pub returns-clause-hop : goal.returns-clause-hop
 unfolding hop_by hop_in
-returns c = record { result_value = rw (c.across_link.ensures c.args.bench.bridges c.args.bench.links, ap port_of (sym c.verdict_in-verdict.ensures.value) ∙ sym c.port_of-port.ensures, c.in-Open.is, sym (c.link_live.ensures c.args.bench.records c.args.sent.now c.args.held.now) ∙ c.if-not-link_live.false); tables = c.verdict_in-verdict.ensures.tables }
+returns-clause-hop c =
+    let net = c.args.net.now in
+    rw (
+      c.across_link.ensures,
+      ap port_of (sym c.verdict_in-verdict.ensures.value) ∙ sym c.port_of.ensures,
+      c.in-Some.is,
+      sym (c.link_live.ensures net.bench.now.records net.limits.sent.now net.limits.held.now) ∙ c.if-not-link_live.false,
+    )

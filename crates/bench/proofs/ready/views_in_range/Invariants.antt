@@ -1,5 +1,4 @@
 -- `ready::views_in_range` meets its contract. The loop's invariant: `ok` says whether every bridge below `y` is on one of the views. Assumes nothing.
-use Prim.Native.Nat.{◌≤◌, ◌-◌}
 use mathlib.Core.Path.{◌≡◌}
 use lib.Dec.{ltb}
 use lib.ListN.{get_or}
@@ -7,7 +6,4 @@ use Rattle.distances.specs.Call.{all_below}
 use Rattle.bench.proofs.ready.views_in_range.Given as goal
 
 abbrev pub invariant-loop-y : goal.invariant-loop-y
-invariant-loop-y l = (l.y ≤ l.bench.bridges) × (l.ok ≡ all_below l.y (λ k. ltb (get_or l.bench.view k 0) l.bench.views))
-
-abbrev pub decreases-loop-y : goal.decreases-loop-y
-decreases-loop-y l = l.bench.bridges - l.y
+invariant-loop-y l = l.ok ≡ all_below l.y (λ k. ltb (get_or l.bench.view k 0) l.bench.views)

@@ -1,17 +1,19 @@
-use Prim.Native.Nat.{◌-◌, ◌*◌}
 use native.Mathlib.Numerals.{add-one}
 use native.Mathlib.Omega.{arith}
-use mathlib.Core.Path.{◌≡◌, refl}
+use Prim.Native.Nat.{◌<◌, ◌*◌}
+use lib.Seq.{get_or-take}
+use lib.ListN.{length-take}
+use Prim.Native.Nat.{ℕ}
+use mathlib.Core.Path.{refl}
 use Rattle.distances.specs.Call.{all_below}
 use Rattle.distances.proofs.ready.ends_below.Goals as goal
 
-pub loop-e-init : goal.loop-e-init
+pub loop-end-init : goal.loop-end-init
 unfolding all_below
-loop-e-init c = (omega arith, refl)
+loop-end-init c = refl
 
-pub loop-e-preserved : goal.loop-e-preserved
+pub loop-end-preserved : goal.loop-end-preserved
 unfolding all_below
-loop-e-preserved c = (omega arith, rw add-one (cc))
-
-pub returns : goal.returns
-returns c = let e : c.loop-e.e ≡ 2 * c.args.links = omega arith in rw e at c.loop-e.invariant.1
+loop-end-preserved c =
+    let within : c.loop-end.end-index < 2 * c.args.links = omega (arith, length-take {A = ℕ}) in
+    rw (add-one, get_or-take (2 * c.args.links) c.args.ends.now c.loop-end.end-index 0 within) (cc)

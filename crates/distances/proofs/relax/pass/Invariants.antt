@@ -1,14 +1,10 @@
 -- `relax::pass` meets its contract. The loop's invariant: the rows below `i` are rewritten. Assumes nothing.
-use Prim.Native.Nat.{◌≤◌, ◌-◌, ◌/◌, ◌%◌}
+use Prim.Native.Nat.{◌/◌, ◌%◌}
 use mathlib.Core.Path.{◌≡◌}
-use lib.ListN.{length}
 use Rattle.distances.specs.Table.{cell, rewritten}
 use Rattle.distances.specs.Distance.{relaxed}
 use Rattle.distances.proofs.Steps.{rows_below}
 use Rattle.distances.proofs.relax.pass.Given as goal
 
 abbrev pub invariant-loop-i : goal.invariant-loop-i
-invariant-loop-i l = (l.i ≤ l.n) × (length l.table ≡ length l.initial.table) × (l.table ≡ rewritten (rows_below l.n l.i) (λ p. relaxed (cell l.initial.table) l.k (p / 16) (p % 16)) l.initial.table)
-
-abbrev pub decreases-loop-i : goal.decreases-loop-i
-decreases-loop-i l = l.n - l.i
+invariant-loop-i l = l.table ≡ rewritten (rows_below l.n l.i) (λ p. relaxed (cell l.initial.table) l.k (p / 16) (p % 16)) l.initial.table

@@ -1,13 +1,13 @@
-use Prim.Native.Nat.{◌+◌, ◌*◌, ◌-◌}
+use Prim.Native.Nat.{◌+◌, ◌*◌}
 use native.Mathlib.Numerals.{add-one}
 use native.Mathlib.Omega.{arith}
-use mathlib.Core.Path.{◌≡◌, refl}
+use mathlib.Core.Path.{refl}
 use Rattle.distances.specs.Steps.{with_links}
 use Rattle.distances.proofs.start.join.Goals as goal
 
 pub loop-l-init : goal.loop-l-init
 unfolding with_links
-loop-l-init c = (omega arith, refl, refl)
+loop-l-init c = refl
 
 pub join_link-requires : goal.join_link-requires
 join_link-requires c = (
@@ -18,10 +18,4 @@ join_link-requires c = (
 
 pub loop-l-preserved : goal.loop-l-preserved
 unfolding with_links
-loop-l-preserved c = (omega arith, omega arith, rw add-one (cc))
-
-pub shape_of-table : goal.shape_of-table
-shape_of-table c = c.loop-l.invariant.1
-
-pub returns : goal.returns
-returns c = let e : c.loop-l.l ≡ c.args.links = omega arith in rw e at c.loop-l.invariant.2
+loop-l-preserved c = rw add-one (cc)

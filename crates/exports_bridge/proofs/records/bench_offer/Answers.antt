@@ -1,27 +1,14 @@
--- `records::bench_offer` meets its contract. Assumes nothing.
-use borrow.Author.Tests.{le-leb, lt-leb}
+-- `records::bench_offer` meets its contract: a refusal's number is the reply, and nothing is written. Assumes nothing.
+use Prim.Native.Nat.{◌≤◌}
+use borrow.Author.Rules.{rules}
+use borrow.Author.Tests.{le-leb}
+use lib.ListN.{length}
 use Rattle.encoding.specs.Replies.{with_value}
 use Rattle.exports_bridge.specs.Call.{offer_reply}
 use Rattle.exports_bridge.proofs.records.bench_offer.Goals as goal
 
-pub returns-then-out-lt1 : goal.returns-then-out-lt1
-unfolding offer_reply
-returns-then-out-lt1 c = rw (lt-leb _ _ c.if-out-lt1.true)
-
-pub returns-in-Refused : goal.returns-in-Refused
+pub returns-in-Err : goal.returns-in-Err
 unfolding offer_reply with_value
-returns-in-Refused c =
-    rw (
-      le-leb _ _ c.if-out-lt1.false,
-      ← c.offer_over-offered.ensures,
-      c.in-Refused.is,
-    )
-
-pub returns-in-Offers : goal.returns-in-Offers
-unfolding offer_reply with_value
-returns-in-Offers c =
-    rw (
-      le-leb _ _ c.if-out-lt1.false,
-      ← c.offer_over-offered.ensures,
-      c.in-Offers.is,
-    )
+returns-in-Err c =
+    let room : 1 ≤ length c.args.out.now = search rules in
+    rw (le-leb 1 _ room, ← c.view_of-seen.ensures, ← c.offer_over.ensures, c.in-Err.is, c.number.ensures)

@@ -6,7 +6,7 @@ use mathlib.Core.Bool.{Bool, true, false}
 use mathlib.Core.List.{List}
 use Rattle.bench.specs.declared.Bench.{Bench}
 use lib.Dec.{ltb}
-use lib.ListN.{length, set, length-set}
+use lib.ListN.{length, set}
 use Rattle.exports_network.specs.Network.{number_at, stored}
 use Rattle.distances.proofs.Tables.{rewritten-none, rewritten-set}
 use Rattle.distances.specs.Table.{rewritten}
@@ -33,14 +33,11 @@ stored_more b xs k l x h same here =
     (λ q other. below-same q k other))
 
 pub loop-k-init : goal.loop-k-init
-loop-k-init c = (omega arith, refl, rewritten-none _ _ _ (λ q. le-ltb q 0 (omega arith)))
+loop-k-init c = rewritten-none _ _ _ (λ q. le-ltb q 0 (omega arith))
 
 pub loop-k-preserved : goal.loop-k-preserved
-loop-k-preserved c = (omega arith, simp length-set (omega arith), stored_more c.args.bench c.args.numbers.now c.loop-k.k c.loop-k.numbers c.number_at.result (omega arith) c.loop-k.invariant.2 c.number_at.ensures)
-
-pub shape_of-numbers : goal.shape_of-numbers
-shape_of-numbers c = c.loop-k.invariant.1
+loop-k-preserved c = stored_more c.args.bench.now c.args.numbers.now c.loop-k.k c.loop-k.numbers c.number_at.result (omega arith) c.loop-k.invariant c.number_at.ensures
 
 pub returns : goal.returns
 unfolding stored
-returns c = let e : c.loop-k.k ≡ 420 = omega arith in rw e at c.loop-k.invariant.2
+returns c = let e : c.loop-k.k ≡ 420 = omega arith in rw e at c.loop-k.invariant

@@ -1,21 +1,8 @@
--- `network::bench_net_fresh` meets its contract. A list that holds no bench or is too short is refused first; else the call's own
--- contract, over the bench that was read, gives the outcome. Assumes nothing.
-use mathlib.Core.List.{[]}
-use Rattle.exports_network.specs.Network.{net_fresh_reply}
-use Rattle.encoding.proofs.Entry.{passed, failed}
-use Rattle.exports_network.proofs.Room.{room}
+-- `network::bench_net_fresh` meets its contract, where the numbers hold a bench and where they do not.
+use Rattle.std.proofs.Common.{rules}
+use Rattle.exports_network.specs.Network.{holds_bench}
+use Rattle.exports_network.proofs.Frame.{either_way}
 use Rattle.exports_network.proofs.network.bench_net_fresh.Goals as goal
 
-pub returns-then-not-holds : goal.returns-then-not-holds
-unfolding net_fresh_reply
-returns-then-not-holds c = rw (failed c.holds.ensures c.if-not-holds.true)
-
-pub load-old-requires : goal.load-old-requires
-load-old-requires c = room 420 _ _ c.holds.ensures c.if-not-holds.false
-
-pub store_change-requires : goal.store_change-requires
-store_change-requires c = room 420 _ _ c.holds.ensures c.if-not-holds.false
-
 pub returns : goal.returns
-unfolding net_fresh_reply
-returns c = rw (passed c.holds.ensures c.if-not-holds.false, ← c.load-old.ensures, ← c.fresh-changed.ensures [], c.store_change.ensures.0, c.store_change.ensures.1)
+returns c = either_way (holds_bench c.args.bench.now) c.changed.ensures (λ t p. search rules) (λ f q. search rules)

@@ -1,28 +1,14 @@
--- `network::bench_net_port` meets its contract. A list that holds no bench or is too short is refused first; else the call's own
--- contract, over the bench that was read, gives the outcome. Assumes nothing.
-use mathlib.Core.List.{[]}
-use Rattle.exports_network.specs.Network.{net_port_reply}
+-- `network::bench_net_port` meets its contract. What is refused is so by the call, or since the numbers hold no bench.
+use Rattle.std.proofs.Common.{rules}
+use borrow.Author.Tests.{le-leb}
 use Rattle.encoding.specs.Replies.{with_value}
-use borrow.Author.Tests.{lt-leb, le-leb}
-use Rattle.encoding.proofs.Entry.{passed, failed}
-use Rattle.exports_network.proofs.Room.{room}
+use Rattle.exports_network.specs.Network.{holds_bench}
+use Rattle.exports_network.proofs.Frame.{either_way}
 use Rattle.exports_network.proofs.network.bench_net_port.Goals as goal
 
-pub returns-then-not-holds : goal.returns-then-not-holds
-unfolding net_port_reply
-returns-then-not-holds c = rw (failed c.holds.ensures c.if-not-holds.true)
-
-pub returns-then-out-lt1 : goal.returns-then-out-lt1
-unfolding net_port_reply
-returns-then-out-lt1 c = rw (passed c.holds.ensures c.if-not-holds.false, lt-leb _ _ c.if-out-lt1.true)
-
-pub load-old-requires : goal.load-old-requires
-load-old-requires c = room 420 _ _ c.holds.ensures c.if-not-holds.false
-
-pub returns-in-Refused : goal.returns-in-Refused
-unfolding net_port_reply with_value
-returns-in-Refused c = rw (passed c.holds.ensures c.if-not-holds.false, le-leb _ _ c.if-out-lt1.false, ← c.load-old.ensures, ← c.port-found.ensures [], c.in-Refused.is)
-
-pub returns-in-Found : goal.returns-in-Found
-unfolding net_port_reply with_value
-returns-in-Found c = rw (passed c.holds.ensures c.if-not-holds.false, le-leb _ _ c.if-out-lt1.false, ← c.load-old.ensures, ← c.port-found.ensures [], c.in-Found.is, ← c.link_number.ensures)
+pub returns-in-Err : goal.returns-in-Err
+unfolding with_value
+returns-in-Err c =
+    either_way (holds_bench c.args.bench.now) c.in-Err.ensures
+    (λ t p. rw (t, le-leb _ _ c.if-out-lt1.false, ← p.2) (search rules))
+    (λ f q. search rules)

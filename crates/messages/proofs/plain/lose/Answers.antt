@@ -1,21 +1,5 @@
--- `plain::lose` meets its contract: 64 messages and 320 numbers are the same thing. Assumes nothing.
-use Prim.Native.Nat.{ℕ}
-use mathlib.Core.Path.{◌≡◌, ◌∙◌, subst}
-use mathlib.Core.List.{List}
-use borrow.Author.Rules.{rules}
-use lib.ListN.{length}
-use Rattle.protocol.specs.Calls.{lose}
-use Rattle.bench.specs.Outcomes.{done_response}
-use Rattle.messages.specs.Slices.{flight}
-use Rattle.messages.proofs.PlainLaws.{flight-in, flight-out}
-use Rattle.messages.proofs.Told.{Queued}
+-- `plain::lose` meets its contract: the numbers are the messages' before and after. Assumes nothing.
 use Rattle.messages.proofs.plain.lose.Goals as goal
 
 pub returns : goal.returns
-returns c =
-    let ms = c.messages_in-ms.result in
-    let d = c.lose-changed in
-    let reply = done_response d.result.reply in
-    let listed : length ms ≡ 64 = search rules in
-    subst (λ (l : List ℕ). Queued (lose c.args.place) c.args.bench c.args.numbers reply d.result.bench l) (flight-out d.new.ms c.numbers_from.result (d.auto.ms ∙ listed) c.numbers_from.ensures)
-    (subst (λ (l : List ℕ). Queued (lose c.args.place) c.args.bench l reply d.result.bench (flight d.new.ms)) (flight-in c.args.numbers ms listed c.messages_in-ms.ensures) d.ensures.by_index)
+returns c = rw (c.read.ensures, c.write.ensures.in_flight) c.lose-done.ensures.by_index

@@ -1,15 +1,11 @@
--- `lines::refused` meets its contract. Assumes nothing.
+-- `lines::refused` meets its contract: piece by piece.
 use mathlib.Core.Bool.{true}
 use mathlib.Core.Path.{refl}
-use lib.ListN.{length}
-use borrow.Author.Tests.{lt-leb}
+use Rattle.std.proofs.Common.{rules}
 use Rattle.text.specs.Lines.{refused_text}
-use Rattle.text.proofs.Puts.{joined, written, turned_down}
+use Rattle.text.proofs.Puts.{then, answered}
 use Rattle.text.proofs.lines.refused.Goals as goal
-
-pub returns-then-out-lt-LONGEST : goal.returns-then-out-lt-LONGEST
-returns-then-out-lt-LONGEST c = turned_down true _ _ (lt-leb 544 (length c.args.out.now) c.if-out-lt-LONGEST.true)
 
 pub returns : goal.returns
 unfolding refused_text
-returns c = written true refl c.if-out-lt-LONGEST.false (joined c.put_word-a.ensures (joined c.put_number-b.ensures.put (joined c.put_word-c.ensures (joined c.put_number-d.ensures.put c.put_byte.ensures))))
+returns c = answered true refl c.if-out-lt-LONGEST.false refl (then c.word.ensures (then c.number.ensures (then c.word-2.ensures (then c.number-2.ensures c.word-3.ensures)))) (search rules)

@@ -1,19 +1,29 @@
--- `lines::report` meets its contract. Each refusal cites its own test. Assumes nothing.
+-- `lines::report` meets its contract: the first line, then row after row.
+use native.Mathlib.Numerals.{add-one}
+use native.Mathlib.Omega.{arith}
+use mathlib.Core.Path.{◌≡◌, refl}
 use lib.ListN.{length}
-use borrow.Author.Tests.{le-leb, lt-leb}
-use Rattle.text.specs.Lines.{report_lines, report_text}
-use Rattle.text.proofs.Puts.{joined, written, turned_down}
+use borrow.Author.Tests.{le-leb}
+use Rattle.std.proofs.Common.{rules}
+use Rattle.text.specs.Lines.{row_lines, report_lines, report_text, distance_at, link_at}
+use Rattle.text.proofs.Laws.{length_decimal, length_row_lines}
+use Rattle.text.proofs.Puts.{then, no_piece, answered}
 use Rattle.text.proofs.lines.report.Goals as goal
 
-pub returns-then-bridges-gt16 : goal.returns-then-bridges-gt16
-returns-then-bridges-gt16 c = turned_down _ _ _ (rw (lt-leb c.args.bridges 16 c.if-bridges-gt16.true))
+pub loop-y-init : goal.loop-y-init
+unfolding row_lines
+loop-y-init c = no_piece _
 
-pub returns-then-rows-bridges : goal.returns-then-rows-bridges
-returns-then-rows-bridges c = turned_down _ _ _ (rw (le-leb c.args.bridges 16 c.if-bridges-gt16.false, lt-leb _ (length c.args.rows.now) c.if-rows-bridges.true))
+pub row-requires : goal.row-requires
+row-requires c = (omega arith, omega (arith, length_decimal, length_row_lines (distance_at c.args.rows.now) (link_at c.args.rows.now) c.loop-y.y (omega arith)))
 
-pub returns-then-out-lt-LONGEST : goal.returns-then-out-lt-LONGEST
-returns-then-out-lt-LONGEST c = turned_down _ _ _ (rw (le-leb c.args.bridges 16 c.if-bridges-gt16.false, le-leb _ (length c.args.rows.now) c.if-rows-bridges.false, lt-leb 544 (length c.args.out.now) c.if-out-lt-LONGEST.true))
+pub loop-y-preserved : goal.loop-y-preserved
+unfolding row_lines
+loop-y-preserved c = rw (add-one c.loop-y.y) (then c.loop-y.invariant c.row.ensures)
 
 pub returns : goal.returns
 unfolding report_lines report_text
-returns c = written _ (rw (le-leb c.args.bridges 16 c.if-bridges-gt16.false, le-leb _ (length c.args.rows.now) c.if-rows-bridges.false)) c.if-out-lt-LONGEST.false (joined (joined c.put_word-a.ensures (joined c.put_number-b.ensures.put c.put_byte-c.ensures)) c.put_rows.ensures)
+returns c =
+    let all : c.loop-y.y ≡ c.args.bridges = omega arith in
+    answered _ (rw (le-leb c.args.bridges 16 c.if-bridges-gt16.false, le-leb _ (length c.args.rows.now) c.if-rows-bridges.false)) c.if-out-lt-LONGEST.false refl
+    (then (then c.word.ensures (then c.number.ensures c.word-2.ensures)) (rw all at c.loop-y.invariant)) (search rules)

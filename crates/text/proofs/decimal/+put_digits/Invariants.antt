@@ -1,5 +1,0 @@
--- The measure of `decimal::put_digits` is `more`. Assumes nothing.
-use Rattle.text.proofs.decimal.+put_digits.Given as goal
-
-abbrev pub decreases-put_digits : goal.decreases-put_digits
-decreases-put_digits l = l.more

@@ -148,7 +148,7 @@ pub struct Choice {
 // What becomes of a row of limits: it stays, each limit is lowered to the offer, becomes the offer, or becomes NONE.
 // Four kinds and no closure: `limit_after`, by which every contract of a row goes, has a case for each.
 #[derive(Clone, Copy)]
-enum Rewrite {
+pub enum Rewrite {
     Keep,
     Lower,
     Renew,

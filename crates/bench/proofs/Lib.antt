@@ -34,6 +34,7 @@ pub mod ChoiceSteps
 pub mod ChainLaws
 pub mod ChainSteps
 pub mod ChangeEntry
+pub mod QueueAnswers
 pub mod QueueCalls
 pub mod RunSteps
 pub mod DeliverySteps

@@ -45,6 +45,8 @@ pub fn report(net: &Lent, dest: usize, rows: &mut [u32]) -> Result<(), Refusal>
     if !ready::network_in_range(net) || rows.len() < REPORT {
         return Err(Refusal::OutOfRange);
     }
+    // ahead of the distances: it takes longer to lay them out than to refuse
+    refusals::report(net.bench, dest)?;
     let mut distances = Distances::none();
     report_ready(net, &mut distances, dest, rows)
 }

@@ -26,12 +26,3 @@ module _ {B : Type 0} (f : ℕ → B) (d : B) (xs ps : List ℕ) (ys : List B) w
   each_is n k part long here =
       sym (take_all n ys (omega arith))
       ∙ fronts (λ i. f (get_or xs (k + i) 0)) n (omega arith) (λ i h. here i h ∙ rw (part, get_or-take n (drop k xs) i 0 h, get_or-drop k xs i 0))
-
--- a test of each number of a part
-fronts_pass : (p : ℕ → Bool) (ys : List ℕ) (n : ℕ) → n ≤ length ys → list_all p (take n ys) ≡ all_below n (λ i. p (get_or ys i 0))
-unfolding all_below
-fronts_pass p ys zero few = refl
-fronts_pass p ys (suc n) few = rw (← add-one n, list_all_more p ys n 0 (omega arith), fronts_pass p ys n (omega arith))
-
-pub part_passes : (limit : ℕ) (xs : List ℕ) (n k : ℕ) → k + n ≤ length xs → list_all (λ x. ltb x limit) (take n (drop k xs)) ≡ each_below n k limit xs
-part_passes limit xs n k room = fronts_pass (λ x. ltb x limit) (drop k xs) n (omega (arith, length-drop k xs)) ∙ simp get_or-drop

@@ -1,13 +1,12 @@
 // A bench as 420 numbers: the counts of bridges, links, views and messages in flight, then ends (64), view (16), number (16), four
 // numbers for each of 64 records, and down (64). Any number but 0 stands for true. A list holds a bench where each number fits its
 // field, and there the remainders change nothing. Functions and no `From`: the C interface lends slices of any length.
-ghost use Rattle.std.specs.Prelude.{◌≡◌, false, MatchOption, ◌+◌, ◌≤◌, ◌<◌, length, get_or, take, drop, ltb};
-ghost use Rattle.std.specs.List.{list_all};
-ghost use Rattle.encoding.specs.Numbers.{record_numbers};
-ghost use Rattle.exports_network.specs.Network.{Holds, each_below, holds_bench, low, bench_in, count_at, number_at, stored};
+ghost use Rattle.std.specs.Prelude.{◌≡◌, false, MatchOption, ◌+◌, ◌%◌, ◌≤◌, ◌<◌, length, get_or, take, drop};
+ghost use Rattle.encoding.specs.Numbers.{is_set, record_numbers};
+ghost use Rattle.exports_network.specs.Network.{Holds, each, each_below, holds_bench, low, bench_in, count_at, number_at, stored};
 
 use agreement::EndRecord;
-use agreement::sizes::NUMBERS;
+use agreement::sizes::{ENDS, NUMBERS};
 use bench::Bench;
 use distances::sizes::MOST_BRIDGES;
 
@@ -34,6 +33,30 @@ pub(crate) fn part<const N: usize>(numbers: &[u32], first: usize) -> [u32; N]
     part
 }
 
+// The N numbers of 8 bits from place `first` on. A loop, as for the flags: the library's `map` of an array takes several times as long.
+fn bytes_in<const N: usize>(numbers: &[u32], first: usize) -> [u8; N]
+    requires { first + N ≤ length numbers.now }
+    ensures { result ≡ each N first (λ x. x % 256) numbers.now }
+{
+    let mut bytes = [0u8; N];
+    for k in 0..N {
+        bytes[k] = (numbers[first + k] % 256) as u8;
+    }
+    bytes
+}
+
+// The flags of the ends.
+fn flags_in(numbers: &[u32]) -> [bool; 64]
+    requires { 420 ≤ length numbers.now }
+    ensures { result ≡ each 64 356 is_set numbers.now }
+{
+    let mut flags = [false; ENDS];
+    for e in 0..ENDS {
+        flags[e] = numbers[DOWN_AT + e] != 0;
+    }
+    flags
+}
+
 fn bench_in(numbers: &[u32]) -> Bench
     requires { 420 ≤ length numbers.now }
     ensures { result ≡ bench_in numbers.now }
@@ -43,25 +66,24 @@ fn bench_in(numbers: &[u32]) -> Bench
         links: numbers[1] as usize,
         views: numbers[2] as usize,
         messages: numbers[3] as usize,
-        ends: part(numbers, ENDS_AT).map(|x| (x % 256) as u8),
-        view: part(numbers, VIEW_AT).map(|x| (x % 256) as u8),
+        ends: bytes_in(numbers, ENDS_AT),
+        view: bytes_in(numbers, VIEW_AT),
         number: part(numbers, NUMBER_AT).map(|x| (x % NUMBERS) as u16),
         records: encoding::records_in(&numbers[RECORDS_AT..DOWN_AT]),
-        down: part(numbers, DOWN_AT).map(|x| x != 0),
+        down: flags_in(numbers),
     }
-}
-
-fn all_below(numbers: &[u32], limit: u32) -> bool
-    ensures { result ≡ list_all (λ x. ltb x limit) numbers.now }
-{
-    numbers.iter().all(|x| *x < limit)
 }
 
 fn each_below(numbers: &[u32], first: usize, count: usize, limit: u32) -> bool
     requires { first + count ≤ length numbers.now }
     ensures { result ≡ each_below count first limit numbers.now }
 {
-    all_below(&numbers[first..first + count], limit)
+    // no way out before the end: the compiler makes vector code of it
+    let mut ok = true;
+    for k in 0..count {
+        ok &= numbers[first + k] < limit;
+    }
+    ok
 }
 
 // Are there the numbers of a bench, and does each fit its field? Ends and views have 8 bits.

@@ -216,6 +216,13 @@ unfolding ends_of
 length-ends [] = refl
 length-ends (x ∷ xs) = ap suc (length-ends xs)
 
+-- the events of the first k are the first k events
+pub take-events : (k : ℕ) (xs : List Placed) → events_of (take k xs) ≡ take k (events_of xs)
+unfolding events_of
+take-events zero xs = refl
+take-events (suc k) [] = refl
+take-events (suc k) (x ∷ xs) = ap (λ (l : List Event). x.event ∷ l) (take-events k xs)
+
 -- ---- the reply's parts
 
 pub record InBuffers (xs : List Placed) (read : Events) : Type 0 where

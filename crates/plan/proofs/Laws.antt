@@ -5,7 +5,7 @@ use mathlib.Core.Path.{◌≡◌, refl, sym, ap, subst, ◌∙◌}
 use mathlib.Core.Logic.{⊎_elim}
 use mathlib.Core.Bool.{Bool, true, false, cond, ◌&&◌, ◌||◌, not}
 use mathlib.Core.List.{List, []}
-use borrow.Author.Tests.{ltb-true, ltb-false, leb-true, leb-false, ne_eqb, eqb-true, eqb-false, not-true, not-false}
+use borrow.Author.Tests.{ltb-true, ltb-false, lt-leb, leb-true, leb-false, ne_eqb, eqb-true, eqb-false, not-true, not-false}
 use lib.ListN.{length}
 use lib.Dec.{eqb, leb, ltb}
 use Rattle.bench.specs.declared.Event.{Event}
@@ -15,13 +15,13 @@ use Rattle.distances.specs.Refusal.{check, refusal}
 use Rattle.distances.proofs.Booleans.{both_true, one-true}
 use Rattle.distances.proofs.Ranges.{all_below-true, all_below-none, all_below-more}
 use Rattle.plan.specs.Sizes.{least_bridges, most_bridges, most_links, most_views, header_bytes, cost_bytes}
-use Rattle.plan.specs.Tags.{tags, may_come, length_fits, passes, known, in_order, right_length}
+use Rattle.plan.specs.Tags.{tags, may_come, length_fits, passes, known, is_setup, in_order, right_length}
 use Rattle.plan.specs.Fields.{value, tag, value_length, size, cost_in, event_by, field_of}
 use Rattle.plan.specs.Reading.{Read, header_checks, costs_fit, bridge_checks, link_checks, view_checks, value_checks, field_refusal, read_of, graph_counted, progress_in_range, read_reply}
 use Rattle.plan.specs.declared.Progress.{Progress}
 use Rattle.plan.specs.declared.Field.{Field}
 use Rattle.distances.proofs.Checks.{passed}
-use Rattle.plan.proofs.TagTable.{event-late, event-short}
+use Rattle.plan.proofs.TagTable.{in-range, event-late, event-short}
 
 -- what the checks of each field tell
 pub record BridgesRead (p : Progress) (n : ℕ) : Type 0 where
@@ -261,6 +261,21 @@ event-size rest p read =
 -- no field is read whose header is refused
 pub header-passed : (rest : List ℕ) (p : Progress) {f : Field} {k : ℕ} → read_reply rest p ≡ Read.Field f k → refusal (header_checks rest p) ≡ 0
 header-passed rest p read = (none-applies rest p read).header
+
+-- no event by a tag that sets the network up
+pub event-no-setup : (rest : List ℕ) (p : Progress) {e : Event} {k : ℕ} → read_reply rest p ≡ Read.Field (Field.Event e) k → is_setup (tag rest) ≡ false
+event-no-setup rest p read =
+    let t = none-applies rest p read in
+    let h = header-told rest p t.header in
+    let other = event-tag rest t.field in
+    lt-leb (tag rest) 3
+    (omega (
+      arith,
+      (in-range (tag rest) h.named).0,
+      eqb-false (tag rest) 1 other.0,
+      eqb-false (tag rest) 2 other.1,
+      eqb-false (tag rest) 3 other.2,
+    ))
 
 -- an event's value has no check, so it is read where the header's checks let it pass
 pub event-read :

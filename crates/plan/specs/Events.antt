@@ -1,5 +1,5 @@
 -- The events at the head of the bytes that are left, as a list of calls takes them. Assumes nothing.
-use Rattle.std.specs.Prelude.{ℕ, zero, suc, ◌+◌, ◌-◌, cond, List, [], ◌∷◌, ◌++◌, length, get_or, drop, replicate, ltb}
+use Rattle.std.specs.Prelude.{ℕ, zero, suc, ◌+◌, ◌-◌, cond, List, [], ◌∷◌, ◌++◌, length, get_or, drop, replicate, eqb, ltb}
 use Rattle.bench.specs.Batches.{answer_size}
 use Rattle.bench.specs.declared.Bench.{Bench}
 use Rattle.bench.specs.declared.Event.{Event}
@@ -61,4 +61,4 @@ list_progress b = record { stage = 3; bridges = b.bridges; links = b.links; view
 
 -- the bytes of so many events, by where each ends
 abbrev pub bytes_by : List ℕ → ℕ → ℕ
-bytes_by ends made = get_or ends made 0
+bytes_by ends made = cond (eqb made 0) 0 (get_or ends made 0)

@@ -50,6 +50,10 @@ passes test t (r ∷ rs) = cond (eqb t r.tag) (test r) (passes test t rs)
 unfoldable pub known : ℕ → Bool
 known t = passes (λ r. true) t tags
 
+-- of the known tags, 1 to 3 set the network up and the others are events
+abbrev pub is_setup : ℕ → Bool
+is_setup t = leb t 3
+
 unfoldable pub in_order : ℕ → ℕ → Bool
 in_order t stage = passes (λ r. may_come r.place stage) t tags
 

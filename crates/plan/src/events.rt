@@ -43,10 +43,13 @@ impl Events {
         &self.events[..self.count.min(MOST_EVENTS)]
     }
 
-    // The bytes of the first `made` events; 0 where there is no room for so many.
+    // The bytes of the first `made` events; 0 of none, and where there is no room for so many.
     pub fn bytes_of(&self, made: usize) -> usize
         ensures { result ≡ bytes_by self.now.ends made }
     {
+        if made == 0 {
+            return 0;
+        }
         self.ends.get(made).copied().unwrap_or(0) as usize
     }
 

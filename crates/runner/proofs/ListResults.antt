@@ -1,11 +1,11 @@
 -- What a list of events left is as many steps as it has events, by what its calls ensure. Assumes nothing.
-use Prim.Native.Nat.{ℕ, suc, ◌+◌, ◌-◌, ◌*◌, ◌≤◌}
+use Prim.Native.Nat.{ℕ, zero, suc, ◌+◌, ◌-◌, ◌*◌, ◌≤◌}
 use native.Mathlib.Nat.{add-zero, zero-add}
 use native.Mathlib.Omega.{arith}
 use mathlib.Core.Path.{◌≡◌, refl, sym, ap, ◌∙◌}
 use mathlib.Core.Bool.{true, false, ◌&&◌}
 use mathlib.Core.List.{List, [], ◌∷◌, ◌++◌, append_assoc}
-use borrow.Author.Tests.{leb-true, eqb-true}
+use borrow.Author.Tests.{leb-true, eqb-true, ne_eqb}
 use lib.ListN.{length, take, drop, length-append}
 use lib.Seq.{sets}
 use lib.Dec.{eqb, leb}
@@ -179,7 +179,11 @@ module _
 
     -- the bytes of what was made
     bytes-are : bytes_by read.ends b.made ≡ last_end 0 (take b.made xs)
-    bytes-are = is-listed.end b.made few
+    bytes-are = go b.made refl
+      where
+        go : (n : ℕ) → b.made ≡ n → bytes_by read.ends n ≡ last_end 0 (take n xs)
+        go zero e = refl
+        go (suc n) e = rw (ne_eqb (suc n) 0 (λ z. absurd (omega arith))) (is-listed.end (suc n) (omega (arith, few, e)))
 
     events-made : take b.made (events_in read) ≡ made-events
     events-made = ap (λ (l : List Event). take b.made l) head

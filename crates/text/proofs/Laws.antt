@@ -36,6 +36,20 @@ digits_enough (suc k) n h = rw (digits_enough k (n / 10) (omega (arith, pow-suc 
 pub decimal_one : (n : ℕ) → n < 10 → decimal n ≡ digit n ∷ []
 decimal_one n h = digits-one 9 n h
 
+-- of one, two and three digits, which the code writes without the recursion
+pub decimal_last : (n : ℕ) → n < 10 → decimal n ≡ digit (n % 10) ∷ []
+decimal_last n h = let e : n % 10 ≡ n = omega arith in rw e (decimal_one n h)
+
+pub decimal_two : (n : ℕ) → 10 ≤ n → n < 100 → decimal n ≡ digit (n / 10 % 10) ∷ digit (n % 10) ∷ []
+decimal_two n h l =
+    let tens : n / 10 % 10 ≡ n / 10 = omega arith in
+    rw (digits_more 8 n h, digits-one 8 (n / 10) (omega arith), tens)
+
+pub decimal_three : (n : ℕ) → 100 ≤ n → n < 1000 → decimal n ≡ digit (n / 10 / 10 % 10) ∷ digit (n / 10 % 10) ∷ digit (n % 10) ∷ []
+decimal_three n h l =
+    let hundreds : n / 10 / 10 % 10 ≡ n / 10 / 10 = omega arith in
+    rw (digits_more 8 n (omega arith), digits_more 7 (n / 10) (omega arith), digits-one 7 (n / 10 / 10) (omega arith), hundreds)
+
 pub decimal_more : (n : ℕ) → 10 ≤ n → n < 2 ^ 32 → decimal n ≡ decimal (n / 10) ++ (digit (n % 10) ∷ [])
 decimal_more n h l = rw (digits_more 8 n h, digits_enough 8 (n / 10) (omega arith))
 

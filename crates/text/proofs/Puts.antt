@@ -32,6 +32,10 @@ module _ {l m : List ℕ} {a r : ℕ} {s : List ℕ} (p : Put l a s m r) where
   pub same_length : length m ≡ length l
   same_length = ap length p.bytes ∙ length-sets l a s
 
+-- one store
+pub stored : (l : List ℕ) (a b : ℕ) → Put l a (b ∷ []) (set l a b) (a + 1)
+stored l a b = record { bytes = refl; next = refl }
+
 -- nothing yet
 pub nothing : (l : List ℕ) (a : ℕ) → Put l a [] l a
 nothing l a = record { bytes = refl; next = omega arith }

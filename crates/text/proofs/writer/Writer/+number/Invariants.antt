@@ -1,5 +1,0 @@
--- The measure of `Writer::number` is the number. Assumes nothing.
-use Rattle.text.proofs.writer.Writer.+number.Given as goal
-
-abbrev pub decreases-number : goal.decreases-number
-decreases-number l = l.n
